@@ -1,0 +1,1 @@
+// Laws on lists that the proofs of several crates share: they stand in specs/.
