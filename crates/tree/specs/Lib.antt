@@ -1,3 +1,4 @@
 pub mod Tree
+pub mod Place
 pub mod Hash
 pub mod Examples
