@@ -1,0 +1,70 @@
+/* Prints the MD6 digest of a file: 256 bits, no key, height limit 64, default rounds.
+ *
+ *   seal FILE
+ */
+#include <inttypes.h>
+#include <stdio.h>
+#include <stdlib.h>
+
+#include "../include/md6.h"
+
+enum { D = 256, LIMIT = 64 };
+
+/* the file's bytes, or NULL with a message */
+static uint8_t *read_file(const char *name, size_t *length)
+{
+    FILE *f = fopen(name, "rb");
+    size_t room = 1 << 16, n = 0, got;
+    uint8_t *bytes = malloc(room);
+
+    if (f == NULL || bytes == NULL) {
+        perror(name);
+        free(bytes);
+        if (f != NULL)
+            fclose(f);
+        return NULL;
+    }
+    while ((got = fread(bytes + n, 1, room - n, f)) > 0) {
+        n += got;
+        if (n == room) {
+            uint8_t *more = realloc(bytes, room * 2);
+            if (more == NULL)
+                break;
+            bytes = more;
+            room *= 2;
+        }
+    }
+    if (ferror(f) || !feof(f)) {
+        fprintf(stderr, "%s: could not be read whole\n", name);
+        free(bytes);
+        bytes = NULL;
+    }
+    fclose(f);
+    *length = n;
+    return bytes;
+}
+
+int main(int argc, char **argv)
+{
+    uint8_t digest[D / 8], *bytes;
+    size_t length = 0, i;
+    uint64_t number;
+
+    if (argc != 2) {
+        fprintf(stderr, "usage: seal FILE\n");
+        return 2;
+    }
+    bytes = read_file(argv[1], &length);
+    if (bytes == NULL)
+        return 1;
+    number = md6_hash(bytes, length, 8 * (uint64_t)length, NULL, 0, D, LIMIT, md6_default_rounds(D).count, digest, sizeof digest);
+    free(bytes);
+    if (number != 0) {
+        fprintf(stderr, "refused %" PRIu64 "\n", number);
+        return 1;
+    }
+    for (i = 0; i < sizeof digest; i++)
+        printf("%02x", (unsigned)digest[i]);
+    printf("  %s\n", argv[1]);
+    return 0;
+}

@@ -1,0 +1,210 @@
+/* A host in C: md6_hash of the archive against the second program's code, on random inputs.
+ *
+ *   hash [SEED [INPUTS]]
+ *
+ * Every buffer stands between guard bytes or ends at a page that may not be touched. Refused calls are compared with a plain
+ * table of the refusals, and must change nothing.
+ */
+#define main second_main
+#include "../second/md6ref.c"
+#undef main
+
+#include "../../include/md6.h"
+#include "guard.h"
+
+static uint64_t state;
+
+static uint64_t next(void)
+{
+    state ^= state << 13;
+    state ^= state >> 7;
+    state ^= state << 17;
+    return state * UINT64_C(0x2545f4914f6cdd1d);
+}
+
+static uint64_t below(uint64_t n)
+{
+    return next() % n;
+}
+
+/* a length in bits at or beside an edge of the tree, or anywhere */
+static uint64_t pick_bits(void)
+{
+    static const uint64_t edges[] = { 0, 1, 3072, 4096, 6144, 8192, 9216, 12288, 16384, 49152, 65536, 3072 * 4, 4096 * 3, 4096 * 12 };
+    uint64_t edge = edges[below(sizeof edges / sizeof *edges)];
+
+    switch (below(4)) {
+    case 0: return edge;
+    case 1: return edge + below(9);
+    case 2: return edge - (edge < 9 ? below(edge + 1) : below(9));
+    default: return below(70000);
+    }
+}
+
+static uint64_t pick_limit(void)
+{
+    return below(2) == 0 ? below(6) : 26 + below(39);
+}
+
+static uint64_t pick_rounds(void)
+{
+    switch (below(4)) {
+    case 0: return below(6);
+    case 1: return 255 - below(3);
+    default: return below(256);
+    }
+}
+
+/* the number that document 01 gives, by its order */
+static uint64_t expected_number(uint64_t message_bytes, uint64_t bits, uint64_t key_bytes, uint64_t d, uint64_t limit, uint64_t rounds, uint64_t digest_bytes)
+{
+    if (bits / 8 > message_bytes || (bits / 8 == message_bytes && bits % 8 != 0))
+        return 5;
+    if (d < 1 || d > 512)
+        return 1;
+    if (key_bytes > 64)
+        return 2;
+    if (limit > 64)
+        return 3;
+    if (rounds > 255)
+        return 4;
+    if (digest_bytes < (d + 7) / 8)
+        return 9;
+    return 0;
+}
+
+static void random_bytes(uint8_t *to, size_t n)
+{
+    size_t i;
+    int ones = below(8) == 0;
+
+    for (i = 0; i < n; i++)
+        to[i] = ones ? 0xff : (uint8_t)next();
+}
+
+static void second_digest(const uint8_t *message, uint64_t bits, const uint8_t *key, size_t key_bytes, uint64_t d, uint64_t limit, uint64_t rounds, uint8_t out[64])
+{
+    struct param P;
+    struct tree T;
+    size_t i;
+
+    memset(&P, 0, sizeof P);
+    P.keylen = (unsigned)key_bytes;
+    P.d = (unsigned)d;
+    P.L = (unsigned)limit;
+    P.r = (unsigned)rounds;
+    for (i = 0; i < key_bytes; i++)
+        P.key[i / 8] |= (uint64_t)key[i] << (56 - 8 * (i % 8));
+    hash(&P, message, bits, &T, out);
+    drop(&T);
+}
+
+struct input {
+    uint64_t bits, d, limit, rounds;
+    size_t message_bytes, key_bytes, digest_bytes;
+};
+
+static struct input pick_input(int spoil)
+{
+    static const uint64_t far[] = { 65, 256, 513, UINT64_C(1) << 32, (UINT64_C(1) << 32) + 8, UINT64_MAX, UINT64_C(1) << 63 };
+    struct input in;
+
+    in.bits = pick_bits();
+    in.d = below(4) == 0 ? 8 * (1 + below(64)) : 1 + below(512);
+    in.limit = pick_limit();
+    in.rounds = pick_rounds();
+    in.message_bytes = (size_t)((in.bits + 7) / 8 + (below(2) == 0 ? below(3) : 0));
+    in.key_bytes = (size_t)(below(3) == 0 ? 0 : below(65));
+    in.digest_bytes = (size_t)((in.d + 7) / 8 + (below(2) == 0 ? below(20) : 0));
+    if (spoil) {
+        if (below(3) == 0)
+            in.bits = below(2) == 0 ? 8 * in.message_bytes + 1 + below(9) : far[below(7)];
+        if (below(3) == 0)
+            in.d = below(2) == 0 ? 0 : 513 + below(2) * far[below(7)];
+        if (below(3) == 0)
+            in.key_bytes = (size_t)(65 + below(3));
+        if (below(3) == 0)
+            in.limit = far[below(7)];
+        if (below(3) == 0)
+            in.rounds = 256 + below(2) * far[below(5)];
+        if (below(3) == 0 && in.digest_bytes > 0)
+            in.digest_bytes -= 1 + (size_t)below(in.digest_bytes);
+    }
+    return in;
+}
+
+/* one input through both; whether all is as it should be */
+static int try_input(const struct input *in)
+{
+    struct guarded message = guarded_new(in->message_bytes, (int)below(2));
+    struct guarded key = guarded_new(in->key_bytes, (int)below(2));
+    struct guarded digest = guarded_new(in->digest_bytes, (int)below(2));
+    uint8_t *kept = malloc(in->digest_bytes + 1), out[64];
+    uint64_t number, expected;
+    int good;
+
+    if (kept == NULL)
+        exit(2);
+    random_bytes(message.bytes, message.length);
+    random_bytes(key.bytes, key.length);
+    random_bytes(digest.bytes, digest.length);
+    memcpy(kept, digest.bytes, digest.length);
+    number = md6_hash(message.bytes, message.length, in->bits, key.bytes, key.length, in->d, in->limit, in->rounds, digest.bytes, digest.length);
+    expected = expected_number(message.length, in->bits, key.length, in->d, in->limit, in->rounds, digest.length);
+    if (expected == 0) {
+        second_digest(message.bytes, in->bits, key.bytes, key.length, in->d, in->limit, in->rounds, out);
+        memcpy(kept, out, (size_t)(in->d + 7) / 8);
+    }
+    good = number == expected && memcmp(kept, digest.bytes, digest.length) == 0
+        && guarded_intact(&message) && guarded_intact(&key) && guarded_intact(&digest);
+    if (!good)
+        printf("differs: bits %" PRIu64 " of %zu bytes, key %zu, d %" PRIu64 ", L %" PRIu64 ", r %" PRIu64 ", out %zu: number %" PRIu64 ", expected %" PRIu64 "\n",
+               in->bits, message.length, key.length, in->d, in->limit, in->rounds, digest.length, number, expected);
+    free(kept);
+    guarded_free(&message);
+    guarded_free(&key);
+    guarded_free(&digest);
+    return good;
+}
+
+static int default_rounds_right(void)
+{
+    uint64_t d;
+
+    for (d = 0; d < 600; d++) {
+        md6_answer a = md6_default_rounds(d);
+        int in_range = d >= 1 && d <= 512;
+        if (a.number != (in_range ? 0u : 1u) || a.count != (in_range ? 40 + d / 4 : 0))
+            return 0;
+    }
+    return md6_default_rounds((UINT64_C(1) << 32) + 8).number == 1;
+}
+
+/* empty buffers may be null pointers */
+static int null_right(void)
+{
+    uint8_t digest[32], out[64];
+
+    second_digest(out, 0, out, 0, 256, 64, 104, out);
+    return md6_hash(NULL, 0, 0, NULL, 0, 256, 64, 104, digest, 32) == 0 && memcmp(digest, out, 32) == 0
+        && md6_hash(NULL, 0, 0, NULL, 0, 256, 64, 104, NULL, 0) == 9;
+}
+
+int main(int argc, char **argv)
+{
+    uint64_t seed = argc > 1 ? strtoull(argv[1], NULL, 0) : (uint64_t)time(NULL), i, bad = 0, refused = 0;
+    uint64_t inputs = argc > 2 ? strtoull(argv[2], NULL, 0) : 3000;
+
+    state = seed * 2 + 1;
+    printf("seed %" PRIu64 ": %" PRIu64 " inputs\n", seed, inputs);
+    for (i = 0; i < inputs; i++) {
+        int spoil = below(4) == 0;
+        struct input in = pick_input(spoil);
+        bad += !try_input(&in);
+        refused += expected_number(in.message_bytes, in.bits, in.key_bytes, in.d, in.limit, in.rounds, in.digest_bytes) != 0;
+    }
+    bad += !default_rounds_right();
+    bad += !null_right();
+    printf("%" PRIu64 " refused among them; %" PRIu64 " differ\n", refused, bad);
+    return bad != 0;
+}
