@@ -1,1 +1,5 @@
+pub mod Buffer
 pub mod Compress
+pub mod CompressLaws
+pub mod Example
+pub mod Facts

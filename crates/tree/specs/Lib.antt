@@ -2,3 +2,10 @@ pub mod Tree
 pub mod Place
 pub mod Hash
 pub mod Examples
+pub mod TreeLaws
+pub mod Places
+pub mod Height
+pub mod OrderLaws
+pub mod Fresh
+pub mod Shape
+pub mod Count

@@ -1,0 +1,35 @@
+/*
+ * The reference of the benchmarks: tests/second/md6ref.c as it stands, with
+ * its main under another name, and a clock. Each driver includes this file.
+ */
+#pragma GCC diagnostic push
+#pragma GCC diagnostic ignored "-Wunused-function"
+#define main md6ref_main
+#include "../tests/second/md6ref.c"
+#undef main
+#pragma GCC diagnostic pop
+
+/* seconds by a clock that is never set back */
+static double seconds(void)
+{
+    struct timespec t;
+    clock_gettime(CLOCK_MONOTONIC, &t);
+    return (double)t.tv_sec + (double)t.tv_nsec / 1e9;
+}
+
+/* the best time of several runs */
+static void keep_best(double *best, double time)
+{
+    if (*best == 0 || time < *best)
+        *best = time;
+}
+
+/* words that look random, the same in each run */
+static uint64_t random_word(void)
+{
+    static uint64_t x = UINT64_C(88172645463325252);
+    x ^= x << 13;
+    x ^= x >> 7;
+    x ^= x << 17;
+    return x;
+}

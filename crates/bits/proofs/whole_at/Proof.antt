@@ -1,0 +1,48 @@
+-- `bits::whole_at` meets its contract: eight bytes and the next give any 64 bits that begin in the first byte (Reading).
+-- Assumes nothing.
+use mathlib.Core.Path.{_∙_}
+use Prim.Native.Nat.{_*_}
+use native.Mathlib.Nat.{add-zero}
+use native.Mathlib.Omega.{arith}
+use borrow.Author.Needs.{needs}
+use denote.Ref.{now}
+use Rattle.lists.specs.Slices.{bytes-below}
+use Rattle.bits.proofs.Reading.{eight-read, word-read}
+use Rattle.bits.proofs.whole_at.Statement.{statement}
+use Rattle.bits.proofs.whole_at.Tie as tie
+
+load-requires : tie.Need-load-requires
+load-requires c κs = search needs
+
+returns : tie.Need-returns
+returns c =
+    let s = c .before .before in
+    let j = s .before .args .byte in
+    let below = bytes-below (now (s .before .args .bytes)) (s .shared-slice-known .given) in
+    rw (c .if1 .taken, add-zero (8 * j)) (c .before .load .ensures ∙ eight-read j below (omega arith))
+
+add-shifted : tie.Need-add-shifted
+add-shifted c = search needs
+
+shared-slice-read-shifted : tie.Need-shared-slice-read-shifted
+shared-slice-read-shifted c = search needs
+
+shifted-requires : tie.Need-shifted-requires
+shifted-requires c κs = search needs
+
+returns-2 : tie.Need-returns-2
+returns-2 c =
+    let s = c .before .before .before .before in
+    let below = bytes-below (now (s .before .args .bytes)) (s .shared-slice-known .given) in
+    c .shifted .ensures ∙ rw (c .before .before .before .load .ensures) (word-read (s .before .args .byte) (s .before .args .bit) below (omega arith) (omega arith))
+
+pub whole-at-spec : {M : Type 1} → statement M
+whole-at-spec =
+    tie.close
+    (tie.spec
+    load-requires
+    returns
+    add-shifted
+    shared-slice-read-shifted
+    shifted-requires
+    returns-2)

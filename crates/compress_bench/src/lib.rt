@@ -1,0 +1,30 @@
+// What the benchmark of the compression links; nothing else uses it.
+
+// Compresses a window so many times, one after the other, with the table of round constants copied once for all of
+// them. Each output changes a word of the next window, so that no compression can be left out; the last one is
+// written to out. A window of other than 89 words, an output of other than 16 or more rounds than constants change nothing.
+#[no_mangle]
+pub extern "C" fn md6_bench_compress(window: &[u64], rounds: usize, times: usize, out: &mut [u64]) {
+    if window.len() != 89 {
+        return;
+    }
+    if out.len() != 16 {
+        return;
+    }
+    let table = compress::round_constants();
+    let t: &[u64] = &table;
+    if t.len() < rounds {
+        return;
+    }
+    let mut w = [0u64; 89];
+    compress::copy(&mut w, window, 89);
+    let mut c = [0u64; 16];
+    let mut i = 0;
+    while i < times {
+        let next = compress::compress(&w, t, rounds);
+        c = next;
+        w[25] = w[25] ^ c[0];
+        i += 1;
+    }
+    compress::copy(out, &c, 16);
+}

@@ -1,0 +1,241 @@
+-- How many nodes a tree has: level by level, in its order, and by a formula on the number of bits and the height limit.
+-- Assumes nothing.
+use mathlib.Core.Path.{_≡_, refl, sym, ap, _∙_}
+use mathlib.Core.Bool.{Bool, true, false}
+use mathlib.Core.List.{List, [], _∷_, _++_, map, List·Permᴰ, List·Permᴰ·nil, List·Permᴰ·cons, List·Permᴰ·swap, List·Permᴰ·trans}
+use Prim.Native.Nat.{ℕ, zero, suc, _+_, _-_, _*_, _/_, _^_, _≤_, _<_}
+use native.Mathlib.Nat.{add-zero}
+use native.Mathlib.Omega.{arith}
+use borrow.Author.Tests.{eqb-false}
+use lib.Dec.{eqb}
+use lib.ListN.{length, getD, length-map}
+use Rattle.lists.specs.Concat.{concat}
+use Rattle.bits.specs.Bits.{digit}
+use Rattle.tree.specs.Tree.{Params, Node, Mark, blockBits, sequentialBits, outputBits, mostLevels, blocks, tree, order}
+use Rattle.tree.specs.Place.{levelAt}
+use Rattle.tree.specs.TreeLaws.{counts, countsIf, levels-counts}
+use Rattle.tree.specs.Height.{Above, no-level, sequential-level, parallel-level, Levels, sequential-tree, parallel-tree, tree-levels}
+use Rattle.tree.specs.OrderLaws.{marked, order-levels}
+
+-- ---- numbers: the nodes, and those that reach the last bit
+
+-- the sum of what f gives for the elements of a list
+abbrev pub total {ℓ} : {A : Type ℓ} → (A → ℕ) → List A → ℕ
+total f [] = 0
+total f (x ∷ xs) = f x + total f xs
+
+total-append : {A : Type 0} (f : A → ℕ) (xs ys : List A) → total f (xs ++ ys) ≡ total f xs + total f ys
+total-append f [] ys = omega arith
+total-append f (x ∷ xs) ys = omega (arith, total-append f xs ys)
+
+total-perm : {A : Type 0} (f : A → ℕ) {xs ys : List A} → List·Permᴰ xs ys → total f xs ≡ total f ys
+total-perm f List·Permᴰ·nil = refl
+total-perm f (List·Permᴰ·cons e p) = omega (arith, ap f e, total-perm f p)
+total-perm f (List·Permᴰ·swap e q) = omega (arith, ap f e, ap f q)
+total-perm f (List·Permᴰ·trans p q) = total-perm f p ∙ total-perm f q
+
+-- whatever is counted of the nodes in their order is counted level by level
+pub order-total : (f : Mark → ℕ) (P : Params) (M : List Bool) → total f (order P M) ≡ total (λ (ns : List Node). total f (marked ns)) (tree P M)
+order-total f P M = total-perm f (order-levels P M) ∙ by-level (tree P M)
+  where
+    by-level : (T : List (List Node)) → total f (concat (map marked T)) ≡ total (λ (ns : List Node). total f (marked ns)) T
+    by-level [] = refl
+    by-level (ns ∷ T) = total-append f (marked ns) (concat (map marked T)) ∙ ap (λ (k : ℕ). total f (marked ns) + k) (by-level T)
+
+-- the order is as long as the levels together
+pub order-length : (P : Params) (M : List Bool) → length (order P M) ≡ total length (tree P M)
+order-length P M = sym (ones (order P M)) ∙ order-total (λ (m : Mark). 1) P M ∙ all (tree P M)
+  where
+    ones : (ms : List Mark) → total (λ (m : Mark). 1) ms ≡ length ms
+    ones [] = refl
+    ones (m ∷ ms) = omega (arith, ones ms)
+
+    each : (ns : List Node) → length (marked ns) ≡ length ns
+    each [] = refl
+    each (n ∷ []) = refl
+    each (n ∷ m ∷ ns) = ap suc (each (m ∷ ns))
+
+    all : (T : List (List Node)) → total (λ (ns : List Node). total (λ (m : Mark). 1) (marked ns)) T ≡ total length T
+    all [] = refl
+    all (ns ∷ T) = omega (arith, ones (marked ns), each ns, all T)
+
+-- as many nodes reach the last bit as there are levels
+pub order-reaching : (P : Params) (M : List Bool) → total (λ (m : Mark). digit (m .reaches)) (order P M) ≡ length (tree P M)
+order-reaching P M = order-total (λ (m : Mark). digit (m .reaches)) P M ∙ all (tree-levels P M)
+  where
+    each : (ns : List Node) → 0 < length ns → total (λ (m : Mark). digit (m .reaches)) (marked ns) ≡ 1
+    each [] h = absurd (omega arith)
+    each (n ∷ []) h = refl
+    each (n ∷ m ∷ ns) h = omega (arith, each (m ∷ ns) (omega arith))
+
+    up : {n c : ℕ} {T : List (List Node)} → Above n c T → 0 < c → total (λ (ns : List Node). total (λ (m : Mark). digit (m .reaches)) (marked ns)) T ≡ length T
+    up no-level h = refl
+    up (sequential-level {c} {ns} k) h = omega (arith, each ns (omega arith))
+    up (parallel-level {n} {c} {ns} {above} k a) h = omega (arith, each ns (omega arith), up a (omega arith))
+
+    all : {limit m : ℕ} {T : List (List Node)} → Levels limit m T → total (λ (ns : List Node). total (λ (m : Mark). digit (m .reaches)) (marked ns)) T ≡ length T
+    all (sequential-tree {m} {ns} e) = omega (arith, each ns (omega arith))
+    all (parallel-tree {n} {m} {ns} {above} e a) = omega (arith, each ns (omega arith), up a (omega arith))
+
+-- ---- the numbers by a formula
+
+-- the outputs of c nodes fill a fourth of c blocks, rounded up, at a parallel level, and a third at the sequential one
+pub fourth : (c : ℕ) → 0 < c → blocks blockBits (outputBits * c) ≡ (c + 3) / 4
+fourth c h = omega arith
+
+pub third : (c : ℕ) → 0 < c → blocks sequentialBits (outputBits * c) ≡ (c + 2) / 3
+third c h = omega arith
+
+-- the nodes of a parallel level, for a message of m bits; levels count from 1
+abbrev pub levelNodes : ℕ → ℕ → ℕ
+levelNodes m zero = 0
+levelNodes m (suc zero) = blocks blockBits m
+levelNodes m (suc (suc k)) = (levelNodes m (suc k) + 3) / 4
+
+pub levelNodes-some : (m k : ℕ) → 0 < levelNodes m (suc k)
+levelNodes-some m zero = omega arith
+levelNodes-some m (suc k) = omega (arith, levelNodes-some m k)
+
+-- a level of c nodes, and those above it unless it has one node only
+abbrev pub nodesIf : Bool → ℕ → ℕ → ℕ
+nodesIf true c above = c
+nodesIf false c above = c + above
+
+-- the nodes from a level of c nodes up; n of the levels above it may be parallel
+abbrev pub nodesFrom : ℕ → ℕ → ℕ
+nodesFrom zero c = nodesIf (eqb c 1) c ((c + 2) / 3)
+nodesFrom (suc n) c = nodesIf (eqb c 1) c (nodesFrom n ((c + 3) / 4))
+
+-- the nodes of a tree for a limit and a message of m bits
+abbrev pub treeNodes : ℕ → ℕ → ℕ
+treeNodes zero m = blocks sequentialBits m
+treeNodes (suc n) m = nodesFrom n (blocks blockBits m)
+
+-- fewer than twice the nodes of the level itself, so that the count of any tree is a word
+pub nodesFrom-bound : (n c : ℕ) → 0 < c → nodesFrom n c < 2 * c
+nodesFrom-bound zero c h = go (eqb c 1) (eqb-false c 1)
+  where
+    go : (b : Bool) → (b ≡ false → c ≡ 1 → ⊥) → nodesIf b c ((c + 2) / 3) < 2 * c
+    go true f = omega arith
+    go false f = omega (arith, f refl)
+nodesFrom-bound (suc n) c h = go (eqb c 1) (eqb-false c 1) (nodesFrom-bound n ((c + 3) / 4) (omega arith))
+  where
+    go : (b : Bool) → (b ≡ false → c ≡ 1 → ⊥) → nodesFrom n ((c + 3) / 4) < 2 * ((c + 3) / 4) → nodesIf b c (nodesFrom n ((c + 3) / 4)) < 2 * c
+    go true f u = omega arith
+    go false f u = omega (arith, f refl)
+
+pub treeNodes-bound : (limit m : ℕ) → m < 2 ^ 64 → treeNodes limit m < 2 ^ 54
+treeNodes-bound zero m h = omega arith
+treeNodes-bound (suc n) m h = omega (arith, nodesFrom-bound n (blocks blockBits m) (omega arith))
+
+counts-nodes : (n m : ℕ) → total (λ (c : ℕ). c) (counts n m) ≡ treeNodes n m
+counts-nodes zero m = omega arith
+counts-nodes (suc n) m = go n (blocks blockBits m) (omega arith) (counts-nodes n (outputBits * blocks blockBits m))
+  where
+    if : (b : Bool) (c : ℕ) (above : List ℕ) (k : ℕ) → total (λ (c : ℕ). c) above ≡ k → total (λ (c : ℕ). c) (countsIf b c above) ≡ nodesIf b c k
+    if true c above k e = omega arith
+    if false c above k e = omega arith
+
+    go : (n c : ℕ) → 0 < c → total (λ (c : ℕ). c) (counts n (outputBits * c)) ≡ treeNodes n (outputBits * c)
+        → total (λ (c : ℕ). c) (countsIf (eqb c 1) c (counts n (outputBits * c))) ≡ nodesFrom n c
+    go zero c h e = if (eqb c 1) c (counts zero (outputBits * c)) ((c + 2) / 3) (e ∙ third c h)
+    go (suc n) c h e = if (eqb c 1) c (counts (suc n) (outputBits * c)) (nodesFrom n ((c + 3) / 4)) (e ∙ ap (nodesFrom n) (fourth c h))
+
+-- the number of nodes goes by the limit and the number of bits alone
+pub order-nodes : (P : Params) (M : List Bool) → length (order P M) ≡ treeNodes (P .limit) (length M)
+order-nodes P M =
+    order-length P M ∙ sum (tree P M) ∙ ap (total (λ (c : ℕ). c)) (levels-counts P (P .limit) 1 M) ∙ counts-nodes (P .limit) (length M)
+  where
+    sum : (T : List (List Node)) → total length T ≡ total (λ (c : ℕ). c) (map length T)
+    sum [] = refl
+    sum (ns ∷ T) = ap (λ (k : ℕ). length ns + k) (sum T)
+
+-- ---- each level by a formula
+
+above-level : {n c : ℕ} {T : List (List Node)} → Above n c T → (m k : ℕ) → c ≡ levelNodes m (suc k) → (j : ℕ) → j < length T → j < n
+    → length (getD T j []) ≡ levelNodes m (suc (suc (k + j)))
+above-level no-level m k e j h g = absurd (omega arith)
+above-level (sequential-level c) m k e j h g = absurd (omega arith)
+above-level (parallel-level d a) m k e zero h g = rw (add-zero k) (omega arith)
+above-level (parallel-level d a) m k e (suc j) h g =
+    let z : suc k + j ≡ k + suc j = omega arith in
+    above-level a m (suc k) (omega arith) j (omega arith) (omega arith) ∙ ap (λ (i : ℕ). levelNodes m (suc (suc i))) z
+
+above-top : {n c : ℕ} {T : List (List Node)} → Above n c T → (m k : ℕ) → c ≡ levelNodes m (suc k) → length T ≡ suc n
+    → length (getD T n []) ≡ (levelNodes m (suc (k + n)) + 2) / 3
+above-top no-level m k e h = absurd (omega arith)
+above-top (sequential-level d) m k e h = rw (add-zero k) (omega arith)
+above-top (parallel-level {n} d a) m k e h =
+    let z : suc k + n ≡ k + suc n = omega arith in
+    above-top a m (suc k) (omega arith) (omega arith) ∙ ap (λ (i : ℕ). (levelNodes m (suc i) + 2) / 3) z
+
+-- a parallel level of a tree
+pub level-nodes : (P : Params) (M : List Bool) (level : ℕ) → 0 < level → level ≤ P .limit → level ≤ length (tree P M)
+    → length (levelAt (tree P M) level) ≡ levelNodes (length M) level
+level-nodes P M level h g l = go (tree-levels P M) level h g l
+  where
+    go : {limit m : ℕ} {T : List (List Node)} → Levels limit m T → (level : ℕ) → 0 < level → level ≤ limit → level ≤ length T
+        → length (levelAt T level) ≡ levelNodes m level
+    go t zero h g l = absurd (omega arith)
+    go (sequential-tree e) (suc k) h g l = absurd (omega arith)
+    go (parallel-tree e a) (suc zero) h g l = e
+    go (parallel-tree {m = m} e a) (suc (suc k)) h g l =
+        let z : 0 + k ≡ k = omega arith in
+        rw z at (above-level a m 0 e k (omega arith) (omega arith))
+
+-- and its sequential level, if it has one above parallel levels
+pub sequential-nodes : (P : Params) (M : List Bool) → 0 < P .limit → length (tree P M) ≡ suc (P .limit)
+    → length (levelAt (tree P M) (suc (P .limit))) ≡ (levelNodes (length M) (P .limit) + 2) / 3
+sequential-nodes P M h g = go (tree-levels P M) h g
+  where
+    go : {limit m : ℕ} {T : List (List Node)} → Levels limit m T → 0 < limit → length T ≡ suc limit
+        → length (levelAt T (suc limit)) ≡ (levelNodes m limit + 2) / 3
+    go (sequential-tree e) h g = absurd (omega arith)
+    go (parallel-tree {n} {m} e a) h g =
+        let z : 0 + n ≡ n = omega arith in
+        rw z at (above-top a m 0 e (omega arith))
+
+-- ---- the number of levels by a formula
+
+abbrev pub heightIf : Bool → ℕ → ℕ
+heightIf true above = 1
+heightIf false above = suc above
+
+-- the levels from one of c nodes up; n of those above it may be parallel
+abbrev pub heightFrom : ℕ → ℕ → ℕ
+heightFrom zero c = heightIf (eqb c 1) 1
+heightFrom (suc n) c = heightIf (eqb c 1) (heightFrom n ((c + 3) / 4))
+
+abbrev pub treeHeight : ℕ → ℕ → ℕ
+treeHeight zero m = 1
+treeHeight (suc n) m = heightFrom n (blocks blockBits m)
+
+pub tree-height : (P : Params) (M : List Bool) → length (tree P M) ≡ treeHeight (P .limit) (length M)
+tree-height P M = sym (length-map (tree P M) length) ∙ ap length (levels-counts P (P .limit) 1 M) ∙ all (P .limit) (length M)
+  where
+    if : (b : Bool) (c : ℕ) (above : List ℕ) (k : ℕ) → length above ≡ k → length (countsIf b c above) ≡ heightIf b k
+    if true c above k e = refl
+    if false c above k e = ap suc e
+
+    go : (n c : ℕ) → 0 < c → length (counts n (outputBits * c)) ≡ treeHeight n (outputBits * c)
+        → length (countsIf (eqb c 1) c (counts n (outputBits * c))) ≡ heightFrom n c
+    go zero c h e = if (eqb c 1) c (counts zero (outputBits * c)) 1 refl
+    go (suc n) c h e = if (eqb c 1) c (counts (suc n) (outputBits * c)) (heightFrom n ((c + 3) / 4)) (e ∙ ap (heightFrom n) (fourth c h))
+
+    all : (n m : ℕ) → length (counts n m) ≡ treeHeight n m
+    all zero m = refl
+    all (suc n) m = go n (blocks blockBits m) (omega arith) (all n (outputBits * blocks blockBits m))
+
+-- the formula at edges, up to the longest message: limit, bits and nodes
+abbrev pub edges : List (ℕ × ℕ × ℕ)
+edges =
+    (64, 0, 1) ∷ (64, 4096, 1) ∷ (64, 4097, 3) ∷ (64, 16384, 5) ∷ (64, 16385, 8) ∷ (0, 0, 1) ∷ (0, 3072, 1) ∷ (0, 3073, 2) ∷ (1, 4096, 1)
+    ∷ (1, 12288, 4) ∷ (1, 12289, 6) ∷ (2, 16384, 5) ∷ (64, 2 ^ 64 - 1, 6004799503160661) ∷ (27, 2 ^ 64 - 1, 6004799503160661)
+    ∷ (26, 2 ^ 64 - 1, 6004799503160662) ∷ (1, 2 ^ 64 - 1, 6004799503160662) ∷ (0, 2 ^ 64 - 1, 6004799503160662) ∷ []
+
+pub edges-hold : map (λ (e : ℕ × ℕ × ℕ). treeNodes (e .0) (e .1)) edges ≡ map (λ (e : ℕ × ℕ × ℕ). e .2) edges
+edges-hold = refl
+
+-- 27 levels are reached, with and without a sequential one
+pub highest : (treeHeight 64 (2 ^ 64 - 1) ≡ mostLevels) × (treeHeight 26 (2 ^ 64 - 1) ≡ mostLevels)
+highest = (refl, refl)
