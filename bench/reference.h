@@ -10,7 +10,7 @@
 #pragma GCC diagnostic pop
 
 /* seconds by a clock that is never set back */
-static double seconds(void)
+static inline double seconds(void)
 {
     struct timespec t;
     clock_gettime(CLOCK_MONOTONIC, &t);
@@ -18,14 +18,14 @@ static double seconds(void)
 }
 
 /* the best time of several runs */
-static void keep_best(double *best, double time)
+static inline void keep_best(double *best, double time)
 {
     if (*best == 0 || time < *best)
         *best = time;
 }
 
 /* words that look random, the same in each run */
-static uint64_t random_word(void)
+static inline uint64_t random_word(void)
 {
     static uint64_t x = UINT64_C(88172645463325252);
     x ^= x << 13;

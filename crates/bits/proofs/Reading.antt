@@ -1,14 +1,14 @@
 -- What the filler reads from the bytes, and what it writes into a word, as bits.
 -- Assumes nothing.
-use mathlib.Core.Path.{_≡_, refl, sym, ap, _∙_}
 use mathlib.Core.Bool.{Bool, false}
 use mathlib.Core.List.{List, [], _∷_, _++_, append-assoc}
+use mathlib.Core.Path.{_≡_, refl, sym, ap, _∙_}
 use Prim.Native.Nat.{ℕ, zero, suc, _+_, _-_, _*_, _/_, _%_, _^_, _≤_, _<_}
 use native.Mathlib.Nat.{mod-eq-of-lt}
 use native.Mathlib.Omega.{arith}
+use lib.ListN.{length, take, drop, getD, replicate, length-append, length-drop, length-replicate}
 use lib.Pow.{field, shr-lt}
-use lib.ListN.{length, take, drop, getD, replicate, length-append, length-take, length-drop, length-replicate}
-use lib.Seq.{paste, take-at, drop-at, take-add, take-take, drop-drop, drop-cons, take-all, take-append-le, drop-append-le, length-take-le}
+use lib.Seq.{paste, take-at, drop-at, take-add, take-take, drop-drop, drop-cons, take-append-le, drop-append-le, length-take-le}
 use Rattle.lists.specs.Append.{cons-eq}
 use Rattle.lists.specs.Below.{Below, none, more, below-append, below-zeros, below-take, below-drop}
 use Rattle.bits.specs.Bits.{bits, bitsOf, spell}

@@ -1,8 +1,8 @@
 -- What the shifts of the filler come to, in sums and quotients. `x << s` is `x * 2 ^ s % 2 ^ 64`, and `x >> s` is `x / 2 ^ s`.
 -- Assumes nothing.
-use mathlib.Core.Path.{_≡_, refl, sym, ap, _∙_}
-use Prim.Native.Nat.{ℕ, zero, suc, _+_, _-_, _*_, _/_, _%_, _^_, _≤_, _<_}
-use native.Mathlib.Nat.{add-mul, suc-mul, mul-assoc, mul-le-mul-right, mod-lt, lt-of-lt-of-le, mul-mod-left, mul-add-div-right, one-mul}
+use mathlib.Core.Path.{_≡_, ap, _∙_}
+use Prim.Native.Nat.{ℕ, _+_, _-_, _*_, _/_, _%_, _^_, _≤_, _<_}
+use native.Mathlib.Nat.{add-mul, suc-mul, mul-assoc, mul-le-mul-right, mod-lt, mul-mod-left, mul-add-div-right, one-mul}
 use native.Mathlib.Omega.{arith}
 use lib.Bits.{bitOr, bitAnd, or-shifted, and-mask}
 use lib.Pow.{pow-add, pow-pos, shl-exact, shl-shr, shr-shr, shr-lt, split, high, low, mod-pow-add}

@@ -1,11 +1,11 @@
 -- Laws of `filled`: none copied, more copied, and a store of one word.
 -- Assumes nothing.
-use mathlib.Core.Path.{_≡_, refl, sym, ap, _∙_}
 use mathlib.Core.Bool.{Bool}
 use mathlib.Core.List.{List, [], _∷_, _++_, append-nil}
-use Prim.Native.Nat.{ℕ, zero, suc, _+_, _*_, _^_, _≤_, _<_}
+use mathlib.Core.Path.{_≡_, refl, sym, ap, _∙_}
+use Prim.Native.Nat.{ℕ, suc, _+_, _*_, _^_, _≤_, _<_}
 use native.Mathlib.Omega.{arith}
-use lib.ListN.{length, take, drop, getD, set, length-take, length-drop}
+use lib.ListN.{length, take, drop, getD, set, length-drop}
 use lib.Seq.{paste, paste-zero, length-paste, length-take-le, drop-drop, take-all, set-split, split-at}
 use Rattle.lists.specs.Below.{Below, below-take, below-drop}
 use Rattle.lists.specs.Paste.{paste-more, paste-middle}

@@ -1,14 +1,13 @@
 -- A digit's value and a value's digit are inverse, both ways.
 -- Assumes nothing.
-use mathlib.Core.Path.{_≡_, refl}
 use mathlib.Core.Bool.{Bool, true, false}
+use mathlib.Core.Path.{_≡_, refl}
 use Prim.Native.Nat.{ℕ, _+_, _-_, _≤_, _<_}
 use native.Mathlib.Omega.{arith}
 use borrow.Author.Tests.{lt-ltb, le-ltb, le-leb, lt-leb, ltb-true, ltb-false, leb-true}
 use lib.Dec.{ltb, leb}
-use Rattle.bits.specs.declared.hex.Digit.{Digit}
-use Rattle.bits.specs.declared.hex.Digit.the-variants.{Value, Refused}
 use Rattle.bits.specs.Hex.{pick, digitOf, hexDigit}
+use Rattle.bits.specs.declared.hex.Digit.the-variants.{Value, Refused}
 
 -- the two ranges in which `digitOf` gives a value
 pub digit-low : (b : ℕ) → 48 ≤ b → b ≤ 57 → digitOf b ≡ Value (b - 48)

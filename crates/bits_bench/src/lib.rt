@@ -1,20 +1,43 @@
-// What the benchmark of the filler links: `fill` as a C function. No other crate uses it.
-ghost use mathlib.Core.Path.{_≡_};
-ghost use Prim.Native.Nat.{_+_, _*_, _≤_, _<_};
-ghost use lib.ListN.{length};
-ghost use Rattle.bits.specs.Bits.{filled};
+// What the benchmark of the filler links; nothing else uses it.
 
+// Fills `times` times over. Arguments that `fill` does not take change nothing.
 #[no_mangle]
-pub extern "C" fn bits_fill(
+pub extern "C" fn md6_bench_fill(
     block: &mut [u64],
     at: usize,
     bytes: &[u8],
     byte: usize,
     bit: usize,
     count: usize,
-)
-    requires { ⌜ (bit < 8) × (at + count ≤ 64 * length (now block)) × (8 * byte + bit + count ≤ 8 * length (now bytes)) ⌝ }
-    ensures { λ _. ⌜ now (block .exit) ≡ filled (now (block .entry)) at (now (bytes .entry)) (8 * byte + bit) count ⌝ }
-{
-    bits::fill(block, at, bytes, byte, bit, count);
+    times: usize,
+) {
+    if 7 < bit {
+        return;
+    }
+    if 1024 < block.len() {
+        return;
+    }
+    if 1048576 < bytes.len() {
+        return;
+    }
+    if 64 * block.len() < at {
+        return;
+    }
+    if 64 * block.len() - at < count {
+        return;
+    }
+    if bytes.len() < byte {
+        return;
+    }
+    if 8 * (bytes.len() - byte) < bit {
+        return;
+    }
+    if 8 * (bytes.len() - byte) - bit < count {
+        return;
+    }
+    let mut i = 0;
+    while i < times {
+        bits::fill(block, at, bytes, byte, bit, count);
+        i += 1;
+    }
 }

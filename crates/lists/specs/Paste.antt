@@ -1,10 +1,10 @@
 -- Laws of `paste` of the library, which puts the first n of a list into the place of as many others.
 -- Assumes nothing.
-use mathlib.Core.Path.{_≡_, refl, sym, ap, _∙_}
 use mathlib.Core.List.{List, _++_, append-assoc}
+use mathlib.Core.Path.{_≡_}
 use Prim.Native.Nat.{ℕ, _+_, _≤_}
 use native.Mathlib.Omega.{arith}
-use lib.ListN.{length, take, drop, length-append}
+use lib.ListN.{length, drop}
 use lib.Seq.{paste, take-paste, drop-paste, drop-drop, take-add, take-append-le, drop-append-le, take-append-add, drop-append-add}
 
 -- n elements, and then the next m

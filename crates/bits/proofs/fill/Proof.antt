@@ -1,6 +1,6 @@
 -- `bits::fill` meets its contract: from the start of a word, within a word, or up to the end of a word and then from the next on.
 -- Assumes nothing.
-use mathlib.Core.Path.{_≡_, _∙_}
+use mathlib.Core.Path.{_≡_}
 use Prim.Native.Nat.{_+_, _*_, _-_, _/_, _%_}
 use native.Mathlib.Omega.{arith}
 use borrow.Author.Needs.{needs}
@@ -63,11 +63,9 @@ same-length-3 c = search needs
 returns-3 : tie.Need-returns-3
 returns-3 c =
     let a = c .before .before .before .before .before .before .before .before .before .before .before .before .args in
-    let head = 64 - a .at % 64 in
     let e : 64 * (a .at / 64) + a .at % 64 ≡ a .at = omega arith in
-    c .before .before .fill-from2 .ensures
-    ∙ rw (c .before .before .before .before .before .before .fill-part2 .ensures, e)
-    (filled-then (now (a .block)) (a .at) (now (a .bytes)) (8 * a .byte + a .bit) head (a .count - head) (omega arith) (omega arith) (omega arith) (omega arith) (omega arith))
+    rw (c .before .before .fill-from2 .ensures, c .before .before .before .before .before .before .fill-part2 .ensures, e)
+    (filled-then (now (a .block)) (a .at) (now (a .bytes)) (8 * a .byte + a .bit) (64 - a .at % 64) (a .count - (64 - a .at % 64)) (omega arith) (omega arith) (omega arith) (omega arith) (omega arith))
 
 pub fill-spec : {M : Type 1} → statement M
 fill-spec =

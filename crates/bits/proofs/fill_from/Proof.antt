@@ -1,6 +1,5 @@
 -- `bits::fill_from` meets its contract: the whole words are filled, and then the rest.
 -- Assumes nothing.
-use mathlib.Core.Path.{_∙_}
 use Prim.Native.Nat.{_+_, _*_, _/_, _%_}
 use native.Mathlib.Omega.{arith}
 use borrow.Author.Needs.{needs}
@@ -30,10 +29,8 @@ same-length c = search needs
 returns : tie.Need-returns
 returns c =
     let a = c .before .before .before .before .before .before .before .before .before .before .args in
-    let words = a .count / 64 in
-    c .before .before .fill-part .ensures
-    ∙ rw (c .before .before .before .before .before .before .fill-words .ensures)
-    (filled-then (now (a .block)) (64 * a .word) (now (a .bytes)) (8 * a .byte + a .bit) (64 * words) (a .count % 64) (omega arith) (omega arith) (omega arith) (omega arith) (omega arith))
+    rw (c .before .before .fill-part .ensures, c .before .before .before .before .before .before .fill-words .ensures)
+    (filled-then (now (a .block)) (64 * a .word) (now (a .bytes)) (8 * a .byte + a .bit) (64 * (a .count / 64)) (a .count % 64) (omega arith) (omega arith) (omega arith) (omega arith) (omega arith))
 
 pub fill-from-spec : {M : Type 1} → statement M
 fill-from-spec =

@@ -1,7 +1,7 @@
 #!/usr/bin/env python3
-"""appendix_c.py REPORT: print what the program compress_test must print, from the text of the MD6 report (April 2009).
+"""expected.py REPORT: print what the program compress_test must print, from the text of the MD6 report (April 2009):
 
-    python3 tests/appendix_c.py REPORT > crates/compress_test/stdout
+    python3 tests/appendix_c/expected.py tests/appendix_c/report.txt > crates/compress_test/stdout
 
 Appendix C prints, for each of seven nodes, the words A[0] to A[88] of the window, then (C.1 and C.2, r = 5) all words to
 A[168], or (C.3, r = 104) the output A[1737] to A[1752]: 991 words in all. They are printed here as they stand in the text,
