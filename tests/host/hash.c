@@ -11,21 +11,7 @@
 
 #include "../../include/md6.h"
 #include "guard.h"
-
-static uint64_t state;
-
-static uint64_t next(void)
-{
-    state ^= state << 13;
-    state ^= state >> 7;
-    state ^= state << 17;
-    return state * UINT64_C(0x2545f4914f6cdd1d);
-}
-
-static uint64_t below(uint64_t n)
-{
-    return next() % n;
-}
+#include "random.h"
 
 /* a length in bits at or beside an edge of the tree, or anywhere */
 static uint64_t pick_bits(void)
@@ -71,15 +57,6 @@ static uint64_t expected_number(uint64_t message_bytes, uint64_t bits, uint64_t 
     if (digest_bytes < (d + 7) / 8)
         return 9;
     return 0;
-}
-
-static void random_bytes(uint8_t *to, size_t n)
-{
-    size_t i;
-    int ones = below(8) == 0;
-
-    for (i = 0; i < n; i++)
-        to[i] = ones ? 0xff : (uint8_t)next();
 }
 
 static void second_digest(const uint8_t *message, uint64_t bits, const uint8_t *key, size_t key_bytes, uint64_t d, uint64_t limit, uint64_t rounds, uint8_t out[64])
@@ -195,7 +172,7 @@ int main(int argc, char **argv)
     uint64_t seed = argc > 1 ? strtoull(argv[1], NULL, 0) : (uint64_t)time(NULL), i, bad = 0, refused = 0;
     uint64_t inputs = argc > 2 ? strtoull(argv[2], NULL, 0) : 3000;
 
-    state = seed * 2 + 1;
+    random_seed(seed);
     printf("seed %" PRIu64 ": %" PRIu64 " inputs\n", seed, inputs);
     for (i = 0; i < inputs; i++) {
         int spoil = below(4) == 0;
