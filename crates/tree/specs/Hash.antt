@@ -21,14 +21,17 @@ orElse false number later = later
 abbrev pub refusedBits : List ℕ → ℕ → ℕ → ℕ
 refusedBits piece n later = orElse (ltb (8 * length piece) n) 5 later
 
--- "1, 0: d not 1 to 512", "2, 0: key over 64 bytes", "3, 0: L over 64", "4, 0: r over 255", in that order
+-- "1, 0: d not 1 to 512"
+abbrev pub refusedSize : ℕ → ℕ → ℕ
+refusedSize d later = orElse (ltb d 1) 1 (orElse (ltb 512 d) 1 later)
+
+-- then "2, 0: key over 64 bytes", "3, 0: L over 64", "4, 0: r over 255", in that order
 abbrev pub refusedParams : Params → ℕ → ℕ
 refusedParams P later =
-    orElse (ltb (P .d) 1) 1
-    (orElse (ltb 512 (P .d)) 1
+    refusedSize (P .d)
     (orElse (ltb 64 (length (P .key))) 2
     (orElse (ltb 64 (P .limit)) 3
-    (orElse (ltb 255 (P .rounds)) 4 later))))
+    (orElse (ltb 255 (P .rounds)) 4 later)))
 
 -- the bytes of a digest of d bits
 abbrev pub digestBytes : ℕ → ℕ
@@ -57,3 +60,23 @@ hashAnswer (suc n) P M out = record { number = suc n; count = 0; digest = out }
 
 unfoldable pub hashOf : List ℕ → ℕ → Params → List ℕ → Answer
 hashOf message n P out = hashAnswer (hashNumber message n P out) P (pieceBits message n) out
+
+-- ---- default rounds
+
+-- "Default rounds follow document 003: 40 + d/4, rounded down."
+abbrev pub defaultRounds : ℕ → ℕ
+defaultRounds d = 40 + d / 4
+
+-- a number and a count
+pub record Told : Type 0 where
+  pub number : ℕ
+  pub count : ℕ
+
+-- "a count: .. for default rounds r"; a refusal has count 0
+abbrev pub told : ℕ → ℕ → Told
+told zero count = record { number = 0; count = count }
+told (suc n) count = record { number = suc n; count = 0 }
+
+-- "A public call tells them for a d"; "Default rounds: 1"
+unfoldable pub defaultRoundsOf : ℕ → Told
+defaultRoundsOf d = told (refusedSize d 0) (defaultRounds d)

@@ -1,0 +1,14 @@
+-- `line::State::space` meets its contract: the next field is what `next` ensures.
+-- Assumes nothing.
+use borrow.Author.Needs.{needs}
+use Rattle.line.proofs.State.space.Statement.{statement}
+use Rattle.line.proofs.State.space.Tie as tie
+
+next-requires : tie.Need-next-requires
+next-requires c κs = search needs
+
+returns : tie.Need-returns
+returns c = rw (c .next .ensures)
+
+pub space-spec : {M : Type 1} → statement M
+space-spec = tie.close (tie.spec next-requires returns)

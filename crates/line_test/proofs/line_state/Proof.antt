@@ -1,0 +1,67 @@
+-- `line_test::line_state` meets its contract. The invariant: the state is the fold over the bytes passed.
+-- Assumes nothing.
+use mathlib.Core.Path.{_≡_, _∙_, ap}
+use Prim.Native.Nat.{_≤_, _<_, _-_}
+use native.Mathlib.Numerals.{add-one}
+use lib.ListN.{length, take, getD}
+use lib.Seq.{take-suc, take-all}
+use Rattle.line.specs.Fold.{start, foldOf}
+use Rattle.line.specs.FoldLaws.{fold-snoc}
+use borrow.Author.Needs.{needs}
+use native.Mathlib.Omega.{arith}
+use Rattle.line_test.proofs.line_state.Statement.{statement}
+use Rattle.line_test.proofs.line_state.Tie as tie
+
+abbrev Inv-loop : tie.InvT-loop
+Inv-loop line s₀ i₀ s i = (i ≤ length line) × (s ≡ foldOf start (take i line))
+
+abbrev μ-loop : tie.MeasureT-loop
+μ-loop line s₀ i₀ s i = length line - i
+
+new-requires : tie.Need-new-requires Inv-loop μ-loop
+new-requires c κs = search needs
+
+loop-holds : tie.Need-loop-holds Inv-loop μ-loop
+loop-holds c = (omega arith, c .new .ensures)
+
+shared-slice-read-step : tie.Need-shared-slice-read-step Inv-loop μ-loop
+shared-slice-read-step c = search needs
+
+step-requires : tie.Need-step-requires Inv-loop μ-loop
+step-requires c κs = search needs
+
+add-i : tie.Need-add-i Inv-loop μ-loop
+add-i c = search needs
+
+loop-less : tie.Need-loop-less Inv-loop μ-loop
+loop-less c = search needs
+
+loop-again : tie.Need-loop-again Inv-loop μ-loop
+loop-again c =
+    let line = c .before .before .before .before .before .before .args .line .now in
+    let i = c .before .before .before .loop .i in
+    let e : i < length line = omega arith in (
+      omega arith,
+      rw (add-one, take-suc line i 0 e, fold-snoc (take i line) start (getD line i 0), ← c .before .before .before .loop .inv .1)
+          (c .step .ensures),
+    )
+
+returns : tie.Need-returns Inv-loop μ-loop
+returns c =
+    let line = c .before .before .before .before .args .line .now in
+    c .before .loop .inv .1 ∙ ap (foldOf start) (take-all (c .before .loop .i) line (omega arith))
+
+pub line-state-spec : {M : Type 1} → statement M
+line-state-spec =
+    tie.close
+    (tie.spec
+    Inv-loop
+    μ-loop
+    new-requires
+    loop-holds
+    shared-slice-read-step
+    step-requires
+    add-i
+    loop-less
+    loop-again
+    returns)
