@@ -57,12 +57,12 @@ filled-part bytes bits w size index start n e h g es en =
     let r : drop n (replicate size false) ≡ replicate (size - n) false = drop-replicate n size false (omega arith) in
     let b : bits ≡ size * index + (bits - size * index) = omega arith in
     let t : take size (drop (size * index) (take bits B)) ≡ take n (drop start B) =
-        ap (λ (k : ℕ). take size (drop (size * index) (take k B))) b
-        ∙ ap (take size) (drop-take (size * index) (bits - size * index) B)
-        ∙ take-min size (bits - size * index) (drop (size * index) B)
-        ∙ rw (en, es) in
+    ap (λ (k : ℕ). take size (drop (size * index) (take k B))) b
+    ∙ ap (take size) (drop-take (size * index) (bits - size * index) B)
+    ∙ take-min size (bits - size * index) (drop (size * index) B)
+    ∙ rw (en, es) in
     let p : paste (bitsOf 64 (replicate w 0)) 0 (drop start B) n ≡ take n (drop start B) ++ replicate (size - n) false =
-        rw (zs, z, r) in
+    rw (zs, z, r) in
     let m : messagePart size (take bits B) index ≡ take n (drop start B) ++ replicate (size - n) false = rw (t, lp, en) in
     rw (l, p, m)
 
@@ -78,7 +78,7 @@ leaf-made C bytes bits index z n block i g en eb =
     let M : List Bool = pieceBits bytes bits in
     let l : length M ≡ bits = length-pieceBits bytes bits g in
     let b : block ≡ words 64 (messagePart blockBits M index) =
-        eb ∙ filled-part bytes bits 64 blockBits index (8 * (512 * index) + 0) n refl (leaf-index bits index i) g (omega arith) en in
+    eb ∙ filled-part bytes bits 64 blockBits index (8 * (512 * index) + 0) n refl (leaf-index bits index i) g (omega arith) en in
     let p : blockBits - n ≡ blockBits - held blockBits (length M) index = rw l (ap (λ (k : ℕ). blockBits - k) en) in
     rw (b, p) (sym (value-one C M index z))
 
@@ -97,7 +97,7 @@ child-more f room a j len h =
     let s : List ℕ = f (a + j) in
     let z : List ℕ = replicate (16 * (room - j)) 0 in
     let d : drop (length s) z ≡ replicate (16 * (room - (j + 1))) 0 =
-        rw (len (a + j)) (drop-replicate 16 (16 * (room - j)) 0 (omega arith) ∙ ap (λ (k : ℕ). replicate k 0) (left room j h)) in
+    rw (len (a + j)) (drop-replicate 16 (16 * (room - j)) 0 (omega arith) ∙ ap (λ (k : ℕ). replicate k 0) (left room j h)) in
     let e : joinedValues f a (j + 1) ≡ p ++ s = rw add-one (joined-suc f a j) in
     paste-at p s z (16 * j) (length s) (length-joinedValues f a j len) refl
     ∙ ap (λ (w : List ℕ). p ++ (s ++ w)) d

@@ -25,7 +25,7 @@ byte-of-word o k w rest e =
     let c : List Bool = bits k w in
     let s : bits 64 w ≡ a ++ (b ++ c) = ap (λ (n : ℕ). bits n w) (sym e) ∙ bits-split o (8 + k) w ∙ ap (λ (x : List Bool). a ++ x) (bits-split 8 k w) in
     let t : bits 64 w ++ rest ≡ a ++ (b ++ (c ++ rest)) =
-        ap (λ (x : List Bool). x ++ rest) s ∙ append-assoc a (b ++ c) rest ∙ ap (λ (x : List Bool). a ++ x) (append-assoc b c rest) in
+    ap (λ (x : List Bool). x ++ rest) s ∙ append-assoc a (b ++ c) rest ∙ ap (λ (x : List Bool). a ++ x) (append-assoc b c rest) in
     ap (λ (x : List Bool). spell 0 (take 8 (drop o x))) t
     ∙ ap (λ (x : List Bool). spell 0 (take 8 x)) (drop-at a (b ++ (c ++ rest)) o (length-bits o (w / 2 ^ (8 + k))))
     ∙ ap (spell 0) (take-at b (c ++ rest) 8 (length-bits 8 (w / 2 ^ k)))
@@ -40,9 +40,9 @@ byte-value ws j h =
     let e : j * 8 ≡ i * 64 + o = omega arith in
     let l : i < length ws = omega arith in
     let d : drop (j * 8) (bitsOf 64 ws) ≡ drop o (bits 64 (getD ws i 0) ++ bitsOf 64 (drop (suc i) ws)) =
-        ap (λ (n : ℕ). drop n (bitsOf 64 ws)) e
-        ∙ sym (drop-drop o (i * 64) (bitsOf 64 ws))
-        ∙ ap (drop o) (bitsOf-drop 64 i ws (omega arith) ∙ ap (bitsOf 64) (drop-cons ws i 0 l)) in
+    ap (λ (n : ℕ). drop n (bitsOf 64 ws)) e
+    ∙ sym (drop-drop o (i * 64) (bitsOf 64 ws))
+    ∙ ap (drop o) (bitsOf-drop 64 i ws (omega arith) ∙ ap (bitsOf 64) (drop-cons ws i 0 l)) in
     sym (ap (λ (x : List Bool). spell 0 (take 8 x)) d ∙ byte-of-word o (56 - o) (getD ws i 0) (bitsOf 64 (drop (suc i) ws)) (omega arith))
 
 -- ---- the loop that writes bytes
@@ -68,9 +68,9 @@ zeros-alike : (n q r : ℕ) (D : List Bool) → n * 8 ≤ length D + q → q ≤
 zeros-alike n q r D h g =
     let e : q + (r - q) ≡ r = omega arith in
     let s : D ++ replicate r false ≡ (D ++ replicate q false) ++ replicate (r - q) false =
-        ap (λ (k : ℕ). D ++ replicate k false) (sym e)
-        ∙ ap (λ (x : List Bool). D ++ x) (sym (replicate-append-replicate q (r - q) false))
-        ∙ sym (append-assoc D (replicate q false) (replicate (r - q) false)) in
+    ap (λ (k : ℕ). D ++ replicate k false) (sym e)
+    ∙ ap (λ (x : List Bool). D ++ x) (sym (replicate-append-replicate q (r - q) false))
+    ∙ sym (append-assoc D (replicate q false) (replicate (r - q) false)) in
     rw s (numbers-front 8 n (D ++ replicate q false) (replicate (r - q) false) (simp (length-append, length-replicate) (omega arith)))
 
 -- the root's bytes, from which the last d bits are copied to 8 zero words, whose first bytes are the digest
@@ -88,11 +88,11 @@ digest-bytes root d start l low high es =
     let z : bitsOf 64 (replicate 8 0) ≡ replicate 512 false = bitsOf-zeros 64 8 in
     let zd : 0 + d ≡ d = omega arith in
     let f : paste (bitsOf 64 (replicate 8 0)) 0 (drop start (bitsOf 8 (numbers 8 128 R))) d ≡ D ++ replicate (512 - d) false =
-        ap (λ (x : List Bool). paste x 0 (drop start (bitsOf 8 (numbers 8 128 R))) d) z
-        ∙ rw (b, es, take-all d D (omega arith), zd, drop-replicate d 512 false high) in
+    ap (λ (x : List Bool). paste x 0 (drop start (bitsOf 8 (numbers 8 128 R))) d) z
+    ∙ rw (b, es, take-all d D (omega arith), zd, drop-replicate d 512 false high) in
     let lF : length (D ++ replicate (512 - d) false) ≡ 512 = simp (length-append, length-replicate) (omega arith) in
     let w : bitsOf 64 (numbers 64 8 (D ++ replicate (512 - d) false)) ≡ D ++ replicate (512 - d) false =
-        bitsOf-numbers 64 8 (D ++ replicate (512 - d) false) (omega arith) ∙ take-all 512 (D ++ replicate (512 - d) false) (omega arith) in
+    bitsOf-numbers 64 8 (D ++ replicate (512 - d) false) (omega arith) ∙ take-all 512 (D ++ replicate (512 - d) false) (omega arith) in
     let q : ℕ = n * 8 - d in
     ap (λ (x : List Bool). numbers 8 n (bitsOf 64 (numbers 64 8 x))) f
     ∙ ap (numbers 8 n) w
@@ -110,8 +110,8 @@ key-filled key h =
     let zd : 0 + 8 * length key ≡ 8 * length key = omega arith in
     let e : (64 - length key) * 8 ≡ 512 - 8 * length key = omega arith in
     let s : bitsOf 8 (key ++ replicate (64 - length key) 0) ≡ B ++ replicate (512 - 8 * length key) false =
-        bitsOf-append 8 key (replicate (64 - length key) 0) ∙ rw (bitsOf-zeros 8 (64 - length key), e) in
+    bitsOf-append 8 key (replicate (64 - length key) 0) ∙ rw (bitsOf-zeros 8 (64 - length key), e) in
     let f : paste (bitsOf 64 (replicate 8 0)) 0 B (8 * length key) ≡ B ++ replicate (512 - 8 * length key) false =
-        ap (λ (x : List Bool). paste x 0 B (8 * length key)) z
-        ∙ rw (take-all (8 * length key) B (omega arith), zd, drop-replicate (8 * length key) 512 false (omega arith)) in
+    ap (λ (x : List Bool). paste x 0 B (8 * length key)) z
+    ∙ rw (take-all (8 * length key) B (omega arith), zd, drop-replicate (8 * length key) 512 false (omega arith)) in
     ap (numbers 64 8) (f ∙ sym s)

@@ -53,19 +53,19 @@ child-part f q c i len low h =
     let b : 1024 * q ≡ 16 * q * 64 = omega arith in
     let p : 1024 * q - held (1024 * q) (length (bitsOf 64 W)) i ≡ 16 * (q - n) * 64 = rw lB (omega arith) in
     let d : drop (1024 * q * i) (bitsOf 64 W) ≡ bitsOf 64 (drop (16 * (q * i)) W) =
-        ap (λ (k : ℕ). drop k (bitsOf 64 W)) a ∙ bitsOf-drop 64 (16 * (q * i)) W (omega arith) in
+    ap (λ (k : ℕ). drop k (bitsOf 64 W)) a ∙ bitsOf-drop 64 (16 * (q * i)) W (omega arith) in
     let t : take (1024 * q) (drop (1024 * q * i) (bitsOf 64 W)) ≡ bitsOf 64 (joinedValues f (q * i) n) =
-        ap (take (1024 * q)) d
-        ∙ ap (λ (k : ℕ). take k (bitsOf 64 (drop (16 * (q * i)) W))) b
-        ∙ take-bitsOf (16 * q) (drop (16 * (q * i)) W)
-        ∙ ap (bitsOf 64) (joined-part f q c i len h) in
+    ap (take (1024 * q)) d
+    ∙ ap (λ (k : ℕ). take k (bitsOf 64 (drop (16 * (q * i)) W))) b
+    ∙ take-bitsOf (16 * q) (drop (16 * (q * i)) W)
+    ∙ ap (bitsOf 64) (joined-part f q c i len h) in
     let B : List ℕ = childWords f q (q * i) n in
     let s : messagePart (1024 * q) (bitsOf 64 W) i ≡ bitsOf 64 B =
-        rw (t, p, ← bitsOf-zeros 64 (16 * (q - n))) (sym (bitsOf-append 64 (joinedValues f (q * i) n) (replicate (16 * (q - n)) 0))) in
+    rw (t, p, ← bitsOf-zeros 64 (16 * (q - n))) (sym (bitsOf-append 64 (joinedValues f (q * i) n) (replicate (16 * (q - n)) 0))) in
     let lJ : length (joinedValues f (q * i) n) ≡ 16 * n = length-joinedValues f (q * i) n len in
     let l : length B ≡ 16 * q = simp (length-append, length-replicate) (omega arith) in
     let w : Below (2 ^ 64) B =
-        below-append (below-joinedValues f (q * i) n (λ j g. low (q * i + j) (omega arith))) (below-zeros (2 ^ 64) (16 * (q - n)) (omega arith)) in
+    below-append (below-joinedValues f (q * i) n (λ j g. low (q * i + j) (omega arith))) (below-zeros (2 ^ 64) (16 * (q - n)) (omega arith)) in
     let r : numbers 64 (16 * q) (bitsOf 64 B) ≡ B = rw (l, append-nil) at (numbers-bitsOf 64 [] w) in
     ap (numbers 64 (16 * q)) s ∙ r
 
@@ -138,11 +138,11 @@ module _ (P : Params) (M : List Bool) where
       let l : length ns ≡ nodesAt (length M) (suc h) = length-parallel P (suc h) false X ∙ blocks-inputs h in
       joined-outputs (output (P .rounds)) (λ j. value (commonOf P) M (suc h) j 0) ns 0
       (λ j n e.
-        let b : j < length ns = index-below ns j n e in
-        let at = parallel-at P (suc h) false X j (omega (arith, length-parallel P (suc h) false X)) in
-        let s : levelNode h j 0 ≡ n = same-node (levelNode h j 0) n (sym at ∙ e) in
-        let z : 0 + j ≡ j = omega arith in
-        ap (output (P .rounds)) (sym s) ∙ f j 0 (omega arith) ∙ ap (λ (x : ℕ). bitsOf 64 (value (commonOf P) M (suc h) x 0)) (sym z))
+      let b : j < length ns = index-below ns j n e in
+      let at = parallel-at P (suc h) false X j (omega (arith, length-parallel P (suc h) false X)) in
+      let s : levelNode h j 0 ≡ n = same-node (levelNode h j 0) n (sym at ∙ e) in
+      let z : 0 + j ≡ j = omega arith in
+      ap (output (P .rounds)) (sym s) ∙ f j 0 (omega arith) ∙ ap (λ (x : ℕ). bitsOf 64 (value (commonOf P) M (suc h) x 0)) (sym z))
       ∙ ap (λ (n : ℕ). bitsOf 64 (joinedValues (λ j. value (commonOf P) M (suc h) j 0) 0 n)) l
 
   module _ (valid : Valid P) (small : length M < 2 ^ 64) where
@@ -163,11 +163,11 @@ module _ (P : Params) (M : List Bool) where
         let l : length X ≡ outputBits * c = length-inputs h in
         let e : blockBits * suc j - length X ≡ outputBits * (4 - held 4 c j) = rw l (omega (arith, nodesAt-some (length M) h)) in
         let w : words 64 (drop (blockBits * j) (padded blockBits X)) ≡ words 64 (messagePart blockBits X j) =
-            part-words 64 blockBits (padding blockBits (length X)) X j refl (rw l (omega (arith, nodesAt-some (length M) h))) (rw l (omega (arith, nodesAt-some (length M) h))) in
+        part-words 64 blockBits (padding blockBits (length X)) X j refl (rw l (omega (arith, nodesAt-some (length M) h))) (rw l (omega (arith, nodesAt-some (length M) h))) in
         let v : words 64 (messagePart blockBits X j) ≡ childWords f 4 (4 * j) (held 4 c j) =
-            ap (λ (Y : List Bool). words 64 (messagePart blockBits Y j)) (inputs-above h (node-values h (omega arith)))
-            ∙ child-part f 4 c j (λ k. length-value C (fair P valid .kLength) M h k 0)
-            (λ k q. below-value C (fair P valid) M small h k 0 (omega arith) q (omega arith)) (omega (arith, nodesAt-some (length M) h)) in
+        ap (λ (Y : List Bool). words 64 (messagePart blockBits Y j)) (inputs-above h (node-values h (omega arith)))
+        ∙ child-part f 4 c j (λ k. length-value C (fair P valid .kLength) M h k 0)
+        (λ k q. below-value C (fair P valid) M small h k 0 (omega arith) q (omega arith)) (omega (arith, nodesAt-some (length M) h)) in
         output-same P (suc (suc h)) j z _ _ _ _ e (w ∙ v) ∙ ap (bitsOf 64) (sym (value-suc C M h j z))
 
     -- ---- the sequential level
@@ -196,11 +196,11 @@ module _ (P : Params) (M : List Bool) where
         let few : c ≤ 2 ^ 52 = nodesAt-le (length M) h small in
         let e : sequentialBits * suc j - length X ≡ outputBits * (3 - held 3 c j) = rw l (omega arith) in
         let w : words 48 (drop (sequentialBits * j) (padded sequentialBits X)) ≡ words 48 (messagePart sequentialBits X j) =
-            part-words 48 sequentialBits (padding sequentialBits (length X)) X j refl (rw l (omega arith)) (rw l (omega arith)) in
+        part-words 48 sequentialBits (padding sequentialBits (length X)) X j refl (rw l (omega arith)) (rw l (omega arith)) in
         let v : words 48 (messagePart sequentialBits X j) ≡ childWords f 3 (3 * j) (held 3 c j) =
-            ap (λ (Y : List Bool). words 48 (messagePart sequentialBits Y j)) (inputs-above h (node-values h g))
-            ∙ child-part f 3 c j (λ k. length-value C (fair P valid .kLength) M h k 0)
-            (λ k q. below-value C (fair P valid) M small h k 0 g q (omega arith)) (omega arith) in
+        ap (λ (Y : List Bool). words 48 (messagePart sequentialBits Y j)) (inputs-above h (node-values h g))
+        ∙ child-part f 3 c j (λ k. length-value C (fair P valid .kLength) M h k 0)
+        (λ k q. below-value C (fair P valid) M small h k 0 g q (omega arith)) (omega arith) in
         (e, w ∙ v, omega arith, λ q. omega arith)
 
     -- the words that the next node reads from a value's bits
@@ -232,11 +232,11 @@ module _ (P : Params) (M : List Bool) where
           let z : 0 + j ≡ j = omega arith in
           let o : digit (eqb (suc j) (sequentialNodes l (length M))) ≡ 0 = rw (ne-eqb (suc j) (sequentialNodes l (length M)) (λ e. omega arith)) refl in
           let c : words 16 (chainAt P (suc l) 0 noChain sequentialInput j) ≡ chain C l M j =
-              ap (words 16) (chain-values j (omega arith)) ∙ chain-value j (omega (arith, s .2)) in
+          ap (words 16) (chain-values j (omega arith)) ∙ chain-value j (omega (arith, s .2)) in
           let B : List ℕ = words 16 (chainAt P (suc l) 0 noChain sequentialInput j) ++ words 48 (drop (sequentialBits * j) sequentialInput) in
           let g : B ≡ chain C l M j ++ sequentialWords C l M j = rw (c, s .1) in
           let v : chain C l M (suc j) ≡ nodeWords C (suc l) j 0 0 (chain C l M j ++ sequentialWords C l M j) =
-              chain-suc C M l j ∙ rw (o, s .3 i) in
+          chain-suc C M l j ∙ rw (o, s .3 i) in
           chainAt-suc P (suc l) 0 noChain sequentialInput j ∙ rw z (output-same P (suc l) j 0 0 0 B _ refl g) ∙ ap (bitsOf 64) (sym v)
 
       sequential-values : (j : ℕ) (a : Node) → getElem? (sequential P (suc l) (inputs P M l)) j ≡ some a
@@ -249,11 +249,11 @@ module _ (P : Params) (M : List Bool) where
           let s = sequential-part l (omega arith) j (omega arith) in
           let at = sequential-at P (suc l) X j b in
           let f : lastOnly (blocks sequentialBits (length X)) j 1 ≡ digit (eqb (suc j) (sequentialNodes l (length M))) =
-              last-flag (blocks sequentialBits (length X)) j ∙ ap (λ (k : ℕ). digit (eqb (suc j) k)) (sym n) in
+          last-flag (blocks sequentialBits (length X)) j ∙ ap (λ (k : ℕ). digit (eqb (suc j) k)) (sym n) in
           let c : words 16 (chainAt P (suc l) 0 noChain sequentialInput j) ≡ chain C l M j =
-              ap (words 16) (chain-values j (omega arith)) ∙ chain-value j (omega (arith, s .2)) in
+          ap (words 16) (chain-values j (omega arith)) ∙ chain-value j (omega (arith, s .2)) in
           let g : words 16 (chainAt P (suc l) 0 noChain sequentialInput j) ++ words 48 (drop (sequentialBits * j) sequentialInput) ≡ chain C l M j ++ sequentialWords C l M j =
-              rw (c, s .1) in
+          rw (c, s .1) in
           ap (output (P .rounds)) (sym (same-node _ a (sym at ∙ e)))
           ∙ rw f (output-same P (suc l) j (digit (eqb (suc j) (sequentialNodes l (length M)))) _ _ _ _ (s .0) g)
           ∙ ap (bitsOf 64) (sym (chain-suc C M l j))
@@ -303,7 +303,7 @@ module _ (P : Params) (M : List Bool) where
 
         go : (b : Bool) → eqb (blocks blockBits (length (inputs P M h))) 1 ≡ b → (k : ℕ) → nodeAt (above P n (suc h) b (inputs P M h)) (suc k) i ≡ some a
             → ((k i : ℕ) (a : Node) → nodeAt (levels P n (suc (suc h)) (inputs P M (suc h))) (suc k) i ≡ some a
-                → output (P .rounds) a ≡ bitsOf 64 (valueAt (commonOf P) (P .limit) M (suc (suc h) + k) i))
+            → output (P .rounds) a ≡ bitsOf 64 (valueAt (commonOf P) (P .limit) M (suc (suc h) + k) i))
             → output (P .rounds) a ≡ bitsOf 64 (valueAt (commonOf P) (P .limit) M (suc h + k) i)
         go true q zero w up = first true q w
         go true q (suc k) w up = absurd (no-node a w)

@@ -23,18 +23,18 @@ window-made k block u v hk hb =
     let lu : length (p ++ (u ∷ [])) ≡ 24 = simp length-append (omega (arith, lp)) in
     let lv : length ((p ++ (u ∷ [])) ++ (v ∷ [])) ≡ 25 = simp length-append (omega (arith, lu)) in
     let a : paste (paste (replicate 89 0) 0 Q (length Q)) 15 k (length k) ≡ p ++ replicate 66 0 =
-        paste-at Q k (replicate 74 0) 15 (length k) refl refl ∙ rw hk (sym (append-assoc Q k (replicate 66 0))) in
+    paste-at Q k (replicate 74 0) 15 (length k) refl refl ∙ rw hk (sym (append-assoc Q k (replicate 66 0))) in
     let b : set (p ++ replicate 66 0) 23 u ≡ (p ++ (u ∷ [])) ++ replicate 65 0 =
-        set-at p 0 (replicate 65 0) u 23 lp ∙ sym (append-assoc p (u ∷ []) (replicate 65 0)) in
+    set-at p 0 (replicate 65 0) u 23 lp ∙ sym (append-assoc p (u ∷ []) (replicate 65 0)) in
     let c : set ((p ++ (u ∷ [])) ++ replicate 65 0) 24 v ≡ ((p ++ (u ∷ [])) ++ (v ∷ [])) ++ replicate 64 0 =
-        set-at (p ++ (u ∷ [])) 0 (replicate 64 0) v 24 lu ∙ sym (append-assoc (p ++ (u ∷ [])) (v ∷ []) (replicate 64 0)) in
+    set-at (p ++ (u ∷ [])) 0 (replicate 64 0) v 24 lu ∙ sym (append-assoc (p ++ (u ∷ [])) (v ∷ []) (replicate 64 0)) in
     let d : paste (((p ++ (u ∷ [])) ++ (v ∷ [])) ++ replicate 64 0) 25 block (length block) ≡ ((p ++ (u ∷ [])) ++ (v ∷ [])) ++ (block ++ []) =
-        paste-at ((p ++ (u ∷ [])) ++ (v ∷ [])) block (replicate 64 0) 25 (length block) lv refl ∙ rw hb refl in
+    paste-at ((p ++ (u ∷ [])) ++ (v ∷ [])) block (replicate 64 0) 25 (length block) lv refl ∙ rw hb refl in
     let e : ((p ++ (u ∷ [])) ++ (v ∷ [])) ++ (block ++ []) ≡ windowOf k u v block =
-        append-assoc (p ++ (u ∷ [])) (v ∷ []) (block ++ [])
-        ∙ append-assoc p (u ∷ []) (v ∷ (block ++ []))
-        ∙ append-assoc Q k (u ∷ v ∷ (block ++ []))
-        ∙ ap (λ (w : List ℕ). Q ++ (k ++ (u ∷ v ∷ w))) (append-nil block) in
+    append-assoc (p ++ (u ∷ [])) (v ∷ []) (block ++ [])
+    ∙ append-assoc p (u ∷ []) (v ∷ (block ++ []))
+    ∙ append-assoc Q k (u ∷ v ∷ (block ++ []))
+    ∙ ap (λ (w : List ℕ). Q ++ (k ++ (u ∷ v ∷ w))) (append-nil block) in
     ap (λ (w : List ℕ). paste (set (set w 23 u) 24 v) 25 block (length block)) a
     ∙ ap (λ (w : List ℕ). paste (set w 24 v) 25 block (length block)) b
     ∙ ap (λ (w : List ℕ). paste w 25 block (length block)) c

@@ -69,9 +69,9 @@ pub block-made : (before rest : List ℕ) → length before ≡ 16 → length re
     → paste (paste (replicate 64 0) 0 before (length before)) 16 rest (length rest) ≡ before ++ rest
 block-made before rest lb lr =
     let a : paste (replicate 64 0) 0 before (length before) ≡ before ++ replicate 48 0 =
-        paste-at [] before (replicate 64 0) 0 (length before) refl refl ∙ rw lb refl in
+    paste-at [] before (replicate 64 0) 0 (length before) refl refl ∙ rw lb refl in
     let b : paste (before ++ replicate 48 0) 16 rest (length rest) ≡ before ++ (rest ++ []) =
-        paste-at before rest (replicate 48 0) 16 (length rest) lb refl ∙ rw lr refl in
+    paste-at before rest (replicate 48 0) 16 (length rest) lb refl ∙ rw lr refl in
     ap (λ (w : List ℕ). paste w 16 rest (length rest)) a ∙ b ∙ ap (λ (w : List ℕ). before ++ w) (append-nil rest)
 
 -- ---- the chain
@@ -87,8 +87,8 @@ chain-more C limit bytes bits index z last g ez el =
     let s : limit + 1 ≡ suc limit = omega arith in
     let t : index + 1 ≡ suc index = omega arith in
     let e : chain C limit M (suc index)
-        ≡ nodeWords C (suc limit) index (digit (eqb (suc index) (sequentialNodes limit bits))) (sequentialPadding limit bits index) (chain C limit M index ++ sequentialWords C limit M index) =
-        chain-suc C M limit index ∙ rw l in
+    ≡ nodeWords C (suc limit) index (digit (eqb (suc index) (sequentialNodes limit bits))) (sequentialPadding limit bits index) (chain C limit M index ++ sequentialWords C limit M index) =
+    chain-suc C M limit index ∙ rw l in
     rw (s, t, ez, el) (sym e)
 
 -- ---- the root

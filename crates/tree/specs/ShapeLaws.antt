@@ -2,11 +2,12 @@
 -- Assumes nothing.
 use mathlib.Core.Path.{_≡_, refl, sym, ap, _∙_}
 use Prim.Native.Nat.{ℕ, zero, suc, _+_, _-_, _*_, _/_, _^_, _≤_, _<_, min, max}
-use native.Mathlib.Nat.{add-div-right, div-eq-of-lt}
+use mathlib.Core.Bool.{Bool, true, false}
+use native.Mathlib.Nat.{add-div-right, div-eq-of-lt, pow-succ'}
 use native.Mathlib.Omega.{arith}
-use borrow.Author.Tests.{eq-eqb, ne-eqb}
+use borrow.Author.Tests.{eq-eqb, ne-eqb, eqb-true, eqb-false}
 use lib.Dec.{eqb}
-use Rattle.tree.specs.Tree.{blocks, blockBits, sequentialBits, outputBits}
+use Rattle.tree.specs.Tree.{blocks, blockBits, sequentialBits, outputBits, mostLevels}
 use Rattle.tree.specs.Count.{nodesFrom, nodesIf, treeNodes}
 use Rattle.tree.specs.Value.{nodesAt, sequentialNodes, pick, topFrom, topLevel}
 use Rattle.tree.specs.ValueLaws.{nodesAt-one, nodesAt-suc, nodesAt-some}
@@ -94,3 +95,36 @@ pub nodes-last : (n c : ℕ) → 0 < c → n ≡ 0 → (c ≡ 1 → ⊥) → nod
 nodes-last n c p e g =
     let b : blocks 3 c ≡ (c + 2) / 3 = omega arith in
     rw (e, ne-eqb c 1 g, b)
+
+-- ---- at most 27 levels
+
+four-pos : (k : ℕ) → 1 ≤ 4 ^ k
+four-pos zero = omega arith
+four-pos (suc k) = omega (arith, pow-succ' 4 k, four-pos k)
+
+nodesAt-power : (m h k : ℕ) → m < 2 ^ 64 → h + k ≡ 26 → nodesAt m (suc h) ≤ 4 ^ k
+nodesAt-power m zero k l e =
+    let s : k ≡ 26 = omega arith in
+    rw (nodesAt-one m, s) (omega arith)
+nodesAt-power m (suc h) k l e =
+    rw (nodesAt-suc m h) (omega (arith, nodesAt-power m h (suc k) l (omega arith), pow-succ' 4 k, four-pos k))
+
+-- level 27 has one node only
+not-top : (m level : ℕ) → m < 2 ^ 64 → level ≤ mostLevels → (nodesAt m level ≡ 1 → ⊥) → level < mostLevels
+not-top m level l h n = go (eqb level mostLevels) refl
+  where
+    go : (b : Bool) → eqb level mostLevels ≡ b → level < mostLevels
+    go true e =
+        let s : level ≡ 27 = eqb-true level 27 e in
+        absurd (n (rw s (omega (arith, nodesAt-power m 26 0 l (omega arith), nodesAt-some m 26))))
+    go false e = omega (arith, eqb-false level 27 e)
+
+pub top-most : (m n level : ℕ) → m < 2 ^ 64 → 0 < level → level ≤ mostLevels → topFrom m n level ≤ mostLevels
+unfolding topFrom
+top-most m zero level l h g = g
+top-most m (suc n) level l h g = go (eqb (nodesAt m level) 1) refl (top-most m n (suc level) l (omega arith))
+  where
+    go : (b : Bool) → eqb (nodesAt m level) 1 ≡ b → (suc level ≤ mostLevels → topFrom m n (suc level) ≤ mostLevels)
+        → pick b level (topFrom m n (suc level)) ≤ mostLevels
+    go true e up = g
+    go false e up = up (not-top m level l g (eqb-false (nodesAt m level) 1 e))

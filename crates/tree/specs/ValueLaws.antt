@@ -54,7 +54,7 @@ pad-part {A} s n q M z h g = drop-part ∙ go (leb s (length D)) refl
         let k : s - min s (length M - n) ≡ s - length (drop n M) = omega (arith, length-D) in
         let w : s ≡ length (drop n M) + (s - length (drop n M)) = omega arith in
         let t : take (s - length (drop n M)) (replicate q z) ≡ replicate (s - length (drop n M)) z =
-            take-replicate (s - length (drop n M)) q z (omega (arith, length-D)) in
+        take-replicate (s - length (drop n M)) q z (omega (arith, length-D)) in
         ap (λ (x : ℕ). take x (drop n M ++ replicate q z)) w
         ∙ take-append-add (drop n M) (replicate q z) (s - length (drop n M))
         ∙ rw (t, k, take-all s (drop n M) (omega arith))
@@ -105,9 +105,9 @@ joined-part f q c i h g =
     let e : c ≡ a + (n + (c - a - n)) = omega arith in
     let z : 0 + a ≡ a = omega arith in
     let s : joinedValues f 0 c ≡ joinedValues f 0 a ++ (joinedValues f a n ++ joinedValues f (a + n) (c - a - n)) =
-        ap (joinedValues f 0) e ∙ joined-add f 0 a (n + (c - a - n)) ∙ rw (z, joined-add f a n (c - a - n)) in
+    ap (joinedValues f 0) e ∙ joined-add f 0 a (n + (c - a - n)) ∙ rw (z, joined-add f a n (c - a - n)) in
     let d : drop (16 * a) (joinedValues f 0 c) ≡ joinedValues f a n ++ joinedValues f (a + n) (c - a - n) =
-        ap (drop (16 * a)) s ∙ drop-at (joinedValues f 0 a) (joinedValues f a n ++ joinedValues f (a + n) (c - a - n)) (16 * a) (length-joinedValues f 0 a h) in
+    ap (drop (16 * a)) s ∙ drop-at (joinedValues f 0 a) (joinedValues f a n ++ joinedValues f (a + n) (c - a - n)) (16 * a) (length-joinedValues f 0 a h) in
     ap (take (16 * q)) d ∙ ends q a n f h (c - a - n) (omega arith)
   where
     -- either the node is full, or no value is left

@@ -61,9 +61,7 @@ impl Block {
     pub fn new() -> Self
         ensures { λ r. ⌜ r .words ≡ replicate 64 0 ⌝ }
     {
-        Self {
-            words: [0u64; 64],
-        }
+        Self { words: [0u64; 64] }
     }
 
     // That the bits of a block are those of the definitions.
@@ -91,19 +89,13 @@ impl Answer {
     pub fn refused(number: u64) -> Self
         ensures { λ r. ⌜ (r .number ≡ number) × (r .count ≡ 0) ⌝ }
     {
-        Self {
-            number,
-            count: 0,
-        }
+        Self { number, count: 0 }
     }
 
     pub fn accepted(count: u64) -> Self
         ensures { λ r. ⌜ (r .number ≡ 0) × (r .count ≡ count) ⌝ }
     {
-        Self {
-            number: 0,
-            count,
-        }
+        Self { number: 0, count }
     }
 }
 
@@ -130,7 +122,15 @@ fn put_digest(message: &[u8], bits: u64, key: &[u8], params: Params, out: &mut [
 }
 
 // The digest of a whole message: its first `bits` bits.
-pub fn hash(message: &[u8], bits: u64, key: &[u8], d: u64, limit: u64, rounds: u64, digest: &mut [u8]) -> Answer
+pub fn hash(
+    message: &[u8],
+    bits: u64,
+    key: &[u8],
+    d: u64,
+    limit: u64,
+    rounds: u64,
+    digest: &mut [u8],
+) -> Answer
     ensures { λ o. ⌜ record { number = o .number; count = o .count; digest = now (digest .exit) } ≡ hashOf (now (message .entry)) bits (record { key = now (key .entry); d = d; limit = limit; rounds = rounds }) (now (digest .entry)) ⌝ }
 {
     let params = Params::new(key.len() as u64, d, limit, rounds);

@@ -38,7 +38,14 @@ pub fn put_words(dst: &mut [u64], at: usize, src: &[u64])
 }
 
 // The 16 words of a node: the window is Q, K, U, V and the block.
-pub fn compress_node(k: &[u64], u: u64, v: u64, block: &[u64], table: &[u64], rounds: usize) -> [u64; 16]
+pub fn compress_node(
+    k: &[u64],
+    u: u64,
+    v: u64,
+    block: &[u64],
+    table: &[u64],
+    rounds: usize,
+) -> [u64; 16]
     requires { ⌜ (length (now k) ≡ 8) × (length (now block) ≡ 64) × RoundTable (now table) × (rounds ≤ length (now table)) ⌝ }
     ensures { λ r. ⌜ r ≡ compressed rounds (windowOf (now (k .entry)) u v (now (block .entry))) ⌝ }
 {

@@ -5,6 +5,7 @@ ghost use Rattle.tree.specs.Tree.{blocks};
 ghost use Rattle.tree.specs.Count.{treeNodes};
 ghost use Rattle.tree.specs.Value.{held, nodesAt, sequentialNodes, topLevel};
 use super::Block;
+use super::Params;
 
 // How many blocks of a size m things fill: at least one.
 pub fn blocks_of(size: u64, m: u64) -> u64
@@ -53,10 +54,10 @@ pub fn sequential_nodes(limit: u64, bits: u64) -> u64
     blocks_of(3, nodes_at(bits, limit))
 }
 
-// The root's level: the first of one node, or the sequential one above the limit.
+// The root's level: the first of one node, or the sequential one above the limit. No tree has more levels than 27.
 pub fn top_level(limit: u64, bits: u64) -> u64
     requires { ⌜ limit ≤ 64 ⌝ }
-    ensures { λ r. ⌜ r ≡ topLevel limit bits ⌝ }
+    ensures { λ r. do ⌜ (r ≡ topLevel limit bits) × (r ≤ (← ⟦Params::LEVELS⟧ .entry)) ⌝ }
 {
     let mut level: u64 = 1;
     let mut nodes = blocks_of(Block::BITS, bits);

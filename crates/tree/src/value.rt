@@ -15,7 +15,16 @@ use super::node;
 use super::shape;
 
 // The value of the node with this place, z, padding bits and block.
-fn made(params: Params, k: &[u64], table: &[u64], level: u64, index: u64, z: u64, p: u64, block: &[u64]) -> [u64; 16]
+fn made(
+    params: Params,
+    k: &[u64],
+    table: &[u64],
+    level: u64,
+    index: u64,
+    z: u64,
+    p: u64,
+    block: &[u64],
+) -> [u64; 16]
     requires { ⌜ Ready params (now k) (now table) × (level < 256) × (index < 2 ^ 56) × (z < 16) × (p < 65536) × (length (now block) ≡ 64) ⌝ }
     ensures { λ r. ⌜ r ≡ nodeWords (shared (now (k .entry)) params) level index z p (now (block .entry)) ⌝ }
 {
@@ -26,7 +35,15 @@ fn made(params: Params, k: &[u64], table: &[u64], level: u64, index: u64, z: u64
 }
 
 // The value of a node at level 1: its block is filled with message bits.
-fn leaf(message: &[u8], bits: u64, params: Params, k: &[u64], table: &[u64], index: u64, z: u64) -> [u64; 16]
+fn leaf(
+    message: &[u8],
+    bits: u64,
+    params: Params,
+    k: &[u64],
+    table: &[u64],
+    index: u64,
+    z: u64,
+) -> [u64; 16]
     requires { ⌜ Ready params (now k) (now table) × (bits ≤ 8 * length (now message)) × (index < nodesAt bits 1) × (z < 16) ⌝ }
     ensures { λ r. ⌜ r ≡ value (shared (now (k .entry)) params) (pieceBits (now (message .entry)) bits) 1 index z ⌝ }
 {
@@ -40,7 +57,16 @@ fn leaf(message: &[u8], bits: u64, params: Params, k: &[u64], table: &[u64], ind
 
 // The value of the node at a parallel level and an index: at level 1 from the message, above it from the values of its
 // children, one level below. z is 1 at the root.
-pub fn value(message: &[u8], bits: u64, params: Params, k: &[u64], table: &[u64], level: u64, index: u64, z: u64) -> [u64; 16]
+pub fn value(
+    message: &[u8],
+    bits: u64,
+    params: Params,
+    k: &[u64],
+    table: &[u64],
+    level: u64,
+    index: u64,
+    z: u64,
+) -> [u64; 16]
     requires { ⌜ Ready params (now k) (now table) × (bits ≤ 8 * length (now message)) × (0 < level) × (level < 256) × (index < nodesAt bits level) × (z < 16) ⌝ }
     ensures { λ r. ⌜ r ≡ value (shared (now (k .entry)) params) (pieceBits (now (message .entry)) bits) level index z ⌝ }
 {
@@ -72,7 +98,14 @@ fn message_words(message: &[u8], bits: u64, index: u64) -> [u64; 48]
 }
 
 // The same, of the values of its children, one level below.
-fn child_words(message: &[u8], bits: u64, params: Params, k: &[u64], table: &[u64], index: u64) -> [u64; 48]
+fn child_words(
+    message: &[u8],
+    bits: u64,
+    params: Params,
+    k: &[u64],
+    table: &[u64],
+    index: u64,
+) -> [u64; 48]
     requires { ⌜ Ready params (now k) (now table) × (bits ≤ 8 * length (now message)) × (0 < params .limit) × (index < sequentialNodes (params .limit) bits) ⌝ }
     ensures { λ r. ⌜ r ≡ sequentialWords (shared (now (k .entry)) params) (params .limit) (pieceBits (now (message .entry)) bits) index ⌝ }
 {
@@ -90,7 +123,14 @@ fn child_words(message: &[u8], bits: u64, params: Params, k: &[u64], table: &[u6
 }
 
 // The 48 words that the sequential node at an index takes beside the chain.
-fn sequential_words(message: &[u8], bits: u64, params: Params, k: &[u64], table: &[u64], index: u64) -> [u64; 48]
+fn sequential_words(
+    message: &[u8],
+    bits: u64,
+    params: Params,
+    k: &[u64],
+    table: &[u64],
+    index: u64,
+) -> [u64; 48]
     requires { ⌜ Ready params (now k) (now table) × (bits ≤ 8 * length (now message)) × (index < sequentialNodes (params .limit) bits) ⌝ }
     ensures { λ r. ⌜ r ≡ sequentialWords (shared (now (k .entry)) params) (params .limit) (pieceBits (now (message .entry)) bits) index ⌝ }
 {
@@ -112,7 +152,16 @@ fn sequential_padding(limit: u64, bits: u64, index: u64) -> u64
 }
 
 // The value of the sequential node at an index: the chain, and then its own words.
-fn sequential_value(message: &[u8], bits: u64, params: Params, k: &[u64], table: &[u64], index: u64, z: u64, before: &[u64]) -> [u64; 16]
+fn sequential_value(
+    message: &[u8],
+    bits: u64,
+    params: Params,
+    k: &[u64],
+    table: &[u64],
+    index: u64,
+    z: u64,
+    before: &[u64],
+) -> [u64; 16]
     requires { ⌜ Ready params (now k) (now table) × (bits ≤ 8 * length (now message)) × (index < sequentialNodes (params .limit) bits) × (z < 16) × (length (now before) ≡ 16) ⌝ }
     ensures { λ r. ⌜ r ≡ nodeWords (shared (now (k .entry)) params) (params .limit + 1) index z (sequentialPadding (params .limit) bits index) (now (before .entry) ++ sequentialWords (shared (now (k .entry)) params) (params .limit) (pieceBits (now (message .entry)) bits) index) ⌝ }
 {

@@ -1,3 +1,4 @@
+-- `tree::default_rounds` meets its contract. Assumes nothing.
 use Rattle.tree.specs.HashLaws.{told-refused, told-accepted}
 use mathlib.Core.Path.{_≡_, sym, _∙_}
 use native.Mathlib.Omega.{arith}

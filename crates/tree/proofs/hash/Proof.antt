@@ -1,3 +1,4 @@
+-- `tree::hash` meets its contract: one equation for every input. Assumes nothing.
 use Rattle.tree.specs.HashLaws.{Accepted, number-sized, number-accepted, refused-answer, accepted-answer}
 use Rattle.tree.specs.declared.Params.{Params}
 use Rattle.tree.specs.Ready.{paramsOf}
@@ -31,46 +32,45 @@ refused-requires : tie.Need-refused-requires
 refused-requires c κs = search needs
 
 returns : tie.Need-returns
-returns c = 
+returns c =
     let number = c .before .before in
     let a = number .before .before .before .before .before .args in
     let m = a .message .now in
     let out = a .digest .now in
     let P : Tree.Params = record { key = a .key .now; d = a .d; limit = a .limit; rounds = a .rounds } in
     let n : number .hash-number .result ≡ hashNumber m (a .bits) P out =
-        number .hash-number .ensures
-        ∙ ap (λ (p : Params). hashNumber (replicate (length m) 0) (a .bits) (sized (p .key) (p .d) (p .limit) (p .rounds)) (replicate (length out) 0)) (number .before .new .ensures)
-        ∙ number-sized m (a .bits) (a .key .now) (a .d) (a .limit) (a .rounds) out in
+    number .hash-number .ensures
+    ∙ ap (λ (p : Params). hashNumber (replicate (length m) 0) (a .bits) (sized (p .key) (p .d) (p .limit) (p .rounds)) (replicate (length out) 0)) (number .before .new .ensures)
+    ∙ number-sized m (a .bits) (a .key .now) (a .d) (a .limit) (a .rounds) out in
     rw (c .refused .ensures .0, c .refused .ensures .1) (refused-answer m (a .bits) P out (number .hash-number .result) n (c .before .if1 .taken))
 
 put-digest-requires : tie.Need-put-digest-requires
-put-digest-requires c κs = 
+put-digest-requires c κs =
     let number = c .before .before in
     let a = number .before .before .before .before .before .args in
     let m = a .message .now in
     let out = a .digest .now in
     let P : Tree.Params = record { key = a .key .now; d = a .d; limit = a .limit; rounds = a .rounds } in
     let n : number .hash-number .result ≡ hashNumber m (a .bits) P out =
-        number .hash-number .ensures
-        ∙ ap (λ (p : Params). hashNumber (replicate (length m) 0) (a .bits) (sized (p .key) (p .d) (p .limit) (p .rounds)) (replicate (length out) 0)) (number .before .new .ensures)
-        ∙ number-sized m (a .bits) (a .key .now) (a .d) (a .limit) (a .rounds) out in
-    let ok = number-accepted m (a .bits) P out (sym n ∙ c .before .if1 .left) in
-    (
+    number .hash-number .ensures
+    ∙ ap (λ (p : Params). hashNumber (replicate (length m) 0) (a .bits) (sized (p .key) (p .d) (p .limit) (p .rounds)) (replicate (length out) 0)) (number .before .new .ensures)
+    ∙ number-sized m (a .bits) (a .key .now) (a .d) (a .limit) (a .rounds) out in
+    let ok = number-accepted m (a .bits) P out (sym n ∙ c .before .if1 .left) in (
       subst (λ (p : Params). Accepted m (a .bits) (paramsOf (a .key .now) p) out) (sym (number .before .new .ensures)) ok,
       ap (λ (p : Params). p .key) (number .before .new .ensures),
     )
 
 tree-nodes-requires : tie.Need-tree-nodes-requires
-tree-nodes-requires c κs = 
+tree-nodes-requires c κs =
     let number = c .before .before .before .before .before in
     let a = number .before .before .before .before .before .args in
     let m = a .message .now in
     let out = a .digest .now in
     let P : Tree.Params = record { key = a .key .now; d = a .d; limit = a .limit; rounds = a .rounds } in
     let n : number .hash-number .result ≡ hashNumber m (a .bits) P out =
-        number .hash-number .ensures
-        ∙ ap (λ (p : Params). hashNumber (replicate (length m) 0) (a .bits) (sized (p .key) (p .d) (p .limit) (p .rounds)) (replicate (length out) 0)) (number .before .new .ensures)
-        ∙ number-sized m (a .bits) (a .key .now) (a .d) (a .limit) (a .rounds) out in
+    number .hash-number .ensures
+    ∙ ap (λ (p : Params). hashNumber (replicate (length m) 0) (a .bits) (sized (p .key) (p .d) (p .limit) (p .rounds)) (replicate (length out) 0)) (number .before .new .ensures)
+    ∙ number-sized m (a .bits) (a .key .now) (a .d) (a .limit) (a .rounds) out in
     number-accepted m (a .bits) P out (sym n ∙ c .before .before .before .before .if1 .left) .ranges .limitHigh
 
 accepted-requires : tie.Need-accepted-requires
@@ -80,7 +80,7 @@ same-length : tie.Need-same-length
 same-length c = search needs
 
 returns-2 : tie.Need-returns-2
-returns-2 c = 
+returns-2 c =
     let nodes = c .before in
     let put = nodes .before .before .before in
     let test = put .before .before in
@@ -90,9 +90,9 @@ returns-2 c =
     let out = a .digest .now in
     let P : Tree.Params = record { key = a .key .now; d = a .d; limit = a .limit; rounds = a .rounds } in
     let n : number .hash-number .result ≡ hashNumber m (a .bits) P out =
-        number .hash-number .ensures
-        ∙ ap (λ (p : Params). hashNumber (replicate (length m) 0) (a .bits) (sized (p .key) (p .d) (p .limit) (p .rounds)) (replicate (length out) 0)) (number .before .new .ensures)
-        ∙ number-sized m (a .bits) (a .key .now) (a .d) (a .limit) (a .rounds) out in
+    number .hash-number .ensures
+    ∙ ap (λ (p : Params). hashNumber (replicate (length m) 0) (a .bits) (sized (p .key) (p .d) (p .limit) (p .rounds)) (replicate (length out) 0)) (number .before .new .ensures)
+    ∙ number-sized m (a .bits) (a .key .now) (a .d) (a .limit) (a .rounds) out in
     let z : hashNumber m (a .bits) P out ≡ 0 = sym n ∙ test .if1 .left in
     let ok = number-accepted m (a .bits) P out z in
     rw (c .accepted .ensures .0, c .accepted .ensures .1)

@@ -1,3 +1,4 @@
+-- `tree::put_digest` meets its contract: the root worked out node by node is the root of the levels. Assumes nothing.
 use Rattle.tree.specs.HashLaws.{digest-root, common-key}
 use Rattle.tree.specs.BlockLaws.{length-pieceBits}
 use Rattle.tree.specs.Ready.{shared, paramsOf}
@@ -34,12 +35,11 @@ slice-aggregate-root-2 : tie.Need-slice-aggregate-root-2
 slice-aggregate-root-2 c = search needs
 
 root-requires : tie.Need-root-requires
-root-requires c κs = 
+root-requires c κs =
     let constants = c .before .before in
     let k = constants .before in
     let s = k .before .before .before .before in
-    let r = s .pre .0 .ranges in
-    (
+    let r = s .pre .0 .ranges in (
       record {
         keyHigh = omega (arith, s .pre .1, r .keyBytes);
         dHigh = r .dHigh;
@@ -62,7 +62,7 @@ same-length : tie.Need-same-length
 same-length c = search needs
 
 returns : tie.Need-returns
-returns c = 
+returns c =
     let write = c .before .before in
     let root = write .before .before .before in
     let k = root .before .before .before .before in
@@ -82,9 +82,9 @@ returns c =
       roundsHigh = r .roundsHigh;
     } in
     let e : C ≡ commonOf P =
-        ap (λ (w : List ℕ). common w (p .key) (p .d) (p .limit) (p .rounds)) (k .key-words .ensures)
-        ∙ ap (λ (n : ℕ). common (keyWords (a .key .now)) n (p .d) (p .limit) (p .rounds)) (s .pre .1)
-        ∙ common-key (a .key .now) (p .d) (p .limit) (p .rounds) in
+    ap (λ (w : List ℕ). common w (p .key) (p .d) (p .limit) (p .rounds)) (k .key-words .ensures)
+    ∙ ap (λ (n : ℕ). common (keyWords (a .key .now)) n (p .d) (p .limit) (p .rounds)) (s .pre .1)
+    ∙ common-key (a .key .now) (p .d) (p .limit) (p .rounds) in
     write .write-digest .ensures
     ∙ ap (λ (w : List ℕ). w ++ drop (digestBytes (p .d)) (a .out .now))
     (digest-root P M C (root .root .result) valid (omega (arith, length-pieceBits (a .message .now) (a .bits) (s .pre .0 .enough), s .fits .bits .fits)) e (root .root .ensures))

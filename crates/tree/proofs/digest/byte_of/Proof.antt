@@ -1,3 +1,4 @@
+-- `tree::digest::byte_of` meets its contract. Assumes nothing.
 use Rattle.tree.specs.DigestLaws.{byte-value}
 use native.Mathlib.Omega.{arith}
 use borrow.Author.Needs.{needs}

@@ -1,3 +1,4 @@
+-- `tree::digest::key_words` meets its contract: the filled words are those of the key followed by zero bytes. Assumes nothing.
 use Rattle.tree.specs.DigestLaws.{key-filled}
 use mathlib.Core.Path.{_≡_, _∙_}
 use native.Mathlib.Omega.{arith}

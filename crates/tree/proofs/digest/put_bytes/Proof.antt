@@ -1,3 +1,4 @@
+-- `tree::digest::put_bytes` meets its contract. The loop's invariant: the first i bytes are written, the rest is as it was. Assumes nothing.
 use Rattle.tree.specs.DigestLaws.{bytes-none, bytes-more}
 use Rattle.bits.specs.Bits.{bitsOf, numbers}
 use lib.ListN.{length, drop, set, length-set}
@@ -34,15 +35,14 @@ loop-less : tie.Need-loop-less Inv-loop μ-loop
 loop-less c = search needs
 
 loop-again : tie.Need-loop-again Inv-loop μ-loop
-loop-again c = 
+loop-again c =
     let at = c .before .before in
     let s = at .before .before .before in
-    let i = at .loop .i in
-    (
+    let i = at .loop .i in (
       omega (arith, c .before .loop-test .taken),
       ap (λ (w : List ℕ). set w i (c .byte-of .result)) (at .loop .inv .1)
-      ∙ ap (set (numbers 8 i (bitsOf 64 (s .args .words .now)) ++ drop i (s .args .out .now)) i) (c .byte-of .ensures)
-      ∙ bytes-more (s .args .words .now) (s .args .out .now) i (omega (arith, s .pre .1, c .before .loop-test .taken)),
+          ∙ ap (set (numbers 8 i (bitsOf 64 (s .args .words .now)) ++ drop i (s .args .out .now)) i) (c .byte-of .ensures)
+          ∙ bytes-more (s .args .words .now) (s .args .out .now) i (omega (arith, s .pre .1, c .before .loop-test .taken)),
       simp length-set (at .loop .inv .2),
     )
 
@@ -50,7 +50,7 @@ same-length : tie.Need-same-length Inv-loop μ-loop
 same-length c = c .before .loop .inv .2
 
 returns : tie.Need-returns Inv-loop μ-loop
-returns c = 
+returns c =
     let at = c .before in
     let s = at .before .before .before in
     let e : at .loop .i ≡ s .args .n = omega (arith, at .loop .inv .0, c .loop-test .left) in

@@ -1,3 +1,4 @@
+-- `tree::digest::write_digest` meets its contract. Assumes nothing.
 use Rattle.tree.specs.DigestLaws.{digest-bytes}
 use Rattle.bits.specs.Bits.{bitsOf, numbers, filled}
 use lib.ListN.{drop, replicate}
@@ -44,7 +45,7 @@ same-length : tie.Need-same-length
 same-length c = search needs
 
 returns : tie.Need-returns
-returns c = 
+returns c =
     let put2 = c .before .before in
     let fill = put2 .before .before .before .before in
     let put1 = fill .before .before .before .before in
@@ -55,7 +56,7 @@ returns c =
     let n = (d + 7) / 8 in
     let bytes : put1 .put-bytes .last .0 ≡ numbers 8 128 (bitsOf 64 root) = put1 .put-bytes .ensures ∙ append-nil (numbers 8 128 (bitsOf 64 root)) in
     let last : fill .fill .last .0 ≡ filled (replicate 8 0) 0 (numbers 8 128 (bitsOf 64 root)) (8 * (start / 8) + start % 8) d =
-        fill .fill .ensures ∙ ap (λ (w : List ℕ). filled (replicate 8 0) 0 w (8 * (start / 8) + start % 8) d) bytes in
+    fill .fill .ensures ∙ ap (λ (w : List ℕ). filled (replicate 8 0) 0 w (8 * (start / 8) + start % 8) d) bytes in
     put2 .put-bytes2 .ensures
     ∙ ap (λ (w : List ℕ). numbers 8 n (bitsOf 64 w) ++ drop n (s .args .out .now)) last
     ∙ ap (λ (w : List ℕ). w ++ drop n (s .args .out .now)) (digest-bytes root d (8 * (start / 8) + start % 8) (s .pre .0) (s .pre .1) (s .pre .2) (omega arith))

@@ -1,3 +1,4 @@
+-- `tree::node::compress_node` meets its contract: the window is Q, K, U, V and the block. Assumes nothing.
 use mathlib.Core.Path.{_≡_, _∙_, ap}
 use mathlib.Core.List.{List}
 use Prim.Native.Nat.{ℕ}

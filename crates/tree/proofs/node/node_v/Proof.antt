@@ -1,3 +1,4 @@
+-- `tree::node::node_v` meets its contract: no field of V reaches into the one above it. Assumes nothing.
 use lib.ListN.{length-replicate}
 use Prim.Native.Nat.{ℕ}
 use native.Mathlib.Omega.{arith}

@@ -1,3 +1,4 @@
+-- `tree::node::put_words` meets its contract. The loop's invariant: the first i words are copied. Assumes nothing.
 use lib.Seq.{paste, paste-zero, paste-suc}
 use lib.ListN.{length, length-set}
 use native.Mathlib.Numerals.{add-one}

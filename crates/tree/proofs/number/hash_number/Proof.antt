@@ -1,3 +1,4 @@
+-- `tree::number::hash_number` meets its contract, one law for each number. Assumes nothing.
 use Rattle.tree.specs.HashLaws.{number-over, number-params, number-short, number-none, params-ranges}
 use Rattle.tree.specs.Value.{sized}
 use lib.ListN.{length, replicate, length-replicate}

@@ -1,3 +1,4 @@
+-- `tree::number::over` meets its contract. Assumes nothing.
 use Rattle.tree.specs.HashLaws.{over-by-division}
 use native.Mathlib.Omega.{arith}
 use borrow.Author.Needs.{needs}

@@ -1,3 +1,4 @@
+-- `tree::number::params_number` meets its contract, one law for each number. Assumes nothing.
 use Rattle.tree.specs.HashLaws.{number-size, number-key, number-limit, number-rounds, number-fair}
 use mathlib.Core.Path.{_≡_, sym, _∙_}
 use native.Mathlib.Omega.{arith}

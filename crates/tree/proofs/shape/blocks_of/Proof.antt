@@ -1,3 +1,4 @@
+-- `tree::shape::blocks_of` meets its contract. Assumes nothing.
 use Rattle.tree.specs.ShapeLaws.{blocks-some, blocks-none}
 use native.Mathlib.Nat.{div-le-self}
 use Prim.Native.Nat.{_-_}

@@ -1,3 +1,4 @@
+-- `tree::shape::nodes_at` meets its contract. The loop's invariant: the nodes of the level that is reached. Assumes nothing.
 use Rattle.tree.specs.ShapeLaws.{nodesAt-more}
 use Rattle.tree.specs.ValueLaws.{nodesAt-one}
 use Rattle.tree.specs.Value.{nodesAt}

@@ -1,3 +1,4 @@
+-- `tree::shape::sequential_nodes` meets its contract. Assumes nothing.
 use Rattle.tree.specs.ShapeLaws.{sequentialNodes-zero, sequentialNodes-more}
 use Rattle.tree.specs.Tree.{blocks}
 use mathlib.Core.Path.{_≡_, _∙_, ap, sym}

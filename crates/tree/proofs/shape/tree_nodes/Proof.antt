@@ -1,3 +1,4 @@
+-- `tree::shape::tree_nodes` meets its contract. The loop's invariant: the sum, with the nodes from this level up, is the tree's number. Assumes nothing.
 use Rattle.tree.specs.ShapeLaws.{nodes-sequential, nodes-start, nodes-one, nodes-more, nodes-last}
 use Rattle.tree.specs.Count.{nodesFrom, treeNodes}
 use Rattle.tree.specs.Tree.{blocks}
@@ -30,10 +31,9 @@ sub-left : tie.Need-sub-left Inv-loop μ-loop
 sub-left c = search needs
 
 loop-holds : tie.Need-loop-holds Inv-loop μ-loop
-loop-holds c = 
+loop-holds c =
     let s = c .before .before in
-    let e = c .blocks-of2 .ensures in
-    (
+    let e = c .blocks-of2 .ensures in (
       omega (arith, e),
       omega (arith, e, s .fits .bits .fits),
       ap (λ (n : ℕ). 0 + nodesFrom (s .args .limit - 1) n) e ∙ nodes-start (s .args .limit) (s .args .bits) (c .before .if1 .left),
@@ -58,7 +58,7 @@ loop-less : tie.Need-loop-less Inv-loop μ-loop
 loop-less c = omega (arith, c .before .before .loop-test .taken)
 
 loop-again : tie.Need-loop-again Inv-loop μ-loop
-loop-again c = 
+loop-again c =
     let at = c .before .before .before in
     let sum = at .loop .sum in
     let nodes = at .loop .nodes in
@@ -85,7 +85,7 @@ add-result-4 : tie.Need-add-result-4 Inv-loop μ-loop
 add-result-4 c = let at = c .before .before .before in record { fits = omega (arith, c .blocks-of4 .ensures, at .loop .inv .1, at .loop .inv .0) }
 
 returns-4 : tie.Need-returns-4 Inv-loop μ-loop
-returns-4 c = 
+returns-4 c =
     let at = c .before .before .before in
     let m = nodes-last (at .loop .left) (at .loop .nodes) (at .loop .inv .0) (omega (arith, c .before .before .loop-test .left)) (c .before .if3 .left) in
     omega (arith, m, c .blocks-of4 .ensures, at .loop .inv .2)

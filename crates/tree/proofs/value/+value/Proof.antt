@@ -1,3 +1,4 @@
+-- `tree::value::value` meets its contract. The level falls at each call of itself. The loop's invariant: the block holds the values of the first j children. Assumes nothing.
 use Rattle.tree.specs.Value.{held}
 use lib.Seq.{paste}
 use Rattle.tree.specs.BlockLaws.{child-none, child-more, child-index, node-index, value-made, value-length}
@@ -70,7 +71,7 @@ value-returns : (t : ℕ) → value-lts.Need-returns (
   made-reads.Asked,
   made-reads.Learnt,
 ) (value-at t) value.Post value-Inv-loop value-μ-loop
-value-returns t c = 
+value-returns t c =
     let a = c .before .before .before .before .before .args in
     c .leaf .ensures ∙ ap (λ (l : ℕ). spec.value (shared (a .k .now) (a .params)) (pieceBits (a .message .now) (a .bits)) l (a .index) (a .z)) (sym (c .before .if1 .taken))
 
@@ -120,7 +121,7 @@ value-taken-requires : (t : ℕ) → value-lts.Need-taken-requires (
   made-reads.Asked,
   made-reads.Learnt,
 ) (value-at t) value.Post value-Inv-loop value-μ-loop
-value-taken-requires t c κs = 
+value-taken-requires t c κs =
     let s = c .before .before .before .before .before in
     rw (c .nodes-at .ensures) (child-index (s .args .bits) (s .args .level) (s .args .index) (omega (arith, s .pre .1 .2, c .before .if1 .left)) (s .pre .1 .4))
 
@@ -138,7 +139,7 @@ value-loop-holds : (t : ℕ) → value-lts.Need-loop-holds (
   made-reads.Asked,
   made-reads.Learnt,
 ) (value-at t) value.Post value-Inv-loop value-μ-loop
-value-loop-holds t c = 
+value-loop-holds t c =
     let a = c .before .before .before .before .before .before .args in
     (omega arith, child-none (λ i. spec.value (shared (a .k .now) (a .params)) (pieceBits (a .message .now) (a .bits)) (a .level - 1) i 0) 4 (4 * a .index), refl)
 
@@ -172,7 +173,7 @@ value-mul-value : (t : ℕ) → value-lts.Need-mul-value (
   made-reads.Asked,
   made-reads.Learnt,
 ) (value-at t) value.Post value-Inv-loop value-μ-loop
-value-mul-value t c = 
+value-mul-value t c =
     let s = c .before .before .before .before .before .before .before .before in
     record { fits = omega (arith, node-index (s .args .bits) (s .args .level) (s .args .index) (s .fits .bits .fits) (s .pre .1 .2) (s .pre .1 .4)) }
 
@@ -190,7 +191,7 @@ value-add-value : (t : ℕ) → value-lts.Need-add-value (
   made-reads.Asked,
   made-reads.Learnt,
 ) (value-at t) value.Post value-Inv-loop value-μ-loop
-value-add-value t c = 
+value-add-value t c =
     let s = c .before .before .before .before .before .before .before .before in
     let i = node-index (s .args .bits) (s .args .level) (s .args .index) (s .fits .bits .fits) (s .pre .1 .2) (s .pre .1 .4) in
     record { fits = omega (arith, i, c .before .before .taken .ensures, c .loop-test .taken) }
@@ -209,7 +210,7 @@ value-value-requires : (t : ℕ) → value-lts.Need-value-requires (
   made-reads.Asked,
   made-reads.Learnt,
 ) (value-at t) value.Post value-Inv-loop value-μ-loop
-value-value-requires t c κs = 
+value-value-requires t c κs =
     let at = c .before in
     let s = at .before .before .before .before .before .before .before in
     let one = at .before .before .before .if1 .left in (
@@ -286,14 +287,14 @@ value-put-words-requires : (t : ℕ) → value-lts.Need-put-words-requires (
   made-reads.Asked,
   made-reads.Learnt,
 ) (value-at t) value.Post value-Inv-loop value-μ-loop
-value-put-words-requires t c κs = 
+value-put-words-requires t c κs =
     let at = c .before .before .before .before in
     let s = at .before .before .before .before .before .before .before in
     let a = s .args in
     let one = at .before .before .before .if1 .left in
     let l : length (c .before .before .value .result) ≡ 16 =
-        ap length (c .before .before .value .ensures)
-        ∙ value-length (shared (a .k .now) (a .params)) (pieceBits (a .message .now) (a .bits)) (a .level - 1) (4 * a .index + at .loop .j) 0 (s .pre .1 .0 .kLength) (omega (arith, s .pre .1 .2, one)) in
+    ap length (c .before .before .value .ensures)
+    ∙ value-length (shared (a .k .now) (a .params)) (pieceBits (a .message .now) (a .bits)) (a .level - 1) (4 * a .index + at .loop .j) 0 (s .pre .1 .0 .kLength) (omega (arith, s .pre .1 .2, one)) in
     omega (arith, l, at .loop .inv .2, at .before .taken .ensures, c .before .before .before .loop-test .taken)
 
 value-add-j : (t : ℕ) → value-lts.Need-add-j (
@@ -342,7 +343,7 @@ value-loop-again : (t : ℕ) → value-lts.Need-loop-again (
   made-reads.Asked,
   made-reads.Learnt,
 ) (value-at t) value.Post value-Inv-loop value-μ-loop
-value-loop-again t c = 
+value-loop-again t c =
     let at = c .before .before .before .before .before .before in
     let s = at .before .before .before .before .before .before .before in
     let a = s .args in
@@ -352,13 +353,12 @@ value-loop-again t c =
     let C = shared (a .k .now) (a .params) in
     let M = pieceBits (a .message .now) (a .bits) in
     let f : ℕ → List ℕ = λ i. spec.value (shared (a .k .now) (a .params)) (pieceBits (a .message .now) (a .bits)) (a .level - 1) i 0 in
-    let len : (i : ℕ) → length (f i) ≡ 16 = λ i. value-length C M (a .level - 1) i 0 (s .pre .1 .0 .kLength) (omega (arith, s .pre .1 .2, one)) in
-    (
+    let len : (i : ℕ) → length (f i) ≡ 16 = λ i. value-length C M (a .level - 1) i 0 (s .pre .1 .0 .kLength) (omega (arith, s .pre .1 .2, one)) in (
       omega (arith, c .before .before .before .before .before .loop-test .taken),
       c .before .put-words .ensures
-      ∙ ap (λ (w : List ℕ). paste w (16 * j) child (length child)) (at .loop .inv .1)
-      ∙ ap (λ (w : List ℕ). paste (childWords f 4 (4 * a .index) j) (16 * j) w (length w)) (c .before .before .before .before .value .ensures)
-      ∙ child-more f 4 (4 * a .index) j len (omega (arith, at .before .taken .ensures, c .before .before .before .before .before .loop-test .taken)),
+          ∙ ap (λ (w : List ℕ). paste w (16 * j) child (length child)) (at .loop .inv .1)
+          ∙ ap (λ (w : List ℕ). paste (childWords f 4 (4 * a .index) j) (16 * j) w (length w)) (c .before .before .before .before .value .ensures)
+          ∙ child-more f 4 (4 * a .index) j len (omega (arith, at .before .taken .ensures, c .before .before .before .before .before .loop-test .taken)),
       c .before .put-words .kept .0 ∙ at .loop .inv .2,
     )
 
@@ -424,10 +424,9 @@ value-made-requires : (t : ℕ) → value-lts.Need-made-requires (
   made-reads.Asked,
   made-reads.Learnt,
 ) (value-at t) value.Post value-Inv-loop value-μ-loop
-value-made-requires t c κs = 
+value-made-requires t c κs =
     let at = c .before .before in
-    let s = at .before .before .before .before .before .before .before in
-    (
+    let s = at .before .before .before .before .before .before .before in (
       s .pre .1 .0,
       s .pre .1 .3,
       node-index (s .args .bits) (s .args .level) (s .args .index) (s .fits .bits .fits) (s .pre .1 .2) (s .pre .1 .4),
@@ -450,7 +449,7 @@ value-returns-2 : (t : ℕ) → value-lts.Need-returns-2 (
   made-reads.Asked,
   made-reads.Learnt,
 ) (value-at t) value.Post value-Inv-loop value-μ-loop
-value-returns-2 t c = 
+value-returns-2 t c =
     let at = c .before .before .before in
     let s = at .before .before .before .before .before .before .before in
     let a = s .args in

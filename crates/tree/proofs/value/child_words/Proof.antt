@@ -1,3 +1,4 @@
+-- `tree::value::child_words` meets its contract. The loop's invariant: the words hold the values of the first j children. Assumes nothing.
 use Rattle.tree.specs.SequentialLaws.{third-index, sequential-index, words-children}
 use Rattle.tree.specs.BlockLaws.{child-none, child-more, value-length}
 use Rattle.tree.specs.Ready.{shared}
@@ -54,13 +55,13 @@ slice-aggregate-put-words-2 : tie.Need-slice-aggregate-put-words-2 Inv-loop μ-l
 slice-aggregate-put-words-2 c = search needs
 
 put-words-requires : tie.Need-put-words-requires Inv-loop μ-loop
-put-words-requires c κs = 
+put-words-requires c κs =
     let at = c .before .before .before .before in
     let s = at .before .before .before .before .before .before in
     let a = s .args in
     let l : length (c .before .before .value .result) ≡ 16 =
-        ap length (c .before .before .value .ensures)
-        ∙ value-length (shared (a .k .now) (a .params)) (pieceBits (a .message .now) (a .bits)) (a .params .limit) (3 * a .index + at .loop .j) 0 (s .pre .0 .kLength) (s .pre .2) in
+    ap length (c .before .before .value .ensures)
+    ∙ value-length (shared (a .k .now) (a .params)) (pieceBits (a .message .now) (a .bits)) (a .params .limit) (3 * a .index + at .loop .j) 0 (s .pre .0 .kLength) (s .pre .2) in
     omega (arith, l, at .loop .inv .2, at .before .taken .ensures, c .before .before .before .loop-test .taken)
 
 add-j : tie.Need-add-j Inv-loop μ-loop
@@ -70,7 +71,7 @@ loop-less : tie.Need-loop-less Inv-loop μ-loop
 loop-less c = search needs
 
 loop-again : tie.Need-loop-again Inv-loop μ-loop
-loop-again c = 
+loop-again c =
     let at = c .before .before .before .before .before .before in
     let s = at .before .before .before .before .before .before in
     let a = s .args in
@@ -78,18 +79,17 @@ loop-again c =
     let child = c .before .before .before .before .value .result in
     let f : ℕ → List ℕ = λ i. spec.value (shared (a .k .now) (a .params)) (pieceBits (a .message .now) (a .bits)) (a .params .limit) i 0 in
     let len : (i : ℕ) → length (f i) ≡ 16 =
-        λ i. value-length (shared (a .k .now) (a .params)) (pieceBits (a .message .now) (a .bits)) (a .params .limit) i 0 (s .pre .0 .kLength) (s .pre .2) in
-    (
+    λ i. value-length (shared (a .k .now) (a .params)) (pieceBits (a .message .now) (a .bits)) (a .params .limit) i 0 (s .pre .0 .kLength) (s .pre .2) in (
       omega (arith, c .before .before .before .before .before .loop-test .taken),
       c .before .put-words .ensures
-      ∙ ap (λ (w : List ℕ). paste w (16 * j) child (length child)) (at .loop .inv .1)
-      ∙ ap (λ (w : List ℕ). paste (childWords f 3 (3 * a .index) j) (16 * j) w (length w)) (c .before .before .before .before .value .ensures)
-      ∙ child-more f 3 (3 * a .index) j len (omega (arith, at .before .taken .ensures, c .before .before .before .before .before .loop-test .taken)),
+          ∙ ap (λ (w : List ℕ). paste w (16 * j) child (length child)) (at .loop .inv .1)
+          ∙ ap (λ (w : List ℕ). paste (childWords f 3 (3 * a .index) j) (16 * j) w (length w)) (c .before .before .before .before .value .ensures)
+          ∙ child-more f 3 (3 * a .index) j len (omega (arith, at .before .taken .ensures, c .before .before .before .before .before .loop-test .taken)),
       c .before .put-words .kept .0 ∙ at .loop .inv .2,
     )
 
 returns : tie.Need-returns Inv-loop μ-loop
-returns c = 
+returns c =
     let at = c .before in
     let s = at .before .before .before .before .before .before in
     let a = s .args in

@@ -1,3 +1,4 @@
+-- `tree::value::last_flag` meets its contract. Assumes nothing.
 use borrow.Author.Tests.{eq-eqb, ne-eqb}
 use Prim.Native.Nat.{suc}
 use mathlib.Core.Path.{_≡_, refl}

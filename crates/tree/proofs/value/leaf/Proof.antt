@@ -1,3 +1,4 @@
+-- `tree::value::leaf` meets its contract. Assumes nothing.
 use mathlib.Core.List.{List}
 use Prim.Native.Nat.{ℕ, _+_, _*_}
 use lib.ListN.{length}

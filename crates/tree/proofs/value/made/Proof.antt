@@ -1,3 +1,4 @@
+-- `tree::value::made` meets its contract. Assumes nothing.
 use Rattle.tree.specs.Value.{nodeWords}
 use mathlib.Core.Path.{_≡_, _∙_, ap}
 use native.Mathlib.Omega.{arith}

@@ -1,3 +1,4 @@
+-- `tree::value::message_words` meets its contract. Assumes nothing.
 use Rattle.tree.specs.SequentialLaws.{message-index, message-filled}
 use mathlib.Core.Path.{_≡_, _∙_, ap}
 use native.Mathlib.Omega.{arith}

@@ -1,3 +1,4 @@
+-- `tree::value::sequential` meets its contract. The loop's invariant: the chain after i nodes. Assumes nothing.
 use Rattle.tree.specs.SequentialLaws.{chain-more}
 use Rattle.tree.specs.Ready.{shared}
 use Rattle.tree.specs.ValueLaws.{chain-zero, length-chain}
@@ -37,10 +38,9 @@ slice-aggregate-sequential-value : tie.Need-slice-aggregate-sequential-value Inv
 slice-aggregate-sequential-value c = sym (c .before .before .before .loop .inv .2)
 
 sequential-value-requires : tie.Need-sequential-value-requires Inv-loop μ-loop
-sequential-value-requires c κs = 
+sequential-value-requires c κs =
     let at = c .before .before .before in
-    let s = at .before .before .before .before .before in
-    (
+    let s = at .before .before .before .before .before in (
       s .pre .0,
       s .pre .1,
       omega (arith, at .before .sequential-nodes .ensures, c .before .before .loop-test .taken),
@@ -55,7 +55,7 @@ loop-less : tie.Need-loop-less Inv-loop μ-loop
 loop-less c = omega (arith, c .before .before .before .loop-test .taken)
 
 loop-again : tie.Need-loop-again Inv-loop μ-loop
-loop-again c = 
+loop-again c =
     let at = c .before .before .before .before in
     let s = at .before .before .before .before .before in
     let a = s .args in
@@ -63,18 +63,17 @@ loop-again c =
     let M = (pieceBits (a .message .now) (a .bits)) in
     let z = c .before .before .last-flag .result in
     let ez : z ≡ digit (eqb (suc (at .loop .i)) (sequentialNodes (a .params .limit) (a .bits))) =
-        c .before .before .last-flag .ensures .0 ∙ ap (λ (n : ℕ). digit (eqb (suc (at .loop .i)) n)) (at .before .sequential-nodes .ensures) in
+    c .before .before .last-flag .ensures .0 ∙ ap (λ (n : ℕ). digit (eqb (suc (at .loop .i)) n)) (at .before .sequential-nodes .ensures) in
     let e : c .sequential-value .result ≡ chain C (a .params .limit) M (at .loop .i + 1) =
-        c .sequential-value .ensures
-        ∙ chain-more C (a .params .limit) (a .message .now) (a .bits) (at .loop .i) z (at .loop .last) (s .pre .1) ez (at .loop .inv .1) in
-    (
+    c .sequential-value .ensures
+    ∙ chain-more C (a .params .limit) (a .message .now) (a .bits) (at .loop .i) z (at .loop .last) (s .pre .1) ez (at .loop .inv .1) in (
       omega (arith, c .before .before .before .loop-test .taken),
       e,
       ap length e ∙ length-chain C (s .pre .0 .kLength) M (a .params .limit) (at .loop .i + 1),
     )
 
 returns : tie.Need-returns Inv-loop μ-loop
-returns c = 
+returns c =
     let at = c .before in
     let s = at .before .before .before .before .before in
     let a = s .args in

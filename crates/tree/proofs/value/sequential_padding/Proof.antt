@@ -1,3 +1,4 @@
+-- `tree::value::sequential_padding` meets its contract. Assumes nothing.
 use Rattle.tree.specs.SequentialLaws.{message-index, third-index, padding-message, padding-children}
 use Rattle.tree.specs.Value.{held}
 use Prim.Native.Nat.{ℕ, _-_, _*_}

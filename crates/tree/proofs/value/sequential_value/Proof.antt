@@ -1,3 +1,4 @@
+-- `tree::value::sequential_value` meets its contract. Assumes nothing.
 use Rattle.tree.specs.SequentialLaws.{sequential-index, block-made}
 use Rattle.tree.specs.Ready.{shared}
 use Rattle.tree.specs.ValueLaws.{length-sequentialWords}
@@ -47,11 +48,10 @@ slice-aggregate-made : tie.Need-slice-aggregate-made
 slice-aggregate-made c = search needs
 
 made-requires : tie.Need-made-requires
-made-requires c κs = 
+made-requires c κs =
     let put2 = c .before .before in
     let put1 = put2 .before .before .before .before in
-    let s = put1 .before .before .before .before .before .before .before .before in
-    (
+    let s = put1 .before .before .before .before .before .before .before .before in (
       s .pre .0,
       omega (arith, s .pre .0 .limitHigh),
       sequential-index (s .args .params .limit) (s .args .bits) (s .args .index) (s .fits .bits .fits) (s .pre .2),
@@ -61,7 +61,7 @@ made-requires c κs =
     )
 
 returns : tie.Need-returns
-returns c = 
+returns c =
     let put2 = c .before .before .before in
     let put1 = put2 .before .before .before .before in
     let pad = put1 .before .before in
@@ -73,10 +73,10 @@ returns c =
     let own = pad .before .sequential-words .ensures in
     let lr : length rest ≡ 48 = ap length own ∙ length-sequentialWords C (s .pre .0 .kLength) M (a .params .limit) (a .index) in
     let block : put2 .put-words2 .last .0 ≡ a .before .now ++ sequentialWords C (a .params .limit) M (a .index) =
-        put2 .put-words2 .ensures
-        ∙ ap (λ (w : List ℕ). paste w 16 rest (length rest)) (put1 .put-words .ensures)
-        ∙ block-made (a .before .now) rest (s .pre .4) lr
-        ∙ ap (λ (w : List ℕ). a .before .now ++ w) own in
+    put2 .put-words2 .ensures
+    ∙ ap (λ (w : List ℕ). paste w 16 rest (length rest)) (put1 .put-words .ensures)
+    ∙ block-made (a .before .now) rest (s .pre .4) lr
+    ∙ ap (λ (w : List ℕ). a .before .now ++ w) own in
     c .made .ensures
     ∙ ap (λ (p : ℕ). nodeWords C (a .params .limit + 1) (a .index) (a .z) p (put2 .put-words2 .last .0)) (pad .sequential-padding .ensures .0)
     ∙ ap (nodeWords C (a .params .limit + 1) (a .index) (a .z) (sequentialPadding (a .params .limit) (a .bits) (a .index))) block

@@ -1,3 +1,4 @@
+-- `tree::value::sequential_words` meets its contract. Assumes nothing.
 use Rattle.tree.specs.SequentialLaws.{words-message}
 use Rattle.tree.specs.Ready.{shared}
 use Rattle.tree.specs.Hash.{pieceBits}

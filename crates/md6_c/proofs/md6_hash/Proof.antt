@@ -1,0 +1,22 @@
+-- `md6_c::md6_hash` meets its contract: that of `tree::hash`, less the count. Assumes nothing.
+use Rattle.tree.specs.Hash.{Answer}
+use mathlib.Core.Path.{_≡_, ap}
+use native.Mathlib.Omega.{arith}
+use borrow.Author.Needs.{needs}
+use Rattle.md6_c.proofs.md6_hash.Statement.{statement}
+use Rattle.md6_c.proofs.md6_hash.Tie as tie
+use Rattle.md6_c.proofs.md6_hash.Reads as reads
+use Rattle.md6_c.proofs.md6_hash.Lts as lts
+use Rattle.tree.proofs.hash.Reads as hash-reads
+
+hash-requires : tie.Need-hash-requires
+hash-requires c κs = search needs
+
+same-length : tie.Need-same-length
+same-length c = search needs
+
+returns : tie.Need-returns
+returns c = let e = c .before .before .hash .ensures in (ap (λ (x : Answer). x .number) e, ap (λ (x : Answer). x .digest) e)
+
+pub md6-hash-spec : {M : Type 1} → statement M
+md6-hash-spec = tie.close (tie.spec hash-requires same-length returns)
