@@ -13,7 +13,7 @@ use lib.Seq.{take-at}
 use Rattle.lists.specs.Below.{Below}
 use Rattle.bits.specs.BitsLaws.{length-numbers}
 use Rattle.tree.specs.Tree.{Params, Valid, digest}
-use Rattle.tree.specs.Hash.{pieceBits, orElse, digestBytes, hashNumber, hashAnswer, hashOf}
+use Rattle.hash.specs.Hash.{pieceBits, orElse, digestBytes, hashNumber, hashAnswer, hashOf}
 use Rattle.collision.specs.Clash.{Different, RootsDiffer, Meeting}
 use Rattle.collision.specs.Collision.{collision}
 

@@ -1,6 +1,6 @@
 // The face for a host program in C (include/md6.h).
 ghost use mathlib.Core.Path.{_≡_};
-ghost use Rattle.tree.specs.Hash.{hashOf, defaultRoundsOf};
+ghost use Rattle.hash.specs.Hash.{hashOf, defaultRoundsOf};
 
 // The digest of a whole message. Answers the number alone.
 #[no_mangle]
@@ -15,14 +15,14 @@ pub extern "C" fn md6_hash(
 ) -> u64
     ensures { λ n. ⌜ (n ≡ hashOf (now (message .entry)) bits (record { key = now (key .entry); d = d; limit = limit; rounds = rounds }) (now (digest .entry)) .number) × (now (digest .exit) ≡ hashOf (now (message .entry)) bits (record { key = now (key .entry); d = d; limit = limit; rounds = rounds }) (now (digest .entry)) .digest) ⌝ }
 {
-    let answer = tree::hash(message, bits, key, d, limit, rounds, digest);
+    let answer = hash::hash(message, bits, key, d, limit, rounds, digest);
     answer.number
 }
 
 // Tells the default rounds for a digest size.
 #[no_mangle]
-pub extern "C" fn md6_default_rounds(d: u64) -> tree::Answer
+pub extern "C" fn md6_default_rounds(d: u64) -> hash::Answer
     ensures { λ o. ⌜ record { number = o .number; count = o .count } ≡ defaultRoundsOf d ⌝ }
 {
-    tree::default_rounds(d)
+    hash::default_rounds(d)
 }

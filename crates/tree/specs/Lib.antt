@@ -1,6 +1,5 @@
 pub mod Tree
 pub mod Place
-pub mod Hash
 pub mod Examples
 pub mod TreeLaws
 pub mod Places
@@ -9,13 +8,3 @@ pub mod OrderLaws
 pub mod Fresh
 pub mod Shape
 pub mod Count
-pub mod Value
-pub mod ValueLaws
-pub mod NodeByNode
-pub mod ShapeLaws
-pub mod NodeLaws
-pub mod BlockLaws
-pub mod SequentialLaws
-pub mod DigestLaws
-pub mod HashLaws
-pub mod Ready

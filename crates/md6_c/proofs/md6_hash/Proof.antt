@@ -1,5 +1,5 @@
 -- `md6_c::md6_hash` meets its contract: that of `tree::hash`, less the count. Assumes nothing.
-use Rattle.tree.specs.Hash.{Answer}
+use Rattle.hash.specs.Hash.{Answer}
 use mathlib.Core.Path.{_≡_, ap}
 use native.Mathlib.Omega.{arith}
 use borrow.Author.Needs.{needs}
@@ -7,7 +7,7 @@ use Rattle.md6_c.proofs.md6_hash.Statement.{statement}
 use Rattle.md6_c.proofs.md6_hash.Tie as tie
 use Rattle.md6_c.proofs.md6_hash.Reads as reads
 use Rattle.md6_c.proofs.md6_hash.Lts as lts
-use Rattle.tree.proofs.hash.Reads as hash-reads
+use Rattle.hash.proofs.hash.Reads as hash-reads
 
 hash-requires : tie.Need-hash-requires
 hash-requires c κs = search needs

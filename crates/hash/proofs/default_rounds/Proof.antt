@@ -1,0 +1,41 @@
+-- `tree::default_rounds` meets its contract. Assumes nothing.
+use Rattle.hash.specs.HashLaws.{told-refused, told-accepted}
+use mathlib.Core.Path.{_≡_, sym, _∙_}
+use native.Mathlib.Omega.{arith}
+use borrow.Author.Needs.{needs}
+use Rattle.hash.proofs.default_rounds.Statement.{statement}
+use Rattle.hash.proofs.default_rounds.Tie as tie
+use Rattle.hash.proofs.default_rounds.Reads as reads
+use Rattle.hash.proofs.default_rounds.Lts as lts
+use Rattle.hash.proofs.Answer.accepted.Reads as accepted-reads
+use Rattle.hash.proofs.Answer.refused.Reads as refused-reads
+use Rattle.hash.proofs.number.size_number.Reads as size-number-reads
+
+size-number-requires : tie.Need-size-number-requires
+size-number-requires c κs = search needs
+
+refused-requires : tie.Need-refused-requires
+refused-requires c κs = search needs
+
+returns : tie.Need-returns
+returns c = rw (c .refused .ensures .0, c .refused .ensures .1) (told-refused (c .before .before .before .args .d) (c .before .before .size-number .result) (c .before .before .size-number .ensures) (c .before .if1 .taken))
+
+add-accepted : tie.Need-add-accepted
+add-accepted c = search needs
+
+accepted-requires : tie.Need-accepted-requires
+accepted-requires c κs = search needs
+
+returns-2 : tie.Need-returns-2
+returns-2 c = rw (c .accepted .ensures .0, c .accepted .ensures .1) (told-accepted (c .before .before .before .args .d) (sym (c .before .before .size-number .ensures) ∙ c .before .if1 .left))
+
+pub default-rounds-spec : {M : Type 1} → statement M
+default-rounds-spec =
+    tie.close
+    (tie.spec
+    size-number-requires
+    refused-requires
+    returns
+    add-accepted
+    accepted-requires
+    returns-2)

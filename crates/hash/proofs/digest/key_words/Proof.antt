@@ -1,0 +1,25 @@
+-- `tree::digest::key_words` meets its contract: the filled words are those of the key followed by zero bytes. Assumes nothing.
+use Rattle.hash.specs.DigestLaws.{key-filled}
+use mathlib.Core.Path.{_≡_, _∙_}
+use native.Mathlib.Omega.{arith}
+use borrow.Author.Needs.{needs}
+use Rattle.hash.proofs.digest.key_words.Statement.{statement}
+use Rattle.hash.proofs.digest.key_words.Tie as tie
+use Rattle.hash.proofs.digest.key_words.Reads as reads
+use Rattle.hash.proofs.digest.key_words.Lts as lts
+use Rattle.bits.proofs.fill.Reads as fill-reads
+
+slice-aggregate-fill : tie.Need-slice-aggregate-fill
+slice-aggregate-fill c = search needs
+
+mul-fill : tie.Need-mul-fill
+mul-fill c = search needs
+
+fill-requires : tie.Need-fill-requires
+fill-requires c κs = search needs
+
+returns : tie.Need-returns
+returns c = let s = c .before .before .before .before in c .before .fill .ensures ∙ key-filled (s .args .key .now) (s .pre)
+
+pub key-words-spec : {M : Type 1} → statement M
+key-words-spec = tie.close (tie.spec slice-aggregate-fill mul-fill fill-requires returns)

@@ -1,0 +1,30 @@
+-- `tree::value::message_words` meets its contract. Assumes nothing.
+use Rattle.hash.specs.SequentialLaws.{message-index, message-filled}
+use mathlib.Core.Path.{_≡_, _∙_, ap}
+use native.Mathlib.Omega.{arith}
+use borrow.Author.Needs.{needs}
+use Rattle.hash.proofs.value.message_words.Statement.{statement}
+use Rattle.hash.proofs.value.message_words.Tie as tie
+use Rattle.hash.proofs.value.message_words.Reads as reads
+use Rattle.hash.proofs.value.message_words.Lts as lts
+use Rattle.bits.proofs.fill.Reads as fill-reads
+use Rattle.hash.proofs.shape.taken.Reads as taken-reads
+
+taken-requires : tie.Need-taken-requires
+taken-requires c κs = let s = c .before in message-index (s .args .bits) (s .args .index) (s .pre .1)
+
+mul-byte : tie.Need-mul-byte
+mul-byte c = let s = c .before .before in record { fits = omega (arith, message-index (s .args .bits) (s .args .index) (s .pre .1), s .fits .bits .fits) }
+
+slice-aggregate-fill : tie.Need-slice-aggregate-fill
+slice-aggregate-fill c = search needs
+
+fill-requires : tie.Need-fill-requires
+fill-requires c κs = let s = c .before .before .before in (omega arith, omega (arith, c .before .taken .ensures), omega (arith, message-index (s .args .bits) (s .args .index) (s .pre .1), c .before .taken .ensures, s .pre .0))
+
+returns : tie.Need-returns
+returns c = let taken = c .before .before .before in let s = taken .before .before in c .before .fill .ensures ∙ message-filled (s .args .message .now) (s .args .bits) (s .args .index) (taken .taken .result) (s .pre .0) (s .pre .1) (taken .taken .ensures)
+
+pub message-words-spec : {M : Type 1} → statement M
+message-words-spec =
+    tie.close (tie.spec taken-requires mul-byte slice-aggregate-fill fill-requires returns)

@@ -1,0 +1,98 @@
+-- `tree::value::sequential_value` meets its contract. Assumes nothing.
+use Rattle.hash.specs.SequentialLaws.{sequential-index, block-made}
+use Rattle.hash.specs.Ready.{shared}
+use Rattle.hash.specs.ValueLaws.{length-sequentialWords}
+use Rattle.hash.specs.Value.{nodeWords, sequentialPadding, sequentialWords}
+use Rattle.hash.specs.Hash.{pieceBits}
+use lib.Seq.{paste}
+use lib.ListN.{length}
+use Prim.Native.Nat.{ℕ, _+_}
+use mathlib.Core.List.{List, _++_}
+use mathlib.Core.Path.{_≡_, _∙_, ap}
+use native.Mathlib.Omega.{arith}
+use borrow.Author.Needs.{needs}
+use Rattle.hash.proofs.value.sequential_value.Statement.{statement}
+use Rattle.hash.proofs.value.sequential_value.Tie as tie
+use Rattle.hash.proofs.value.sequential_value.Reads as reads
+use Rattle.hash.proofs.value.sequential_value.Lts as lts
+use Rattle.hash.proofs.node.put_words.Reads as put-words-reads
+use Rattle.hash.proofs.value.made.Reads as made-reads
+use Rattle.hash.proofs.value.sequential_padding.Reads as sequential-padding-reads
+use Rattle.hash.proofs.value.sequential_words.Reads as sequential-words-reads
+
+sequential-words-requires : tie.Need-sequential-words-requires
+sequential-words-requires c κs = search needs
+
+sequential-padding-requires : tie.Need-sequential-padding-requires
+sequential-padding-requires c κs = search needs
+
+slice-aggregate-put-words : tie.Need-slice-aggregate-put-words
+slice-aggregate-put-words c = search needs
+
+put-words-requires : tie.Need-put-words-requires
+put-words-requires c κs = search needs
+
+slice-aggregate-put-words-2 : tie.Need-slice-aggregate-put-words-2
+slice-aggregate-put-words-2 c = search needs
+
+slice-aggregate-put-words-3 : tie.Need-slice-aggregate-put-words-3
+slice-aggregate-put-words-3 c = search needs
+
+put-words-requires-2 : tie.Need-put-words-requires-2
+put-words-requires-2 c κs = search needs
+
+add-made : tie.Need-add-made
+add-made c = search needs
+
+slice-aggregate-made : tie.Need-slice-aggregate-made
+slice-aggregate-made c = search needs
+
+made-requires : tie.Need-made-requires
+made-requires c κs =
+    let put2 = c .before .before in
+    let put1 = put2 .before .before .before .before in
+    let s = put1 .before .before .before .before .before .before .before .before in (
+      s .pre .0,
+      omega (arith, s .pre .0 .limitHigh),
+      sequential-index (s .args .params .limit) (s .args .bits) (s .args .index) (s .fits .bits .fits) (s .pre .2),
+      s .pre .3,
+      put1 .before .before .sequential-padding .ensures .1,
+      put2 .put-words2 .kept .0 ∙ put1 .put-words .kept .0,
+    )
+
+returns : tie.Need-returns
+returns c =
+    let put2 = c .before .before .before in
+    let put1 = put2 .before .before .before .before in
+    let pad = put1 .before .before in
+    let s = pad .before .before .before .before .before .before in
+    let a = s .args in
+    let C = (shared (a .k .now) (a .params)) in
+    let M = (pieceBits (a .message .now) (a .bits)) in
+    let rest = pad .before .sequential-words .result in
+    let own = pad .before .sequential-words .ensures in
+    let lr : length rest ≡ 48 = ap length own ∙ length-sequentialWords C (s .pre .0 .kLength) M (a .params .limit) (a .index) in
+    let block : put2 .put-words2 .last .0 ≡ a .before .now ++ sequentialWords C (a .params .limit) M (a .index) =
+    put2 .put-words2 .ensures
+    ∙ ap (λ (w : List ℕ). paste w 16 rest (length rest)) (put1 .put-words .ensures)
+    ∙ block-made (a .before .now) rest (s .pre .4) lr
+    ∙ ap (λ (w : List ℕ). a .before .now ++ w) own in
+    c .made .ensures
+    ∙ ap (λ (p : ℕ). nodeWords C (a .params .limit + 1) (a .index) (a .z) p (put2 .put-words2 .last .0)) (pad .sequential-padding .ensures .0)
+    ∙ ap (nodeWords C (a .params .limit + 1) (a .index) (a .z) (sequentialPadding (a .params .limit) (a .bits) (a .index))) block
+
+pub sequential-value-spec : {M : Type 1} → statement M
+sequential-value-spec =
+    tie.close
+    (tie.spec
+    sequential-words-requires
+    sequential-padding-requires
+    slice-aggregate-put-words
+    put-words-requires
+    slice-aggregate-put-words-2
+    slice-aggregate-put-words-3
+    put-words-requires-2
+    add-made
+    slice-aggregate-made
+    made-requires
+    returns)

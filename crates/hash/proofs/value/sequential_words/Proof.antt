@@ -1,0 +1,29 @@
+-- `tree::value::sequential_words` meets its contract. Assumes nothing.
+use Rattle.hash.specs.SequentialLaws.{words-message}
+use Rattle.hash.specs.Ready.{shared}
+use Rattle.hash.specs.Hash.{pieceBits}
+use mathlib.Core.Path.{_≡_, _∙_}
+use native.Mathlib.Omega.{arith}
+use borrow.Author.Needs.{needs}
+use Rattle.hash.proofs.value.sequential_words.Statement.{statement}
+use Rattle.hash.proofs.value.sequential_words.Tie as tie
+use Rattle.hash.proofs.value.sequential_words.Reads as reads
+use Rattle.hash.proofs.value.sequential_words.Lts as lts
+use Rattle.hash.proofs.value.child_words.Reads as child-words-reads
+use Rattle.hash.proofs.value.message_words.Reads as message-words-reads
+
+message-words-requires : tie.Need-message-words-requires
+message-words-requires c κs = let s = c .before .before .before .before .before in (s .pre .1, rw (c .if1 .taken) at (s .pre .2))
+
+returns : tie.Need-returns
+returns c = let a = c .before .before .before .before .before .before .args in c .message-words .ensures ∙ words-message (shared (a .k .now) (a .params)) (a .params .limit) (pieceBits (a .message .now) (a .bits)) (a .index) (c .before .if1 .taken)
+
+child-words-requires : tie.Need-child-words-requires
+child-words-requires c κs = let s = c .before .before .before .before .before in (s .pre .0, s .pre .1, omega (arith, c .if1 .left), s .pre .2)
+
+returns-2 : tie.Need-returns-2
+returns-2 c = search needs
+
+pub sequential-words-spec : {M : Type 1} → statement M
+sequential-words-spec =
+    tie.close (tie.spec message-words-requires returns child-words-requires returns-2)

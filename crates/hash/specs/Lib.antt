@@ -1,0 +1,11 @@
+pub mod Hash
+pub mod Value
+pub mod ValueLaws
+pub mod NodeByNode
+pub mod ShapeLaws
+pub mod NodeLaws
+pub mod BlockLaws
+pub mod SequentialLaws
+pub mod DigestLaws
+pub mod HashLaws
+pub mod Ready

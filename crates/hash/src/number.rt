@@ -1,0 +1,65 @@
+// The numbers that refuse a call.
+ghost use mathlib.Core.Path.{_≡_};
+ghost use Prim.Native.Nat.{_*_};
+ghost use lib.Dec.{ltb};
+ghost use lib.ListN.{replicate};
+ghost use Rattle.hash.specs.Hash.{refusedSize, refusedParams, hashNumber};
+ghost use Rattle.hash.specs.Value.{sized};
+use super::Params;
+
+// Whether a bit count is over 8 times the bytes given, by division: 8 times the bytes may pass 2^64.
+pub fn over(bits: u64, bytes: u64) -> bool
+    ensures { λ r. ⌜ r ≡ ltb (8 * bytes) bits ⌝ }
+{
+    bytes < bits / 8 + (bits % 8 + 7) / 8
+}
+
+// 1 for a digest size that is not 1 to 512, and otherwise 0.
+pub fn size_number(d: u64) -> u64
+    ensures { λ r. ⌜ r ≡ refusedSize d 0 ⌝ }
+{
+    if d < 1 {
+        return 1;
+    }
+    if 512 < d {
+        return 1;
+    }
+    0
+}
+
+// The number that refuses parameters, and otherwise 0: by the digest size, the key's bytes, the height limit, the rounds.
+pub fn params_number(params: Params) -> u64
+    ensures { λ r. ⌜ r ≡ refusedParams (sized (params .key) (params .d) (params .limit) (params .rounds)) 0 ⌝ }
+{
+    let size = size_number(params.d);
+    if size != 0 {
+        return size;
+    }
+    if 64 < params.key {
+        return 2;
+    }
+    if 64 < params.limit {
+        return 3;
+    }
+    if 255 < params.rounds {
+        return 4;
+    }
+    0
+}
+
+// The number that refuses the whole-message call, and otherwise 0, for so many message bytes and output bytes.
+pub fn hash_number(bytes: u64, bits: u64, params: Params, out: u64) -> u64
+    ensures { λ r. ⌜ r ≡ hashNumber (replicate bytes 0) bits (sized (params .key) (params .d) (params .limit) (params .rounds)) (replicate out 0) ⌝ }
+{
+    if over(bits, bytes) {
+        return 5;
+    }
+    let number = params_number(params);
+    if number != 0 {
+        return number;
+    }
+    if out < (params.d + 7) / 8 {
+        return 9;
+    }
+    0
+}
