@@ -6,11 +6,11 @@ use mathlib.Core.List.{List, [], _∷_, _++_, append-assoc}
 use Prim.Native.Nat.{ℕ, zero, suc, _+_, _-_, _*_, _^_, _≤_, _<_, min}
 use native.Mathlib.Omega.{arith}
 use native.Mathlib.Numerals.{add-one}
-use lib.ListN.{length, take, drop, replicate, length-append, length-take, length-drop, length-replicate}
-use lib.Seq.{paste, take-all, take-take, drop-drop}
-use Rattle.bits.specs.Bits.{bitsOf, numbers, filled}
+use lib.ListN.{length, take, drop, replicate, length-take, length-replicate}
+use lib.Seq.{paste}
+use Rattle.bits.specs.Bits.{bitsOf, filled}
 use Rattle.bits.specs.BitsLaws.{length-bitsOf, bitsOf-zeros}
-use Rattle.tree.specs.Tree.{words, blocks, blockBits, sequentialBits, outputBits}
+use Rattle.tree.specs.Tree.{words, blocks, blockBits, outputBits}
 use Rattle.hash.specs.Hash.{pieceBits}
 use Rattle.hash.specs.Value.{Common, nodeWords, held, messagePart, nodesAt, joinedValues, childWords, value}
 use Rattle.hash.specs.ValueLaws.{nodesAt-one, nodesAt-suc, nodesAt-some, nodesAt-le, length-value, value-one, value-suc, joined-zero, joined-suc, length-joinedValues}

@@ -3,11 +3,11 @@
 use mathlib.Core.Path.{_≡_, refl, sym, ap, _∙_}
 use mathlib.Core.Bool.{Bool, false}
 use mathlib.Core.List.{List, [], _∷_, _++_, append-assoc}
-use Prim.Native.Nat.{ℕ, zero, suc, _+_, _-_, _*_, _/_, _%_, _^_, _≤_, _<_, min}
+use Prim.Native.Nat.{ℕ, zero, suc, _+_, _-_, _*_, _/_, _%_, _^_, _≤_, _<_}
 use native.Mathlib.Omega.{arith}
 use native.Mathlib.Numerals.{add-one}
-use lib.ListN.{length, take, drop, getD, set, replicate, length-append, length-take, length-drop, length-replicate, replicate-append-replicate}
-use lib.Seq.{paste, take-all, take-at, drop-at, drop-drop, drop-cons, set-at, append-snoc, take-append-le, drop-append-le}
+use lib.ListN.{length, take, drop, getD, set, replicate, length-append, length-drop, length-replicate, replicate-append-replicate}
+use lib.Seq.{paste, take-all, take-at, drop-at, drop-drop, drop-cons, set-at, append-snoc}
 use Rattle.bits.specs.Bits.{bits, bitsOf, spell, numbers, filled}
 use Rattle.bits.specs.BitsLaws.{length-bits, length-bitsOf, length-numbers, spell-bits, bits-split, bitsOf-drop, bitsOf-append, bitsOf-zeros, bitsOf-numbers, numbers-add, numbers-front}
 use Rattle.tree.specs.Tree.{keyWords}

@@ -2,16 +2,15 @@
 -- Assumes nothing.
 use mathlib.Core.Path.{_≡_, refl, sym, ap, _∙_}
 use mathlib.Core.Bool.{Bool, true, false}
-use mathlib.Core.List.{List, [], _∷_, _++_}
+use mathlib.Core.List.{List, _++_}
 use Prim.Native.Nat.{ℕ, zero, suc, _+_, _-_, _*_, _/_, _%_, _^_, _≤_, _<_}
 use native.Mathlib.Omega.{arith}
 use borrow.Author.Tests.{ltb-true, ltb-false, lt-ltb, le-ltb}
 use lib.Dec.{ltb}
 use lib.ListN.{length, drop, replicate, length-replicate}
-use Rattle.lists.specs.Below.{Below}
 use Rattle.bits.specs.Bits.{bitsOf, numbers}
 use Rattle.tree.specs.Tree.{Params, Valid, field, keyWords, digest, order}
-use Rattle.hash.specs.Hash.{pieceBits, orElse, refusedBits, refusedSize, refusedParams, digestBytes, refusedOutput, hashNumber, Answer, hashAnswer, hashOf, Told, told, defaultRounds, defaultRoundsOf}
+use Rattle.hash.specs.Hash.{pieceBits, orElse, refusedSize, refusedParams, digestBytes, refusedOutput, hashNumber, Answer, hashAnswer, hashOf, Told, told, defaultRounds, defaultRoundsOf}
 use Rattle.hash.specs.Value.{Common, common, commonOf, sized, rootValue}
 use Rattle.hash.specs.NodeByNode.{root-by-node}
 use Rattle.tree.specs.Count.{treeNodes, order-nodes}

@@ -3,23 +3,23 @@
 use mathlib.Core.Path.{_≡_, refl, sym, ap, _∙_}
 use mathlib.Core.Bool.{Bool, true, false}
 use mathlib.Core.Option.{Option, none, some}
-use mathlib.Core.List.{List, [], _∷_, _++_, map, append-nil, append-assoc}
-use Prim.Native.Nat.{ℕ, zero, suc, _+_, _-_, _*_, _/_, _^_, _≤_, _<_, min, max}
+use mathlib.Core.List.{List, [], _∷_, _++_, map, append-nil}
+use Prim.Native.Nat.{ℕ, zero, suc, _+_, _-_, _*_, _/_, _^_, _≤_, _<_}
 use native.Mathlib.Omega.{arith}
-use borrow.Author.Tests.{leb-true, leb-false, eqb-true, eqb-false, lt-ltb, le-ltb, eq-eqb, ne-eqb}
+use borrow.Author.Tests.{ltb-false, leb-true, leb-false, eqb-true, eqb-false, lt-ltb, le-ltb, ne-eqb}
 use lib.Dec.{eqb, leb, ltb}
-use lib.ListN.{length, take, drop, replicate, getElem?, length-append, length-take, length-drop, length-replicate}
+use lib.ListN.{length, take, drop, replicate, getElem?, length-append, length-drop, length-replicate}
 use lib.Seq.{take-all}
-use Rattle.lists.specs.Append.{cons-eq}
 use Rattle.lists.specs.Below.{Below, below-append, below-zeros}
 use Rattle.lists.specs.Concat.{concat}
 use Rattle.bits.specs.Bits.{digit, bitsOf, numbers}
-use Rattle.bits.specs.BitsLaws.{length-numbers, length-bitsOf, bitsOf-append, bitsOf-zeros, bitsOf-take, bitsOf-drop, numbers-take, numbers-bitsOf}
-use Rattle.tree.specs.Tree.{Params, Valid, Node, words, node, output, blocks, padding, padded, par, noChain, parallel, sequential, joined, levels, tree, lastOr, noNode, rootOf, root, blockBits, sequentialBits, outputBits}
+use Rattle.bits.specs.BitsLaws.{length-bitsOf, bitsOf-append, bitsOf-zeros, bitsOf-take, bitsOf-drop, numbers-take, numbers-bitsOf}
+use Rattle.tree.specs.Tree.{Params, Valid, Node, words, node, output, blocks, padding, padded, noChain, parallel, sequential, joined, levels, tree, rootOf, root, blockBits, sequentialBits, outputBits}
 use Rattle.tree.specs.Place.{levelAt, nodeAt}
 use Rattle.tree.specs.TreeLaws.{above, onlyIf, lastOnly, chainAt, chainAt-zero, chainAt-suc, length-parallel, length-sequential, length-joined-parallel, parallel-at, sequential-at, levels-one, levels-more, levels-some, rootOf-cons}
-use Rattle.tree.specs.Places.{index-below, root-place}
-use Rattle.hash.specs.Value.{Common, commonOf, nodeWords, held, messagePart, nodesAt, joinedValues, childWords, value, sequentialNodes, sequentialPadding, sequentialWords, chain, pick, topFrom, topLevel, valueAt, rootValue}
+use Rattle.tree.specs.Places.{index-below, root-place, tree-level, tree-index}
+use Rattle.tree.specs.Count.{levelNodes, fourth, level-nodes}
+use Rattle.hash.specs.Value.{Common, commonOf, nodeWords, held, messagePart, nodesAt, joinedValues, childWords, value, sequentialNodes, sequentialPadding, sequentialWords, chain, pick, topFrom, valueAt, rootValue}
 use Rattle.hash.specs.ValueLaws.{pad-part, joined-zero, joined-cons, length-joinedValues, below-joinedValues, joined-part, nodesAt-one, nodesAt-suc, nodesAt-some, nodesAt-le, fair, value-one, value-suc, length-value, below-value, chain-zero, chain-suc, length-chain, below-chain}
 
 -- ---- the words of a block
@@ -109,6 +109,22 @@ same-node a b e = cc
 
 no-node : (a : Node) → _≡_ {A = Option Node} none (some a) → ⊥
 no-node a e = let z : _≡_ {A = ℕ} 0 1 = cc in omega arith
+
+level-in : (T : List (List Node)) (l index : ℕ) (a : Node) → nodeAt T (suc l) index ≡ some a → l < length T
+level-in [] l index a e = absurd (no-node a e)
+level-in (ns ∷ T) zero index a e = omega arith
+level-in (ns ∷ T) (suc l) index a e = omega (arith, level-in T l index a e)
+
+-- the nodes of a level, by the formula of Count
+pub nodesAt-levelNodes : (m level : ℕ) → nodesAt m level ≡ levelNodes m level
+unfolding nodesAt
+nodesAt-levelNodes m zero = refl
+nodesAt-levelNodes m (suc zero) = refl
+nodesAt-levelNodes m (suc (suc h)) = fourth (nodesAt m (suc h)) (nodesAt-some m h) ∙ ap (λ (c : ℕ). (c + 3) / 4) (nodesAt-levelNodes m (suc h))
+
+digit-le : (b : Bool) → digit b ≤ 1
+digit-le true = omega arith
+digit-le false = omega arith
 
 module _ (P : Params) (M : List Bool) where
   blocks-inputs : (h : ℕ) → blocks blockBits (length (inputs P M h)) ≡ nodesAt (length M) (suc h)
@@ -365,3 +381,39 @@ module _ (P : Params) (M : List Bool) where
     pub root-by-node : output (P .rounds) (root P M) ≡ bitsOf 64 (rootValue (commonOf P) (P .limit) M)
     unfolding rootValue
     root-by-node = rw (inputs-zero P M) at (levels-root (P .limit) 0 (omega arith))
+
+    -- the words that the next level reads from that output are the value itself
+    below-at : (level index : ℕ) (a : Node) → nodeAt (tree P M) level index ≡ some a → Below (2 ^ 64) (valueAt (commonOf P) (P .limit) M level index)
+    unfolding valueAt
+    below-at zero index a e = absurd (no-node a e)
+    below-at (suc h) index a e = go (ltb (P .limit) (suc h)) refl
+      where
+        z : ℕ
+        z = digit (eqb (nodesAt (length M) (suc h)) 1)
+
+        go : (b : Bool) → ltb (P .limit) (suc h) ≡ b
+            → Below (2 ^ 64) (pick b (chain (commonOf P) (P .limit) M (suc index)) (value (commonOf P) M (suc h) index (digit (eqb (nodesAt (length M) (suc h)) 1))))
+        go true t =
+            below-chain (commonOf P) (fair P valid) M small (P .limit) (suc index) (omega (arith, valid .limitHigh)) (omega (arith, tree-index P M (suc h) index a e))
+        go false t =
+            let g : suc h ≤ P .limit = ltb-false (P .limit) (suc h) t in
+            let n = level-nodes P M (suc h) (omega arith) g (omega (arith, level-in (tree P M) h index a e)) in
+            below-value (commonOf P) (fair P valid) M small h index z (omega (arith, valid .limitHigh))
+            (omega (arith, index-below (levelAt (tree P M) (suc h)) index a e, n, nodesAt-levelNodes (length M) (suc h)))
+            (digit-le (eqb (nodesAt (length M) (suc h)) 1))
+
+    length-at : (level index : ℕ) → 0 < level → length (valueAt (commonOf P) (P .limit) M level index) ≡ 16
+    unfolding valueAt
+    length-at zero index h = absurd (omega arith)
+    length-at (suc h) index g = go (ltb (P .limit) (suc h))
+      where
+        go : (b : Bool)
+            → length (pick b (chain (commonOf P) (P .limit) M (suc index)) (value (commonOf P) M (suc h) index (digit (eqb (nodesAt (length M) (suc h)) 1)))) ≡ 16
+        go true = length-chain (commonOf P) (fair P valid .kLength) M (P .limit) (suc index)
+        go false = length-value (commonOf P) (fair P valid .kLength) M h index (digit (eqb (nodesAt (length M) (suc h)) 1))
+
+    pub node-words : (level index : ℕ) (a : Node) → nodeAt (tree P M) level index ≡ some a
+        → words 16 (output (P .rounds) a) ≡ valueAt (commonOf P) (P .limit) M level index
+    node-words level index a e =
+        ap (words 16) (node-by-node level index a e)
+        ∙ words-of (valueAt (commonOf P) (P .limit) M level index) (length-at level index (tree-level P M level index a e .0)) (below-at level index a e)

@@ -1,9 +1,8 @@
 -- What the functions that work out values are given: the message, the parameters in their ranges, K and the round constants.
 -- Assumes nothing.
 use mathlib.Core.Path.{_≡_}
-use mathlib.Core.Bool.{Bool}
 use mathlib.Core.List.{List}
-use Prim.Native.Nat.{ℕ, _+_, _*_, _≤_, _<_}
+use Prim.Native.Nat.{ℕ, _≤_}
 use lib.ListN.{length}
 use Rattle.compress.specs.Compress.{RoundTable}
 use Rattle.tree.specs.Tree as Tree

@@ -3,18 +3,17 @@
 use mathlib.Core.Path.{_≡_, refl, sym, ap, _∙_}
 use mathlib.Core.Bool.{Bool, true, false}
 use borrow.Author.Tests.{lt-ltb, le-ltb}
-use mathlib.Core.List.{List, [], _∷_, _++_, append-nil}
-use Prim.Native.Nat.{ℕ, zero, suc, _+_, _-_, _*_, _^_, _≤_, _<_, min}
+use mathlib.Core.List.{List, [], _++_, append-nil}
+use Prim.Native.Nat.{ℕ, zero, suc, _+_, _-_, _*_, _^_, _≤_, _<_}
 use native.Mathlib.Omega.{arith}
-use native.Mathlib.Numerals.{add-one}
-use lib.Dec.{eqb, ltb}
-use lib.ListN.{length, drop, replicate}
+use lib.Dec.{eqb}
+use lib.ListN.{length, replicate}
 use lib.Seq.{paste}
 use Rattle.bits.specs.Bits.{digit, filled}
-use Rattle.tree.specs.Tree.{words, blocks, sequentialBits, outputBits}
+use Rattle.tree.specs.Tree.{words, sequentialBits, outputBits}
 use Rattle.hash.specs.Hash.{pieceBits}
 use Rattle.hash.specs.Value.{Common, nodeWords, held, messagePart, nodesAt, childWords, value, sequentialNodes, sequentialPadding, sequentialWords, chain, rootValue, topFrom, topLevel, pick}
-use Rattle.hash.specs.ValueLaws.{nodesAt-some, nodesAt-le, chain-zero, chain-suc}
+use Rattle.hash.specs.ValueLaws.{nodesAt-some, nodesAt-le, chain-suc}
 use Rattle.hash.specs.NodeLaws.{paste-at}
 use Rattle.hash.specs.BlockLaws.{length-pieceBits, filled-part}
 

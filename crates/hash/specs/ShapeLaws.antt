@@ -1,14 +1,14 @@
 -- Laws for the code that counts levels and nodes.
 -- Assumes nothing.
-use mathlib.Core.Path.{_≡_, refl, sym, ap, _∙_}
-use Prim.Native.Nat.{ℕ, zero, suc, _+_, _-_, _*_, _/_, _^_, _≤_, _<_, min, max}
+use mathlib.Core.Path.{_≡_, refl}
+use Prim.Native.Nat.{ℕ, zero, suc, _+_, _-_, _/_, _^_, _≤_, _<_}
 use mathlib.Core.Bool.{Bool, true, false}
 use native.Mathlib.Nat.{add-div-right, div-eq-of-lt, pow-succ'}
 use native.Mathlib.Omega.{arith}
 use borrow.Author.Tests.{eq-eqb, ne-eqb, eqb-true, eqb-false}
 use lib.Dec.{eqb}
-use Rattle.tree.specs.Tree.{blocks, blockBits, sequentialBits, outputBits, mostLevels}
-use Rattle.tree.specs.Count.{nodesFrom, nodesIf, treeNodes}
+use Rattle.tree.specs.Tree.{blocks, blockBits, sequentialBits, mostLevels}
+use Rattle.tree.specs.Count.{nodesFrom, treeNodes}
 use Rattle.hash.specs.Value.{nodesAt, sequentialNodes, pick, topFrom, topLevel}
 use Rattle.hash.specs.ValueLaws.{nodesAt-one, nodesAt-suc, nodesAt-some}
 

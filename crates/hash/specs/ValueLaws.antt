@@ -3,24 +3,23 @@
 -- Assumes nothing.
 use mathlib.Core.Path.{_≡_, refl, sym, ap, _∙_}
 use mathlib.Core.Bool.{Bool, true, false}
-use mathlib.Core.Option.{Option, none, some}
-use mathlib.Core.List.{List, [], _∷_, _++_, map, append-nil, append-assoc}
-use Prim.Native.Nat.{ℕ, zero, suc, _+_, _-_, _*_, _/_, _^_, _≤_, _<_, min, max}
+use mathlib.Core.Option.{none}
+use mathlib.Core.List.{List, [], _++_, append-nil, append-assoc}
+use Prim.Native.Nat.{ℕ, zero, suc, _+_, _-_, _*_, _^_, _≤_, _<_, min}
 use native.Mathlib.Omega.{arith}
-use borrow.Author.Tests.{leb-true, leb-false, ltb-true, ltb-false, eqb-true, eqb-false, lt-ltb, le-ltb, eq-eqb, ne-eqb}
-use lib.Dec.{eqb, leb, ltb}
-use lib.ListN.{length, take, drop, replicate, getElem?, length-append, length-take, length-drop, length-replicate}
+use borrow.Author.Tests.{leb-true, leb-false}
+use lib.Dec.{eqb, leb}
+use lib.ListN.{length, take, drop, replicate, length-append, length-drop, length-replicate}
 use lib.Seq.{take-append-le, drop-append-le, take-append-add, take-all, take-at, drop-at}
 use Rattle.lists.specs.Append.{cons-eq}
-use Rattle.lists.specs.Below.{Below, none, more, below-append, below-zeros, below-take, below-drop}
-use Rattle.lists.specs.Concat.{concat}
-use Rattle.bits.specs.Bits.{digit, bitsOf, numbers}
-use Rattle.bits.specs.BitsLaws.{length-numbers, length-bitsOf, bitsOf-append, bitsOf-zeros, bitsOf-take, bitsOf-drop, numbers-below, numbers-take, numbers-bitsOf}
-use Rattle.compress.specs.Compress.{compressed, windowOf}
+use Rattle.lists.specs.Below.{Below, none, below-append, below-zeros}
+use Rattle.bits.specs.Bits.{digit, numbers}
+use Rattle.bits.specs.BitsLaws.{length-numbers, numbers-below}
+use Rattle.compress.specs.Compress.{windowOf}
 use Rattle.compress.specs.CompressLaws.{length-compressed, compressed-below}
-use Rattle.tree.specs.Tree.{Params, Valid, Node, words, keyWords, nodeU, nodeV, node, output, blocks, padding, padded, par, seq, noChain, parallel, sequential, joined, levels, tree, lastOr, noNode, rootOf, root, blockBits, sequentialBits, outputBits}
-use Rattle.tree.specs.TreeLaws.{length-keyWords, keyWords-below, nodeV-below, length-window, Words, window-below, words-output, lastOnly, lastOnly-last, lastOnly-before, par-at, seq-at, chainAt, chainAt-zero, chainAt-suc, length-par, length-parallel, length-joined, length-padded, levels-one, levels-more, levels-some, rootOf-cons}
-use Rattle.hash.specs.Value.{Common, commonOf, nodeWords, held, messagePart, nodesAt, joinedValues, childWords, value, sequentialNodes, sequentialPadding, sequentialWords, chain, pick, topFrom, topLevel, valueAt, rootValue}
+use Rattle.tree.specs.Tree.{Params, Valid, Node, words, nodeU, node, output, blocks, joined, levels, blockBits, sequentialBits, outputBits}
+use Rattle.tree.specs.TreeLaws.{length-keyWords, keyWords-below, nodeV-below, length-window, window-below}
+use Rattle.hash.specs.Value.{Common, commonOf, nodeWords, held, messagePart, nodesAt, joinedValues, childWords, value, sequentialNodes, sequentialPadding, sequentialWords, chain}
 
 -- ---- lists
 

@@ -8,6 +8,7 @@ ghost use Rattle.bits.specs.Bits.{bitsOf, numbers};
 ghost use Rattle.tree.specs.Tree.{keyWords};
 ghost use Rattle.hash.specs.Hash.{digestBytes};
 ghost use Rattle.hash.specs.DigestLaws.{byteAt};
+use super::Block;
 
 // K: the key followed by zero bytes.
 pub fn key_words(key: &[u8]) -> [u64; 8]
@@ -49,7 +50,7 @@ pub fn write_digest(root: &[u64], d: u64, out: &mut [u8])
     let mut bytes = [0u8; 128];
     put_bytes(&mut bytes, root, 128);
     let mut last = [0u64; 8];
-    let start = (1024 - d) as usize;
+    let start = (Block::OUTPUT_BITS - d) as usize;
     bits::fill(&mut last, 0, &bytes, start / 8, start % 8, d as usize);
     let n = ((d + 7) / 8) as usize;
     put_bytes(out, &last, n);

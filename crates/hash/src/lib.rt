@@ -1,7 +1,6 @@
 // The tree of a message: its nodes, the value of each, and the digest of a whole message.
 ghost use mathlib.Core.Path.{_≡_};
 ghost use mathlib.Core.List.{_++_};
-ghost use Prim.Native.Nat.{_*_, _≤_};
 ghost use lib.ListN.{length, drop, replicate};
 ghost use Rattle.tree.specs.Tree.{blockBits, sequentialBits, mostLevels, digest};
 ghost use Rattle.hash.specs.Hash.{pieceBits, digestBytes, hashOf, defaultRoundsOf};
@@ -56,6 +55,14 @@ impl Block {
 
     // The bits of a block at the sequential level that are not chained.
     pub const SEQUENTIAL_BITS: u64 = 3072;
+
+    // The bytes of a block, and those that are not chained.
+    pub const BYTES: u64 = Block::BITS / 8;
+
+    pub const SEQUENTIAL_BYTES: u64 = Block::SEQUENTIAL_BITS / 8;
+
+    // The bits of the output that a block is compressed to.
+    pub const OUTPUT_BITS: u64 = 1024;
 
     // A block that holds nothing.
     pub fn new() -> Self

@@ -1,6 +1,6 @@
 // How many levels a tree has, and how many nodes each.
 ghost use mathlib.Core.Path.{_≡_};
-ghost use Prim.Native.Nat.{_+_, _-_, _*_, _≤_, _<_, _^_, min};
+ghost use Prim.Native.Nat.{_+_, _-_, _*_, _≤_, _<_};
 ghost use Rattle.tree.specs.Tree.{blocks};
 ghost use Rattle.tree.specs.Count.{treeNodes};
 ghost use Rattle.hash.specs.Value.{held, nodesAt, sequentialNodes, topLevel};

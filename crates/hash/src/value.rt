@@ -50,7 +50,7 @@ fn leaf(
     let n = shape::taken(Block::BITS, bits, index);
     let empty = Block::new();
     let mut block = empty.words;
-    let byte = 512 * index as usize;
+    let byte = (Block::BYTES * index) as usize;
     bits::fill(&mut block, 0, message, byte, 0, n as usize);
     made(params, k, table, 1, index, z, Block::BITS - n, &block)
 }
@@ -82,7 +82,16 @@ pub fn value(
         node::put_words(&mut block, at, &child);
         j += 1;
     }
-    made(params, k, table, level, index, z, 1024 * (4 - n), &block)
+    made(
+        params,
+        k,
+        table,
+        level,
+        index,
+        z,
+        Block::OUTPUT_BITS * (4 - n),
+        &block,
+    )
 }
 
 // The 48 words that a sequential node takes beside the chain, of message bits: no level is below it.
@@ -92,7 +101,7 @@ fn message_words(message: &[u8], bits: u64, index: u64) -> [u64; 48]
 {
     let n = shape::taken(Block::SEQUENTIAL_BITS, bits, index);
     let mut rest = [0u64; 48];
-    let byte = 384 * index as usize;
+    let byte = (Block::SEQUENTIAL_BYTES * index) as usize;
     bits::fill(&mut rest, 0, message, byte, 0, n as usize);
     rest
 }
@@ -148,7 +157,7 @@ fn sequential_padding(limit: u64, bits: u64, index: u64) -> u64
     if limit == 0 {
         return Block::SEQUENTIAL_BITS - shape::taken(Block::SEQUENTIAL_BITS, bits, index);
     }
-    1024 * (3 - shape::taken(3, shape::nodes_at(bits, limit), index))
+    Block::OUTPUT_BITS * (3 - shape::taken(3, shape::nodes_at(bits, limit), index))
 }
 
 // The value of the sequential node at an index: the chain, and then its own words.

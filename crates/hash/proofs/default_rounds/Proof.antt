@@ -1,15 +1,9 @@
--- `tree::default_rounds` meets its contract. Assumes nothing.
+-- `hash::default_rounds` meets its contract. Assumes nothing.
 use Rattle.hash.specs.HashLaws.{told-refused, told-accepted}
-use mathlib.Core.Path.{_≡_, sym, _∙_}
-use native.Mathlib.Omega.{arith}
+use mathlib.Core.Path.{sym, _∙_}
 use borrow.Author.Needs.{needs}
 use Rattle.hash.proofs.default_rounds.Statement.{statement}
 use Rattle.hash.proofs.default_rounds.Tie as tie
-use Rattle.hash.proofs.default_rounds.Reads as reads
-use Rattle.hash.proofs.default_rounds.Lts as lts
-use Rattle.hash.proofs.Answer.accepted.Reads as accepted-reads
-use Rattle.hash.proofs.Answer.refused.Reads as refused-reads
-use Rattle.hash.proofs.number.size_number.Reads as size-number-reads
 
 size-number-requires : tie.Need-size-number-requires
 size-number-requires c κs = search needs

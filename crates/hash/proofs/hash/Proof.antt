@@ -1,4 +1,4 @@
--- `tree::hash` meets its contract: one equation for every input. Assumes nothing.
+-- `hash::hash` meets its contract: one equation for every input. Assumes nothing.
 use Rattle.hash.specs.HashLaws.{Accepted, number-sized, number-accepted, refused-answer, accepted-answer}
 use Rattle.hash.specs.declared.Params.{Params}
 use Rattle.hash.specs.Ready.{paramsOf}
@@ -7,20 +7,11 @@ use Rattle.hash.specs.Hash.{pieceBits, digestBytes, hashNumber}
 use Rattle.tree.specs.Tree.{digest}
 use Rattle.tree.specs.Tree as Tree
 use lib.ListN.{length, drop, replicate}
-use mathlib.Core.List.{List, _++_}
+use mathlib.Core.List.{_++_}
 use mathlib.Core.Path.{_≡_, sym, ap, subst, _∙_}
-use native.Mathlib.Omega.{arith}
 use borrow.Author.Needs.{needs}
 use Rattle.hash.proofs.hash.Statement.{statement}
 use Rattle.hash.proofs.hash.Tie as tie
-use Rattle.hash.proofs.hash.Reads as reads
-use Rattle.hash.proofs.hash.Lts as lts
-use Rattle.hash.proofs.Answer.accepted.Reads as accepted-reads
-use Rattle.hash.proofs.Answer.refused.Reads as refused-reads
-use Rattle.hash.proofs.Params.new.Reads as new-reads
-use Rattle.hash.proofs.number.hash_number.Reads as hash-number-reads
-use Rattle.hash.proofs.put_digest.Reads as put-digest-reads
-use Rattle.hash.proofs.shape.tree_nodes.Reads as tree-nodes-reads
 
 new-requires : tie.Need-new-requires
 new-requires c κs = search needs

@@ -1,4 +1,4 @@
--- `tree::put_digest` meets its contract: the root worked out node by node is the root of the levels. Assumes nothing.
+-- `hash::put_digest` meets its contract: the root worked out node by node is the root of the levels. Assumes nothing.
 use Rattle.hash.specs.HashLaws.{digest-root, common-key}
 use Rattle.hash.specs.BlockLaws.{length-pieceBits}
 use Rattle.hash.specs.Ready.{shared, paramsOf}
@@ -10,17 +10,11 @@ use Rattle.lists.specs.Slices.{bytes-below}
 use lib.ListN.{length, drop}
 use Prim.Native.Nat.{ℕ}
 use mathlib.Core.List.{List, _++_}
-use mathlib.Core.Path.{_≡_, sym, ap, _∙_}
+use mathlib.Core.Path.{_≡_, ap, _∙_}
 use native.Mathlib.Omega.{arith}
 use borrow.Author.Needs.{needs}
 use Rattle.hash.proofs.put_digest.Statement.{statement}
 use Rattle.hash.proofs.put_digest.Tie as tie
-use Rattle.hash.proofs.put_digest.Reads as reads
-use Rattle.hash.proofs.put_digest.Lts as lts
-use Rattle.compress.proofs.round_constants.Reads as round-constants-reads
-use Rattle.hash.proofs.digest.key_words.Reads as key-words-reads
-use Rattle.hash.proofs.digest.write_digest.Reads as write-digest-reads
-use Rattle.hash.proofs.value.root.Reads as root-reads
 
 key-words-requires : tie.Need-key-words-requires
 key-words-requires c κs = search needs

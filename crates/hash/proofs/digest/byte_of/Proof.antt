@@ -1,11 +1,8 @@
--- `tree::digest::byte_of` meets its contract. Assumes nothing.
+-- `hash::digest::byte_of` meets its contract. Assumes nothing.
 use Rattle.hash.specs.DigestLaws.{byte-value}
-use native.Mathlib.Omega.{arith}
 use borrow.Author.Needs.{needs}
 use Rattle.hash.proofs.digest.byte_of.Statement.{statement}
 use Rattle.hash.proofs.digest.byte_of.Tie as tie
-use Rattle.hash.proofs.digest.byte_of.Reads as reads
-use Rattle.hash.proofs.digest.byte_of.Lts as lts
 
 mul-below : tie.Need-mul-below
 mul-below c = search needs

@@ -1,13 +1,9 @@
--- `tree::digest::key_words` meets its contract: the filled words are those of the key followed by zero bytes. Assumes nothing.
+-- `hash::digest::key_words` meets its contract: the filled words are those of the key followed by zero bytes. Assumes nothing.
 use Rattle.hash.specs.DigestLaws.{key-filled}
-use mathlib.Core.Path.{_≡_, _∙_}
-use native.Mathlib.Omega.{arith}
+use mathlib.Core.Path.{_∙_}
 use borrow.Author.Needs.{needs}
 use Rattle.hash.proofs.digest.key_words.Statement.{statement}
 use Rattle.hash.proofs.digest.key_words.Tie as tie
-use Rattle.hash.proofs.digest.key_words.Reads as reads
-use Rattle.hash.proofs.digest.key_words.Lts as lts
-use Rattle.bits.proofs.fill.Reads as fill-reads
 
 slice-aggregate-fill : tie.Need-slice-aggregate-fill
 slice-aggregate-fill c = search needs

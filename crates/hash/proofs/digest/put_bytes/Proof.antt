@@ -1,4 +1,4 @@
--- `tree::digest::put_bytes` meets its contract. The loop's invariant: the first i bytes are written, the rest is as it was. Assumes nothing.
+-- `hash::digest::put_bytes` meets its contract. The loop's invariant: the first i bytes are written, the rest is as it was. Assumes nothing.
 use Rattle.hash.specs.DigestLaws.{bytes-none, bytes-more}
 use Rattle.bits.specs.Bits.{bitsOf, numbers}
 use lib.ListN.{length, drop, set, length-set}
@@ -9,9 +9,6 @@ use borrow.Author.Needs.{needs}
 use native.Mathlib.Omega.{arith}
 use Rattle.hash.proofs.digest.put_bytes.Statement.{statement}
 use Rattle.hash.proofs.digest.put_bytes.Tie as tie
-use Rattle.hash.proofs.digest.put_bytes.Reads as reads
-use Rattle.hash.proofs.digest.put_bytes.Lts as lts
-use Rattle.hash.proofs.digest.byte_of.Reads as byte-of-reads
 
 abbrev Inv-loop : tie.InvT-loop
 Inv-loop out₀ words n i₀ out i = (i ≤ n) × (out ≡ numbers 8 i (bitsOf 64 words) ++ drop i out₀) × (length out ≡ length out₀)

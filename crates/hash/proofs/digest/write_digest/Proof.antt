@@ -1,18 +1,14 @@
--- `tree::digest::write_digest` meets its contract. Assumes nothing.
+-- `hash::digest::write_digest` meets its contract. Assumes nothing.
 use Rattle.hash.specs.DigestLaws.{digest-bytes}
 use Rattle.bits.specs.Bits.{bitsOf, numbers, filled}
 use lib.ListN.{drop, replicate}
 use Prim.Native.Nat.{ℕ, _+_, _-_, _*_, _/_, _%_}
 use mathlib.Core.List.{List, _++_, append-nil}
-use mathlib.Core.Path.{_≡_, refl, ap, _∙_}
+use mathlib.Core.Path.{_≡_, ap, _∙_}
 use native.Mathlib.Omega.{arith}
 use borrow.Author.Needs.{needs}
 use Rattle.hash.proofs.digest.write_digest.Statement.{statement}
 use Rattle.hash.proofs.digest.write_digest.Tie as tie
-use Rattle.hash.proofs.digest.write_digest.Reads as reads
-use Rattle.hash.proofs.digest.write_digest.Lts as lts
-use Rattle.bits.proofs.fill.Reads as fill-reads
-use Rattle.hash.proofs.digest.put_bytes.Reads as put-bytes-reads
 
 slice-aggregate-put-bytes : tie.Need-slice-aggregate-put-bytes
 slice-aggregate-put-bytes c = search needs

@@ -1,5 +1,5 @@
--- `tree::node::compress_node` meets its contract: the window is Q, K, U, V and the block. Assumes nothing.
-use mathlib.Core.Path.{_≡_, _∙_, ap}
+-- `hash::node::compress_node` meets its contract: the window is Q, K, U, V and the block. Assumes nothing.
+use mathlib.Core.Path.{_∙_, ap}
 use mathlib.Core.List.{List}
 use Prim.Native.Nat.{ℕ}
 use lib.ListN.{length, set, replicate, length-set}
@@ -10,11 +10,6 @@ use native.Mathlib.Omega.{arith}
 use borrow.Author.Needs.{needs}
 use Rattle.hash.proofs.node.compress_node.Statement.{statement}
 use Rattle.hash.proofs.node.compress_node.Tie as tie
-use Rattle.hash.proofs.node.compress_node.Reads as reads
-use Rattle.hash.proofs.node.compress_node.Lts as lts
-use Rattle.compress.proofs.compress.Reads as compress-reads
-use Rattle.compress.proofs.q_words.Reads as q-words-reads
-use Rattle.hash.proofs.node.put_words.Reads as put-words-reads
 
 q-words-requires : tie.Need-q-words-requires
 q-words-requires c κs = search needs

@@ -1,12 +1,10 @@
--- `tree::node::node_v` meets its contract: no field of V reaches into the one above it. Assumes nothing.
+-- `hash::node::node_v` meets its contract: no field of V reaches into the one above it. Assumes nothing.
 use lib.ListN.{length-replicate}
 use Prim.Native.Nat.{ℕ}
 use native.Mathlib.Omega.{arith}
 use borrow.Author.Needs.{needs}
 use Rattle.hash.proofs.node.node_v.Statement.{statement}
 use Rattle.hash.proofs.node.node_v.Tie as tie
-use Rattle.hash.proofs.node.node_v.Reads as reads
-use Rattle.hash.proofs.node.node_v.Lts as lts
 
 mul-high : tie.Need-mul-high
 mul-high c = search needs

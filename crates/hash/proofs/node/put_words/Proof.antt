@@ -1,15 +1,13 @@
--- `tree::node::put_words` meets its contract. The loop's invariant: the first i words are copied. Assumes nothing.
+-- `hash::node::put_words` meets its contract. The loop's invariant: the first i words are copied. Assumes nothing.
 use lib.Seq.{paste, paste-zero, paste-suc}
 use lib.ListN.{length, length-set}
 use native.Mathlib.Numerals.{add-one}
 use Prim.Native.Nat.{_-_, _≤_}
-use mathlib.Core.Path.{_≡_, refl, _∙_, ap, sym}
+use mathlib.Core.Path.{_≡_, refl, _∙_}
 use borrow.Author.Needs.{needs}
 use native.Mathlib.Omega.{arith}
 use Rattle.hash.proofs.node.put_words.Statement.{statement}
 use Rattle.hash.proofs.node.put_words.Tie as tie
-use Rattle.hash.proofs.node.put_words.Reads as reads
-use Rattle.hash.proofs.node.put_words.Lts as lts
 
 abbrev Inv-loop : tie.InvT-loop
 Inv-loop dst₀ at src i₀ dst i = (i ≤ length src) × (dst ≡ paste dst₀ at src i) × (length dst ≡ length dst₀)

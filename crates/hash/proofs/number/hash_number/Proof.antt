@@ -1,4 +1,4 @@
--- `tree::number::hash_number` meets its contract, one law for each number. Assumes nothing.
+-- `hash::number::hash_number` meets its contract, one law for each number. Assumes nothing.
 use Rattle.hash.specs.HashLaws.{number-over, number-params, number-short, number-none, params-ranges}
 use Rattle.hash.specs.Value.{sized}
 use lib.ListN.{length, replicate, length-replicate}
@@ -10,10 +10,6 @@ use native.Mathlib.Omega.{arith}
 use borrow.Author.Needs.{needs}
 use Rattle.hash.proofs.number.hash_number.Statement.{statement}
 use Rattle.hash.proofs.number.hash_number.Tie as tie
-use Rattle.hash.proofs.number.hash_number.Reads as reads
-use Rattle.hash.proofs.number.hash_number.Lts as lts
-use Rattle.hash.proofs.number.over.Reads as over-reads
-use Rattle.hash.proofs.number.params_number.Reads as params-number-reads
 
 over-requires : tie.Need-over-requires
 over-requires c κs = search needs

@@ -1,11 +1,8 @@
--- `tree::number::over` meets its contract. Assumes nothing.
+-- `hash::number::over` meets its contract. Assumes nothing.
 use Rattle.hash.specs.HashLaws.{over-by-division}
-use native.Mathlib.Omega.{arith}
 use borrow.Author.Needs.{needs}
 use Rattle.hash.proofs.number.over.Statement.{statement}
 use Rattle.hash.proofs.number.over.Tie as tie
-use Rattle.hash.proofs.number.over.Reads as reads
-use Rattle.hash.proofs.number.over.Lts as lts
 
 add-result : tie.Need-add-result
 add-result c = search needs

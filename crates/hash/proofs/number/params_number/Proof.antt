@@ -1,13 +1,9 @@
--- `tree::number::params_number` meets its contract, one law for each number. Assumes nothing.
+-- `hash::number::params_number` meets its contract, one law for each number. Assumes nothing.
 use Rattle.hash.specs.HashLaws.{number-size, number-key, number-limit, number-rounds, number-fair}
-use mathlib.Core.Path.{_≡_, sym, _∙_}
-use native.Mathlib.Omega.{arith}
+use mathlib.Core.Path.{sym, _∙_}
 use borrow.Author.Needs.{needs}
 use Rattle.hash.proofs.number.params_number.Statement.{statement}
 use Rattle.hash.proofs.number.params_number.Tie as tie
-use Rattle.hash.proofs.number.params_number.Reads as reads
-use Rattle.hash.proofs.number.params_number.Lts as lts
-use Rattle.hash.proofs.number.size_number.Reads as size-number-reads
 
 size-number-requires : tie.Need-size-number-requires
 size-number-requires c κs = search needs

@@ -1,11 +1,7 @@
--- `tree::number::size_number` meets its contract. Assumes nothing.
+-- `hash::number::size_number` meets its contract. Assumes nothing.
 use borrow.Author.Tests.{lt-ltb, le-ltb}
-use borrow.Author.Needs.{needs}
-use native.Mathlib.Omega.{arith}
 use Rattle.hash.proofs.number.size_number.Statement.{statement}
 use Rattle.hash.proofs.number.size_number.Tie as tie
-use Rattle.hash.proofs.number.size_number.Reads as reads
-use Rattle.hash.proofs.number.size_number.Lts as lts
 
 returns : tie.Need-returns
 returns c = simp (lt-ltb _ _ (c .if1 .taken))

@@ -1,4 +1,4 @@
--- `tree::shape::blocks_of` meets its contract. Assumes nothing.
+-- `hash::shape::blocks_of` meets its contract. Assumes nothing.
 use Rattle.hash.specs.ShapeLaws.{blocks-some, blocks-none}
 use native.Mathlib.Nat.{div-le-self}
 use Prim.Native.Nat.{_-_}
@@ -6,8 +6,6 @@ use native.Mathlib.Omega.{arith}
 use borrow.Author.Needs.{needs}
 use Rattle.hash.proofs.shape.blocks_of.Statement.{statement}
 use Rattle.hash.proofs.shape.blocks_of.Tie as tie
-use Rattle.hash.proofs.shape.blocks_of.Reads as reads
-use Rattle.hash.proofs.shape.blocks_of.Lts as lts
 
 returns : tie.Need-returns
 returns c = blocks-none (c .before .args .size) (c .before .args .m) (c .before .pre) (c .if1 .taken)

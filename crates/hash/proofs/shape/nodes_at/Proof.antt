@@ -1,4 +1,4 @@
--- `tree::shape::nodes_at` meets its contract. The loop's invariant: the nodes of the level that is reached. Assumes nothing.
+-- `hash::shape::nodes_at` meets its contract. The loop's invariant: the nodes of the level that is reached. Assumes nothing.
 use Rattle.hash.specs.ShapeLaws.{nodesAt-more}
 use Rattle.hash.specs.ValueLaws.{nodesAt-one}
 use Rattle.hash.specs.Value.{nodesAt}
@@ -9,9 +9,6 @@ use borrow.Author.Needs.{needs}
 use native.Mathlib.Omega.{arith}
 use Rattle.hash.proofs.shape.nodes_at.Statement.{statement}
 use Rattle.hash.proofs.shape.nodes_at.Tie as tie
-use Rattle.hash.proofs.shape.nodes_at.Reads as reads
-use Rattle.hash.proofs.shape.nodes_at.Lts as lts
-use Rattle.hash.proofs.shape.blocks_of.Reads as blocks-of-reads
 
 abbrev Inv-loop : tie.InvT-loop
 Inv-loop bits level nodes₀ at₀ nodes at = (0 < at) × (at ≤ level) × (nodes ≡ nodesAt bits at)

@@ -1,15 +1,10 @@
--- `tree::shape::sequential_nodes` meets its contract. Assumes nothing.
+-- `hash::shape::sequential_nodes` meets its contract. Assumes nothing.
 use Rattle.hash.specs.ShapeLaws.{sequentialNodes-zero, sequentialNodes-more}
 use Rattle.tree.specs.Tree.{blocks}
-use mathlib.Core.Path.{_≡_, _∙_, ap, sym}
-use native.Mathlib.Omega.{arith}
+use mathlib.Core.Path.{_∙_, ap}
 use borrow.Author.Needs.{needs}
 use Rattle.hash.proofs.shape.sequential_nodes.Statement.{statement}
 use Rattle.hash.proofs.shape.sequential_nodes.Tie as tie
-use Rattle.hash.proofs.shape.sequential_nodes.Reads as reads
-use Rattle.hash.proofs.shape.sequential_nodes.Lts as lts
-use Rattle.hash.proofs.shape.blocks_of.Reads as blocks-of-reads
-use Rattle.hash.proofs.shape.nodes_at.Reads as nodes-at-reads
 
 blocks-of-requires : tie.Need-blocks-of-requires
 blocks-of-requires c κs = search needs

@@ -1,4 +1,4 @@
--- `tree::shape::top_level` meets its contract. The loop's invariant: the top is looked for from this level on. Assumes nothing.
+-- `hash::shape::top_level` meets its contract. The loop's invariant: the top is looked for from this level on. Assumes nothing.
 use Rattle.hash.specs.ShapeLaws.{nodesAt-more, top-start, top-one, top-more, top-past, top-most}
 use Rattle.hash.specs.ValueLaws.{nodesAt-one}
 use Rattle.hash.specs.Value.{nodesAt, topFrom, topLevel}
@@ -9,9 +9,6 @@ use borrow.Author.Needs.{needs}
 use native.Mathlib.Omega.{arith}
 use Rattle.hash.proofs.shape.top_level.Statement.{statement}
 use Rattle.hash.proofs.shape.top_level.Tie as tie
-use Rattle.hash.proofs.shape.top_level.Reads as reads
-use Rattle.hash.proofs.shape.top_level.Lts as lts
-use Rattle.hash.proofs.shape.blocks_of.Reads as blocks-of-reads
 
 abbrev Inv-loop : tie.InvT-loop
 Inv-loop limit bits level₀ nodes₀ level nodes = (0 < level) × (level ≤ limit + 1) × (nodes ≡ nodesAt bits level) × (topFrom bits (limit - (level - 1)) level ≡ topLevel limit bits)

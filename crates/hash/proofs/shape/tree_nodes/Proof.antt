@@ -1,4 +1,4 @@
--- `tree::shape::tree_nodes` meets its contract. The loop's invariant: the sum, with the nodes from this level up, is the tree's number. Assumes nothing.
+-- `hash::shape::tree_nodes` meets its contract. The loop's invariant: the sum, with the nodes from this level up, is the tree's number. Assumes nothing.
 use Rattle.hash.specs.ShapeLaws.{nodes-sequential, nodes-start, nodes-one, nodes-more, nodes-last}
 use Rattle.tree.specs.Count.{nodesFrom, treeNodes}
 use Rattle.tree.specs.Tree.{blocks}
@@ -8,9 +8,6 @@ use borrow.Author.Needs.{needs}
 use native.Mathlib.Omega.{arith}
 use Rattle.hash.proofs.shape.tree_nodes.Statement.{statement}
 use Rattle.hash.proofs.shape.tree_nodes.Tie as tie
-use Rattle.hash.proofs.shape.tree_nodes.Reads as reads
-use Rattle.hash.proofs.shape.tree_nodes.Lts as lts
-use Rattle.hash.proofs.shape.blocks_of.Reads as blocks-of-reads
 
 abbrev Inv-loop : tie.InvT-loop
 Inv-loop limit bits sum₀ nodes₀ left₀ sum nodes left = (0 < nodes) × (sum + 2 * nodes ≤ 2 ^ 54) × (sum + nodesFrom left nodes ≡ treeNodes limit bits)

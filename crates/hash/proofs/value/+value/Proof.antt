@@ -1,10 +1,10 @@
--- `tree::value::value` meets its contract. The level falls at each call of itself. The loop's invariant: the block holds the values of the first j children. Assumes nothing.
+-- `hash::value::value` meets its contract. The level falls at each call of itself. The loop's invariant: the block holds the values of the first j children. Assumes nothing.
 use Rattle.hash.specs.Value.{held}
 use lib.Seq.{paste}
 use Rattle.hash.specs.BlockLaws.{child-none, child-more, child-index, node-index, value-made, value-length}
 use Rattle.hash.specs.Ready.{shared}
 use Rattle.hash.specs.Value as spec
-use Rattle.hash.specs.Value.{nodesAt, childWords}
+use Rattle.hash.specs.Value.{childWords}
 use Rattle.hash.specs.Hash.{pieceBits}
 use lib.ListN.{length}
 use Prim.Native.Nat.{_≤_, _-_, _+_, _*_}

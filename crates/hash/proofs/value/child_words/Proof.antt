@@ -1,4 +1,4 @@
--- `tree::value::child_words` meets its contract. The loop's invariant: the words hold the values of the first j children. Assumes nothing.
+-- `hash::value::child_words` meets its contract. The loop's invariant: the words hold the values of the first j children. Assumes nothing.
 use Rattle.hash.specs.SequentialLaws.{third-index, sequential-index, words-children}
 use Rattle.hash.specs.BlockLaws.{child-none, child-more, value-length}
 use Rattle.hash.specs.Ready.{shared}
@@ -14,12 +14,6 @@ use borrow.Author.Needs.{needs}
 use native.Mathlib.Omega.{arith}
 use Rattle.hash.proofs.value.child_words.Statement.{statement}
 use Rattle.hash.proofs.value.child_words.Tie as tie
-use Rattle.hash.proofs.value.child_words.Reads as reads
-use Rattle.hash.proofs.value.child_words.Lts as lts
-use Rattle.hash.proofs.node.put_words.Reads as put-words-reads
-use Rattle.hash.proofs.shape.nodes_at.Reads as nodes-at-reads
-use Rattle.hash.proofs.shape.taken.Reads as taken-reads
-use Rattle.hash.proofs.value.value.Reads as value-reads
 
 abbrev Inv-loop : tie.InvT-loop
 Inv-loop message bits params k table index limit n rest₀ j₀ rest j = (j ≤ n) × (rest ≡ childWords (λ i. spec.value (shared k params) (pieceBits message bits) (params .limit) i 0) 3 (3 * index) j) × (length rest ≡ 48)

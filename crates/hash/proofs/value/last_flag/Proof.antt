@@ -1,4 +1,4 @@
--- `tree::value::last_flag` meets its contract. Assumes nothing.
+-- `hash::value::last_flag` meets its contract. Assumes nothing.
 use borrow.Author.Tests.{eq-eqb, ne-eqb}
 use Prim.Native.Nat.{suc}
 use mathlib.Core.Path.{_≡_, refl}
@@ -6,8 +6,6 @@ use native.Mathlib.Omega.{arith}
 use borrow.Author.Needs.{needs}
 use Rattle.hash.proofs.value.last_flag.Statement.{statement}
 use Rattle.hash.proofs.value.last_flag.Tie as tie
-use Rattle.hash.proofs.value.last_flag.Reads as reads
-use Rattle.hash.proofs.value.last_flag.Lts as lts
 
 add-if1 : tie.Need-add-if1
 add-if1 c = search needs

@@ -1,21 +1,15 @@
--- `tree::value::leaf` meets its contract. Assumes nothing.
+-- `hash::value::leaf` meets its contract. Assumes nothing.
 use mathlib.Core.List.{List}
 use Prim.Native.Nat.{ℕ, _+_, _*_}
 use lib.ListN.{length}
 use Rattle.bits.specs.Bits.{filled}
 use Rattle.hash.specs.Ready.{shared}
 use Rattle.hash.specs.BlockLaws.{leaf-index, leaf-made}
-use mathlib.Core.Path.{_≡_, _∙_, ap}
+use mathlib.Core.Path.{_∙_, ap}
 use native.Mathlib.Omega.{arith}
 use borrow.Author.Needs.{needs}
 use Rattle.hash.proofs.value.leaf.Statement.{statement}
 use Rattle.hash.proofs.value.leaf.Tie as tie
-use Rattle.hash.proofs.value.leaf.Reads as reads
-use Rattle.hash.proofs.value.leaf.Lts as lts
-use Rattle.bits.proofs.fill.Reads as fill-reads
-use Rattle.hash.proofs.Block.new.Reads as new-reads
-use Rattle.hash.proofs.shape.taken.Reads as taken-reads
-use Rattle.hash.proofs.value.made.Reads as made-reads
 
 taken-requires : tie.Need-taken-requires
 taken-requires c κs = let start = c .before .before .before in leaf-index (start .args .bits) (start .args .index) (start .pre .2)

@@ -1,15 +1,9 @@
--- `tree::value::made` meets its contract. Assumes nothing.
+-- `hash::value::made` meets its contract. Assumes nothing.
 use Rattle.hash.specs.Value.{nodeWords}
-use mathlib.Core.Path.{_≡_, _∙_, ap}
-use native.Mathlib.Omega.{arith}
+use mathlib.Core.Path.{_∙_}
 use borrow.Author.Needs.{needs}
 use Rattle.hash.proofs.value.made.Statement.{statement}
 use Rattle.hash.proofs.value.made.Tie as tie
-use Rattle.hash.proofs.value.made.Reads as reads
-use Rattle.hash.proofs.value.made.Lts as lts
-use Rattle.hash.proofs.node.compress_node.Reads as compress-node-reads
-use Rattle.hash.proofs.node.node_u.Reads as node-u-reads
-use Rattle.hash.proofs.node.node_v.Reads as node-v-reads
 
 node-u-requires : tie.Need-node-u-requires
 node-u-requires c κs = search needs

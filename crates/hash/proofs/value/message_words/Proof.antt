@@ -1,14 +1,10 @@
--- `tree::value::message_words` meets its contract. Assumes nothing.
+-- `hash::value::message_words` meets its contract. Assumes nothing.
 use Rattle.hash.specs.SequentialLaws.{message-index, message-filled}
-use mathlib.Core.Path.{_≡_, _∙_, ap}
+use mathlib.Core.Path.{_∙_}
 use native.Mathlib.Omega.{arith}
 use borrow.Author.Needs.{needs}
 use Rattle.hash.proofs.value.message_words.Statement.{statement}
 use Rattle.hash.proofs.value.message_words.Tie as tie
-use Rattle.hash.proofs.value.message_words.Reads as reads
-use Rattle.hash.proofs.value.message_words.Lts as lts
-use Rattle.bits.proofs.fill.Reads as fill-reads
-use Rattle.hash.proofs.shape.taken.Reads as taken-reads
 
 taken-requires : tie.Need-taken-requires
 taken-requires c κs = let s = c .before in message-index (s .args .bits) (s .args .index) (s .pre .1)

@@ -1,19 +1,14 @@
--- `tree::value::root` meets its contract. Assumes nothing.
+-- `hash::value::root` meets its contract. Assumes nothing.
 use Rattle.hash.specs.SequentialLaws.{root-chain, root-parallel, top-some, first-node}
 use Rattle.hash.specs.Ready.{shared}
 use Rattle.hash.specs.Value as spec
 use Rattle.hash.specs.Hash.{pieceBits}
 use Prim.Native.Nat.{ℕ, _<_}
-use mathlib.Core.Path.{_≡_, _∙_, ap}
+use mathlib.Core.Path.{_∙_, ap}
 use native.Mathlib.Omega.{arith}
 use borrow.Author.Needs.{needs}
 use Rattle.hash.proofs.value.root.Statement.{statement}
 use Rattle.hash.proofs.value.root.Tie as tie
-use Rattle.hash.proofs.value.root.Reads as reads
-use Rattle.hash.proofs.value.root.Lts as lts
-use Rattle.hash.proofs.shape.top_level.Reads as top-level-reads
-use Rattle.hash.proofs.value.sequential.Reads as sequential-reads
-use Rattle.hash.proofs.value.value.Reads as value-reads
 
 top-level-requires : tie.Need-top-level-requires
 top-level-requires c κs = search needs

@@ -1,4 +1,4 @@
--- `tree::value::sequential` meets its contract. The loop's invariant: the chain after i nodes. Assumes nothing.
+-- `hash::value::sequential` meets its contract. The loop's invariant: the chain after i nodes. Assumes nothing.
 use Rattle.hash.specs.SequentialLaws.{chain-more}
 use Rattle.hash.specs.Ready.{shared}
 use Rattle.hash.specs.ValueLaws.{chain-zero, length-chain}
@@ -13,11 +13,6 @@ use borrow.Author.Needs.{needs}
 use native.Mathlib.Omega.{arith}
 use Rattle.hash.proofs.value.sequential.Statement.{statement}
 use Rattle.hash.proofs.value.sequential.Tie as tie
-use Rattle.hash.proofs.value.sequential.Reads as reads
-use Rattle.hash.proofs.value.sequential.Lts as lts
-use Rattle.hash.proofs.shape.sequential_nodes.Reads as sequential-nodes-reads
-use Rattle.hash.proofs.value.last_flag.Reads as last-flag-reads
-use Rattle.hash.proofs.value.sequential_value.Reads as sequential-value-reads
 
 abbrev Inv-loop : tie.InvT-loop
 Inv-loop message bits params k table nodes last₀ i₀ last i = (i ≤ nodes) × (last ≡ chain (shared k params) (params .limit) (pieceBits message bits) i) × (length last ≡ 16)

@@ -1,16 +1,11 @@
--- `tree::value::sequential_padding` meets its contract. Assumes nothing.
+-- `hash::value::sequential_padding` meets its contract. Assumes nothing.
 use Rattle.hash.specs.SequentialLaws.{message-index, third-index, padding-message, padding-children}
 use Rattle.hash.specs.Value.{held}
 use Prim.Native.Nat.{ℕ, _-_, _*_}
-use mathlib.Core.Path.{_≡_, _∙_, ap}
+use mathlib.Core.Path.{_∙_, ap}
 use native.Mathlib.Omega.{arith}
-use borrow.Author.Needs.{needs}
 use Rattle.hash.proofs.value.sequential_padding.Statement.{statement}
 use Rattle.hash.proofs.value.sequential_padding.Tie as tie
-use Rattle.hash.proofs.value.sequential_padding.Reads as reads
-use Rattle.hash.proofs.value.sequential_padding.Lts as lts
-use Rattle.hash.proofs.shape.nodes_at.Reads as nodes-at-reads
-use Rattle.hash.proofs.shape.taken.Reads as taken-reads
 
 taken-requires : tie.Need-taken-requires
 taken-requires c κs = let s = c .before in message-index (s .args .bits) (s .args .index) (rw (c .if1 .taken) at (s .pre))

@@ -1,4 +1,4 @@
--- `tree::value::sequential_value` meets its contract. Assumes nothing.
+-- `hash::value::sequential_value` meets its contract. Assumes nothing.
 use Rattle.hash.specs.SequentialLaws.{sequential-index, block-made}
 use Rattle.hash.specs.Ready.{shared}
 use Rattle.hash.specs.ValueLaws.{length-sequentialWords}
@@ -13,12 +13,6 @@ use native.Mathlib.Omega.{arith}
 use borrow.Author.Needs.{needs}
 use Rattle.hash.proofs.value.sequential_value.Statement.{statement}
 use Rattle.hash.proofs.value.sequential_value.Tie as tie
-use Rattle.hash.proofs.value.sequential_value.Reads as reads
-use Rattle.hash.proofs.value.sequential_value.Lts as lts
-use Rattle.hash.proofs.node.put_words.Reads as put-words-reads
-use Rattle.hash.proofs.value.made.Reads as made-reads
-use Rattle.hash.proofs.value.sequential_padding.Reads as sequential-padding-reads
-use Rattle.hash.proofs.value.sequential_words.Reads as sequential-words-reads
 
 sequential-words-requires : tie.Need-sequential-words-requires
 sequential-words-requires c κs = search needs

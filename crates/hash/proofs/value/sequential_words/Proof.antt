@@ -1,16 +1,12 @@
--- `tree::value::sequential_words` meets its contract. Assumes nothing.
+-- `hash::value::sequential_words` meets its contract. Assumes nothing.
 use Rattle.hash.specs.SequentialLaws.{words-message}
 use Rattle.hash.specs.Ready.{shared}
 use Rattle.hash.specs.Hash.{pieceBits}
-use mathlib.Core.Path.{_≡_, _∙_}
+use mathlib.Core.Path.{_∙_}
 use native.Mathlib.Omega.{arith}
 use borrow.Author.Needs.{needs}
 use Rattle.hash.proofs.value.sequential_words.Statement.{statement}
 use Rattle.hash.proofs.value.sequential_words.Tie as tie
-use Rattle.hash.proofs.value.sequential_words.Reads as reads
-use Rattle.hash.proofs.value.sequential_words.Lts as lts
-use Rattle.hash.proofs.value.child_words.Reads as child-words-reads
-use Rattle.hash.proofs.value.message_words.Reads as message-words-reads
 
 message-words-requires : tie.Need-message-words-requires
 message-words-requires c κs = let s = c .before .before .before .before .before in (s .pre .1, rw (c .if1 .taken) at (s .pre .2))

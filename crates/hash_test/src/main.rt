@@ -1,0 +1,126 @@
+// Runs the whole-message call on the rows of document 01's "Reels by hand", on the edges of each parameter and on the
+// messages of the report's Appendix C. A line is the number, the count and the output, which held a5 in every byte before
+// the call. tests/hash/expected.py makes the expected lines with the second program.
+ghost use mathlib.Core.Path.{_≡_};
+ghost use Prim.Native.Nat.{_≤_};
+ghost use lib.ListN.{length};
+use libc::STDOUT_FILENO;
+
+fn wide(b: u8) -> u64 {
+    b as u64
+}
+
+// Writes bytes in hexadecimal.
+fn print_bytes(bytes: &[u8]) {
+    let mut i = 0;
+    while i < bytes.len() {
+        io::print_hex(STDOUT_FILENO, wide(bytes[i]), 2);
+        i += 1;
+    }
+}
+
+// Calls hash, and writes what it answers.
+fn call(message: &[u8], bits: u64, key: &[u8], d: u64, limit: u64, rounds: u64, out: &mut [u8]) {
+    let answer = hash::hash(message, bits, key, d, limit, rounds, &mut *out);
+    io::print_decimal(STDOUT_FILENO, answer.number);
+    io::write_all(STDOUT_FILENO, b" ");
+    io::print_decimal(STDOUT_FILENO, answer.count);
+    io::write_all(STDOUT_FILENO, b" ");
+    print_bytes(&*out);
+    io::write_all(STDOUT_FILENO, b"\n");
+}
+
+// The call with an output of so many bytes.
+fn show(message: &[u8], bits: u64, key: &[u8], d: u64, limit: u64, rounds: u64, room: usize)
+    requires { ⌜ room ≤ 66 ⌝ }
+{
+    let mut out = [0xa5u8; 66];
+    call(message, bits, key, d, limit, rounds, &mut out[..room]);
+}
+
+// A row of "Reels by hand": a message of ones, r = 0 and no key.
+fn reel(bits: u64, limit: u64, d: u64, room: usize)
+    requires { ⌜ room ≤ 66 ⌝ }
+{
+    let ones = [0xffu8; 2049];
+    show(&ones, bits, b"", d, limit, 0, room);
+}
+
+fn reels() {
+    reel(0, 64, 8, 1);
+    reel(4096, 64, 8, 1);
+    reel(4097, 64, 8, 1);
+    reel(16384, 64, 8, 1);
+    reel(16384, 64, 9, 2);
+    reel(16385, 64, 8, 1);
+    reel(0, 0, 8, 1);
+    reel(3073, 0, 8, 1);
+    reel(12288, 1, 8, 1);
+    reel(12289, 1, 8, 1);
+}
+
+// The edges of d, the key, L and r, a bit count over 8 times the bytes, an output that is too short, and one that is longer.
+fn edges() {
+    let key = [0x6bu8; 65];
+    show(b"abc", 24, b"", 0, 64, 5, 1);
+    show(b"abc", 24, b"", 1, 64, 5, 1);
+    show(b"abc", 24, b"", 512, 64, 5, 64);
+    show(b"abc", 24, b"", 513, 64, 5, 66);
+    show(b"abc", 24, b"", 4294967304, 64, 5, 1);
+    show(b"abc", 24, &key[..64], 8, 64, 5, 1);
+    show(b"abc", 24, &key, 8, 64, 5, 1);
+    show(b"abc", 24, b"", 8, 64, 5, 1);
+    show(b"abc", 24, b"", 8, 65, 5, 1);
+    show(b"abc", 24, b"", 8, 64, 255, 1);
+    show(b"abc", 24, b"", 8, 64, 256, 1);
+    show(b"abc", 25, b"", 0, 65, 256, 0);
+    show(b"abc", 18446744073709551615, b"", 8, 64, 5, 1);
+    show(b"abc", 23, b"", 9, 64, 5, 1);
+    show(b"abc", 23, b"", 9, 64, 5, 3);
+    show(b"abc", 24, &key, 0, 65, 256, 0);
+    show(b"abc", 24, &key, 8, 65, 256, 0);
+    show(b"abc", 24, b"", 8, 65, 256, 0);
+    show(b"abc", 24, b"", 8, 64, 256, 0);
+}
+
+// The bytes 11 22 33 44 55 66 77, repeated.
+fn repeated() -> [u8; 800]
+    ensures { λ r. ⌜ 800 ≡ length r ⌝ }
+{
+    let mut bytes = [0u8; 800];
+    let mut i = 0;
+    while i < 800 {
+        bytes[i] = (17 * (i % 7 + 1)) as u8;
+        i += 1;
+    }
+    bytes
+}
+
+// The report's C.1, C.2 and C.3.
+fn report() {
+    let bytes = repeated();
+    show(b"abc", 24, b"", 256, 64, 5, 32);
+    show(&bytes[..600], 4800, b"abcde12345", 224, 64, 5, 28);
+    show(&bytes, 6400, b"abcde12345", 256, 0, 5, 32);
+}
+
+// The default rounds at the edges of d.
+fn default_rounds(d: u64) {
+    let answer = hash::default_rounds(d);
+    io::print_decimal(STDOUT_FILENO, answer.number);
+    io::write_all(STDOUT_FILENO, b" ");
+    io::print_decimal(STDOUT_FILENO, answer.count);
+    io::write_all(STDOUT_FILENO, b"\n");
+}
+
+fn main() {
+    reels();
+    edges();
+    report();
+    default_rounds(0);
+    default_rounds(1);
+    default_rounds(160);
+    default_rounds(256);
+    default_rounds(512);
+    default_rounds(513);
+}

@@ -1,0 +1,68 @@
+#!/usr/bin/env python3
+"""expected.py MD6REF: the lines that the program hash_test must write.
+
+MD6REF is the second program (tests/second/md6ref.c), compiled. Accepted calls are run by it: it prints a line for each node
+and then the digest. Refusals are those of document 01's table, and a refused call leaves the output as it was, a5.
+"""
+import subprocess
+import sys
+
+ONES = b"\xff" * 2049
+REPEATED = bytes(17 * (i % 7 + 1) for i in range(800))
+
+
+def accepted(message, bits, key, d, limit, rounds, room):
+    line = f"{d} {limit} {rounds} {key.hex() or '-'}\n".encode()
+    run = subprocess.run([sys.argv[1], "--bits", str(bits)], input=line + message, stdout=subprocess.PIPE, check=True)
+    lines = run.stdout.decode().split()
+    digest = lines[-1]
+    return f"0 {(len(lines) - 1) // 2} {digest}{'a5' * (room - len(digest) // 2)}"
+
+
+def refused(number, room):
+    return f"{number} 0 {'a5' * room}"
+
+
+def reels():
+    rows = [(0, 64, 8), (4096, 64, 8), (4097, 64, 8), (16384, 64, 8), (16384, 64, 9), (16385, 64, 8),
+            (0, 0, 8), (3073, 0, 8), (12288, 1, 8), (12289, 1, 8)]
+    return [accepted(ONES, bits, b"", d, limit, 0, (d + 7) // 8) for bits, limit, d in rows]
+
+
+def edges():
+    abc = b"abc"
+    return [
+        refused(1, 1),
+        accepted(abc, 24, b"", 1, 64, 5, 1),
+        accepted(abc, 24, b"", 512, 64, 5, 64),
+        refused(1, 66),
+        refused(1, 1),
+        accepted(abc, 24, b"k" * 64, 8, 64, 5, 1),
+        refused(2, 1),
+        accepted(abc, 24, b"", 8, 64, 5, 1),
+        refused(3, 1),
+        accepted(abc, 24, b"", 8, 64, 255, 1),
+        refused(4, 1),
+        refused(5, 0),
+        refused(5, 1),
+        refused(9, 1),
+        accepted(abc, 23, b"", 9, 64, 5, 3),
+        refused(1, 0),
+        refused(2, 0),
+        refused(3, 0),
+        refused(4, 0),
+    ]
+
+
+def report():
+    key = b"abcde12345"
+    return [
+        accepted(b"abc", 24, b"", 256, 64, 5, 32),
+        accepted(REPEATED[:600], 4800, key, 224, 64, 5, 28),
+        accepted(REPEATED, 6400, key, 256, 0, 5, 32),
+    ]
+
+
+DEFAULTS = ["1 0", "0 40", "0 80", "0 104", "0 168", "1 0"]
+
+print("\n".join(reels() + edges() + report() + DEFAULTS))
