@@ -17,6 +17,11 @@
 extern "C" {
 #endif
 
+/* Sizes to lend: the words of a stream's area, the most words of log that an end needs, the most bytes of a suspended text. */
+#define MD6_AREA_WORDS 1744
+#define MD6_END_LOG_WORDS 54
+#define MD6_TEXT_BYTES 27903
+
 /* A number, 0 if the call was accepted, and a count, 0 if it was refused. */
 typedef struct {
     uint64_t number, count;
@@ -39,6 +44,61 @@ uint64_t md6_hash(const uint8_t *message, size_t message_bytes, uint64_t bits,
 
 /* The default rounds for a digest of d bits, 40 + d/4 rounded down, as count; or number 1 if d is not 1 to 512. */
 md6_answer md6_default_rounds(uint64_t d);
+
+/* Opens a stream in an area of at least MD6_AREA_WORDS words, whatever it held; words past those are never touched, by no
+ * call. Refuses, the first that holds:
+ *   7  the area has fewer words
+ *   1  d is not 1 to 512
+ *   2  the key has over 64 bytes
+ *   3  `limit` is over 64
+ *   4  `rounds` is over 255
+ * Between calls nobody else may alter the area; an area that was altered is refused as unsound, or is another stream.
+ */
+md6_answer md6_open(uint64_t *area, size_t area_words,
+                    const uint8_t *key, size_t key_bytes,
+                    uint64_t d, uint64_t limit, uint64_t rounds);
+
+/* Feeds the first `bits` bits of a piece. The count is the number of nodes compressed; U and V of each, in order, are written
+ * to the log from its first word, and the rest of the log stays. Refuses, the first that holds:
+ *   7   the area is short or unsound
+ *   10  the stream has ended
+ *   5   `bits` is over 8 times the piece's bytes
+ *   6   the stream's total would pass 2^64 - 1 bits
+ *   8   the log has fewer than two words for each node
+ */
+md6_answer md6_feed(uint64_t *area, size_t area_words,
+                    const uint8_t *piece, size_t piece_bytes, uint64_t bits,
+                    uint64_t *log, size_t log_words);
+
+/* Ends a stream: the digest to the first (d + 7) / 8 bytes of `digest`, U and V of the last nodes to the log, their number as
+ * count; MD6_END_LOG_WORDS words of log are always enough. Refuses, the first that holds:
+ *   7   the area is short or unsound
+ *   10  the stream has ended
+ *   9   `digest` has fewer than (d + 7) / 8 bytes
+ *   8   the log has fewer than two words for each node
+ */
+md6_answer md6_end(uint64_t *area, size_t area_words,
+                   uint8_t *digest, size_t digest_bytes,
+                   uint64_t *log, size_t log_words);
+
+/* As count, words of log that are enough to feed `bits` bits to any open area. Refuses nothing. */
+md6_answer md6_log_words(uint64_t bits);
+
+/* Writes a stream as text, to read it back later, there or elsewhere; the count is the text's bytes, at most MD6_TEXT_BYTES.
+ * The bytes past the text stay. Refuses, the first that holds:
+ *   7  the area is short or unsound
+ *   9  `text` is shorter than the text
+ */
+md6_answer md6_write(const uint64_t *area, size_t area_words,
+                     uint8_t *text, size_t text_bytes);
+
+/* Reads a text into an area of at least MD6_AREA_WORDS words, whatever it held: from then on the stream is in that area. The
+ * text is the whole of what is lent. Refuses, the first that holds:
+ *   7   the area has fewer words
+ *   11  the text is not what writing some sound area gives
+ */
+md6_answer md6_read(uint64_t *area, size_t area_words,
+                    const uint8_t *text, size_t text_bytes);
 
 #ifdef __cplusplus
 }

@@ -1,6 +1,8 @@
 // The face for a host program in C (include/md6.h).
 ghost use mathlib.Core.Path.{_≡_};
 ghost use Rattle.hash.specs.Hash.{hashOf, defaultRoundsOf};
+ghost use Rattle.area.specs.Calls.{openOf, feedOf, endOf, logWordsOf};
+ghost use Rattle.stream.specs.Answers.{params, opened, fed, ended};
 
 // The digest of a whole message. Answers the number alone.
 #[no_mangle]
@@ -25,4 +27,36 @@ pub extern "C" fn md6_default_rounds(d: u64) -> hash::Answer
     ensures { λ o. ⌜ record { number = o .number; count = o .count } ≡ defaultRoundsOf d ⌝ }
 {
     hash::default_rounds(d)
+}
+
+// Opens a stream in an area.
+#[no_mangle]
+pub extern "C" fn md6_open(area: &mut [u64], key: &[u8], d: u64, limit: u64, rounds: u64) -> stream::Answer
+    ensures { λ o. ⌜ opened (o .number) (o .count) (now (area .exit)) ≡ openOf (now (area .entry)) (params (now (key .entry)) d limit rounds) ⌝ }
+{
+    stream::open(area, key, d, limit, rounds)
+}
+
+// Feeds the first bits of a piece.
+#[no_mangle]
+pub extern "C" fn md6_feed(area: &mut [u64], piece: &[u8], bits: u64, log: &mut [u64]) -> stream::Answer
+    ensures { λ o. ⌜ fed (o .number) (o .count) (now (area .exit)) (now (log .exit)) ≡ feedOf (now (area .entry)) (now (piece .entry)) bits (now (log .entry)) ⌝ }
+{
+    stream::feed(area, piece, bits, log)
+}
+
+// Ends a stream.
+#[no_mangle]
+pub extern "C" fn md6_end(area: &mut [u64], digest: &mut [u8], log: &mut [u64]) -> stream::Answer
+    ensures { λ o. ⌜ ended (o .number) (o .count) (now (area .exit)) (now (digest .exit)) (now (log .exit)) ≡ endOf (now (area .entry)) (now (digest .entry)) (now (log .entry)) ⌝ }
+{
+    stream::close::end(area, digest, log)
+}
+
+// Tells how many words of log are enough for a piece of so many bits.
+#[no_mangle]
+pub extern "C" fn md6_log_words(bits: u64) -> stream::Answer
+    ensures { λ o. ⌜ (o .number ≡ 0) × (o .count ≡ logWordsOf bits) ⌝ }
+{
+    stream::log_words(bits)
 }

@@ -1,0 +1,192 @@
+-- The words of an area and what they stand for: head, levels and tail are read back as they were written.
+-- Assumes nothing.
+use mathlib.Core.Path.{_≡_, refl, sym, ap, _∙_}
+use mathlib.Core.Bool.{Bool, true, false}
+use mathlib.Core.List.{List, [], _∷_, _++_, append-assoc, append-nil}
+use Prim.Native.Nat.{ℕ, zero, suc, _+_, _-_, _*_, _^_, _≤_, _<_}
+use native.Mathlib.Omega.{arith}
+use lib.ListN.{length, take, drop, getD, set, replicate, length-append, length-drop, length-replicate, length-set, take-append-drop}
+use lib.Seq.{take-at, drop-at, getD-take, drop-append-le, take-append-le, take-set-le, drop-set-lt, drop-set-add, getD-set-same, getD-set-other, length-take-le}
+use Rattle.lists.specs.Append.{cons-eq}
+use Rattle.lists.specs.Below.{Below}
+use Rattle.lists.specs.Concat.{concat}
+use Rattle.bits.specs.Bits.{bitsOf, numbers}
+use Rattle.bits.specs.BitsLaws.{length-bitsOf, length-numbers, bitsOf-append, bitsOf-zeros, bitsOf-numbers, numbers-bitsOf}
+use Rattle.tree.specs.Tree.{keyWords, mostLevels}
+use Rattle.area.specs.Area.{headWords, areaWords, keyOf, compressionsOf, paramsOf, levelWords, levelsFrom, levelsOf, withLevels, allFalse}
+use Rattle.area.specs.Rows.{AllLen, length-concat}
+
+-- ---- head, levels and tail
+
+levels-from : (pre : List ℕ) (st : List (List ℕ)) (tail : List ℕ) (k : ℕ) → AllLen 64 st → 0 < k → length pre ≡ 16 + 64 * (k - 1) →
+    levelsFrom (pre ++ (concat st ++ tail)) (length st) k ≡ st
+levels-from pre [] tail k a h e = refl
+levels-from pre (ws ∷ st) tail k a h e =
+    let s : pre ++ (ws ++ (concat st ++ tail)) ≡ (pre ++ ws) ++ (concat st ++ tail) = sym (append-assoc pre ws (concat st ++ tail)) in
+    let l : length (pre ++ ws) ≡ 16 + 64 * (suc k - 1) = rw (length-append pre ws) (omega (arith, a .0)) in
+    let first : levelWords (pre ++ (ws ++ (concat st ++ tail))) k ≡ ws =
+    rw (drop-at pre (ws ++ (concat st ++ tail)) (16 + 64 * (k - 1)) e) (take-at ws (concat st ++ tail) 64 (a .0)) in
+    rw (append-assoc ws (concat st) tail)
+    (cons-eq first (rw s (levels-from (pre ++ ws) st tail (suc k) (a .1) (omega arith) l)))
+
+-- the levels that stand after 16 words
+pub levelsOf-at : (pre : List ℕ) (st : List (List ℕ)) (tail : List ℕ) → length pre ≡ 16 → AllLen 64 st → length st ≡ mostLevels →
+    levelsOf (pre ++ (concat st ++ tail)) ≡ st
+unfolding levelsOf
+levelsOf-at pre st tail e a n =
+    ap (λ (j : ℕ). levelsFrom (pre ++ (concat st ++ tail)) j 1) (sym n) ∙ levels-from pre st tail 1 a (omega arith) e
+
+module _ (area : List ℕ) (st : List (List ℕ)) (long : areaWords ≤ length area) (a : AllLen 64 st) (n : length st ≡ mostLevels) where
+  head-length : length (take headWords area) ≡ 16
+  head-length = length-take-le 16 area (omega arith)
+
+  width : length (concat st) ≡ 1728
+  width = length-concat 64 st a ∙ rw n refl
+
+  pub length-withLevels : length (withLevels area st) ≡ length area
+  unfolding withLevels
+  length-withLevels =
+      length-append (take 16 area) (concat st ++ drop areaWords area)
+      ∙ rw (head-length, length-append (concat st) (drop areaWords area), width, length-drop areaWords area) (omega arith)
+
+  pub head-withLevels : take headWords (withLevels area st) ≡ take headWords area
+  unfolding withLevels
+  head-withLevels = take-at (take 16 area) (concat st ++ drop areaWords area) 16 head-length
+
+  pub tail-withLevels : drop areaWords (withLevels area st) ≡ drop areaWords area
+  unfolding withLevels
+  tail-withLevels =
+      rw (← append-assoc (take 16 area) (concat st) (drop areaWords area))
+      (drop-at (take 16 area ++ concat st) (drop areaWords area) areaWords (length-append (take 16 area) (concat st) ∙ rw (head-length, width) refl))
+
+  pub levelsOf-withLevels : levelsOf (withLevels area st) ≡ st
+  unfolding withLevels
+  levelsOf-withLevels = levelsOf-at (take 16 area) st (drop areaWords area) head-length a n
+
+-- ---- the head's words
+
+pub getD-head : (area : List ℕ) (i : ℕ) → i < headWords → getD area i 0 ≡ getD (take headWords area) i 0
+getD-head area i h = sym (getD-take 16 area i 0 h)
+
+pub key-head : (area : List ℕ) → headWords ≤ length area → keyOf area ≡ take 8 (drop 6 (take headWords area))
+key-head area h =
+    let l : length (take headWords area) ≡ 16 = length-take-le 16 area h in
+    ap (λ (x : List ℕ). take 8 (drop 6 x)) (sym (take-append-drop 16 area))
+    ∙ rw (drop-append-le 6 (take headWords area) (drop headWords area) (omega arith))
+    (take-append-le 8 (drop 6 (take headWords area)) (drop headWords area) (rw (length-drop 6 (take headWords area)) (omega arith)))
+
+-- two areas with one head have the same numbers
+pub same-word : (x y : List ℕ) → take headWords x ≡ take headWords y → (i : ℕ) → i < headWords → getD x i 0 ≡ getD y i 0
+same-word x y e i h = getD-head x i h ∙ rw e (sym (getD-head y i h))
+
+pub same-key : (x y : List ℕ) → headWords ≤ length x → headWords ≤ length y → take headWords x ≡ take headWords y → keyOf x ≡ keyOf y
+same-key x y hx hy e = key-head x hx ∙ rw e (sym (key-head y hy))
+
+-- the parameters go by the words 2 to 5 and K
+pub same-params : (x y : List ℕ) → keyOf x ≡ keyOf y → ((i : ℕ) → 2 ≤ i → i < 6 → getD x i 0 ≡ getD y i 0) → paramsOf x ≡ paramsOf y
+unfolding paramsOf
+same-params x y k f =
+    let b = f 2 (omega arith) (omega arith) in
+    let d = f 3 (omega arith) (omega arith) in
+    let l = f 4 (omega arith) (omega arith) in
+    let r = f 5 (omega arith) (omega arith) in
+    rw (k, b, d, l, r) refl
+
+-- K stays where a word before it, and word 14, are set
+pub key-set : (area : List ℕ) (i v w : ℕ) → i < 6 → keyOf (set (set area i v) 14 w) ≡ keyOf area
+key-set area i v w h =
+    ap (take 8) (drop-set-add 6 (set area i v) 8 w) ∙ take-set-le 8 (drop 6 (set area i v)) 8 w (omega arith) ∙ ap (take 8) (drop-set-lt 6 area i v h)
+
+-- ---- no bit set
+
+pub allFalse-replicate : (n : ℕ) → allFalse (replicate n false) ≡ true
+allFalse-replicate zero = refl
+allFalse-replicate (suc n) = allFalse-replicate n
+
+pub allFalse-is : (bs : List Bool) → allFalse bs ≡ true → bs ≡ replicate (length bs) false
+allFalse-is [] e = refl
+allFalse-is (true ∷ bs) e = let z : _≡_ {A = ℕ} 0 1 = cc in absurd (omega arith)
+allFalse-is (false ∷ bs) e = cons-eq refl (allFalse-is bs e)
+
+-- ---- the key
+
+key-bits : (key : List ℕ) → length key ≤ 64 → bitsOf 64 (keyWords key) ≡ bitsOf 8 key ++ replicate ((64 - length key) * 8) false
+unfolding keyWords
+key-bits key h =
+    let z : List ℕ = replicate (64 - length key) 0 in
+    let l : length (bitsOf 8 (key ++ z)) ≡ 512 = length-bitsOf 8 (key ++ z) ∙ rw (length-append key z, length-replicate {A = ℕ} (64 - length key) 0) (omega arith) in
+    bitsOf-numbers 64 8 (bitsOf 8 (key ++ z)) (omega arith) ∙ lib.Seq.take-all 512 (bitsOf 8 (key ++ z)) (omega arith) ∙ bitsOf-append 8 key z
+    ∙ rw (bitsOf-zeros 8 (64 - length key)) refl
+
+-- the key's bytes are read back from K
+pub key-back : (key : List ℕ) → Below 256 key → length key ≤ 64 → numbers 8 (length key) (bitsOf 64 (keyWords key)) ≡ key
+key-back key b h = rw (key-bits key h) (numbers-bitsOf 8 (replicate ((64 - length key) * 8) false) b)
+
+pub key-clean : (key : List ℕ) → length key ≤ 64 → allFalse (drop (8 * length key) (bitsOf 64 (keyWords key))) ≡ true
+key-clean key h =
+    rw (key-bits key h, drop-at (bitsOf 8 key) (replicate ((64 - length key) * 8) false) (8 * length key) (length-bitsOf 8 key ∙ omega arith))
+    (allFalse-replicate ((64 - length key) * 8))
+
+-- K of the key that an area's K and key bytes stand for, where unused key bytes are zero
+pub key-words : (k : List ℕ) (n : ℕ) → Below (2 ^ 64) k → length k ≡ 8 → n ≤ 64 → allFalse (drop (8 * n) (bitsOf 64 k)) ≡ true →
+    keyWords (numbers 8 n (bitsOf 64 k)) ≡ k
+unfolding keyWords
+key-words k n b e h f =
+    let X : List Bool = bitsOf 64 k in
+    let l : length X ≡ 512 = length-bitsOf 64 k ∙ rw e refl in
+    let c : 8 * n ≡ n * 8 = omega arith in
+    let m : length (drop (n * 8) X) ≡ (64 - n) * 8 = length-drop (n * 8) X ∙ omega arith in
+    let z : drop (n * 8) X ≡ replicate ((64 - n) * 8) false = allFalse-is (drop (n * 8) X) (rw c at f) ∙ rw m in
+    let w : bitsOf 8 (numbers 8 n X ++ replicate (64 - n) 0) ≡ X =
+    bitsOf-append 8 (numbers 8 n X) (replicate (64 - n) 0)
+    ∙ rw (bitsOf-numbers 8 n X (omega arith), bitsOf-zeros 8 (64 - n), ← z) (take-append-drop (n * 8) X) in
+    let r = numbers-bitsOf 64 {ws = k} [] b in
+    rw (length-numbers 8 n X, w) (rw (e, append-nil) at r)
+
+-- ---- an area whose word i, 0 or 1, word 14 and levels are changed
+
+pub record Changed (area : List ℕ) (i v w : ℕ) (st : List (List ℕ)) (to : List ℕ) : Type 0 where
+  pub size : length to ≡ length area
+  pub set : getD to i 0 ≡ v
+  pub count : compressionsOf to ≡ w
+  pub same : (j : ℕ) → j < headWords → (j ≡ i → ⊥) → (j ≡ 14 → ⊥) → getD to j 0 ≡ getD area j 0
+  pub key : keyOf to ≡ keyOf area
+  pub params : paramsOf to ≡ paramsOf area
+  pub levels : levelsOf to ≡ st
+  pub tail : drop areaWords to ≡ drop areaWords area
+
+pub changed : (area : List ℕ) (i v w : ℕ) (st : List (List ℕ)) → areaWords ≤ length area → i < 2 → AllLen 64 st → length st ≡ mostLevels →
+    Changed area i v w st (withLevels (set (set area i v) 14 w) st)
+changed area i v w st long hi a n = record {
+  size = length-withLevels x st long′ a n ∙ len;
+  set = word i (omega arith) ∙ getD-set-other (set area i v) 14 i w 0 (omega arith) ∙ getD-set-same area i v 0 (omega arith);
+  count = word 14 (omega arith) ∙ getD-set-same (set area i v) 14 w 0 (rw (length-set area i v) (omega arith));
+  same = same;
+  key = key;
+  params = same-params to area key (λ j h g. same j (omega arith) (omega arith) (omega arith));
+  levels = levelsOf-withLevels x st long′ a n;
+  tail = tail-withLevels x st long′ a n ∙ drop-set-lt areaWords (set area i v) 14 w (omega arith) ∙ drop-set-lt areaWords area i v (omega arith);
+}
+  where
+    x : List ℕ
+    x = set (set area i v) 14 w
+
+    to : List ℕ
+    to = withLevels x st
+
+    len : length x ≡ length area
+    len = length-set (set area i v) 14 w ∙ length-set area i v
+
+    long′ : areaWords ≤ length x
+    long′ = rw len long
+
+    word : (j : ℕ) → j < headWords → getD to j 0 ≡ getD x j 0
+    word j h = same-word to x (head-withLevels x st long′ a n) j h
+
+    same : (j : ℕ) → j < headWords → (j ≡ i → ⊥) → (j ≡ 14 → ⊥) → getD to j 0 ≡ getD area j 0
+    same j h p q = word j h ∙ getD-set-other (set area i v) 14 j w 0 q ∙ getD-set-other area i j v 0 p
+
+    key : keyOf to ≡ keyOf area
+    key =
+        same-key to x (rw (length-withLevels x st long′ a n) (omega (arith, long′))) (omega (arith, long′)) (head-withLevels x st long′ a n)
+        ∙ key-set area i v w (omega arith)

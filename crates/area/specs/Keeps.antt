@@ -1,0 +1,156 @@
+-- Accepted calls leave any sound area sound, whatever it holds.
+-- Assumes nothing.
+use mathlib.Core.Path.{_≡_, refl, sym, ap, _∙_, subst}
+use mathlib.Core.Bool.{Bool, true, false, _||_}
+use mathlib.Core.List.{List, [], _∷_, _++_}
+use Prim.Native.Nat.{ℕ, zero, suc, _+_, _-_, _*_, _/_, _^_, _≤_}
+use native.Mathlib.Omega.{arith}
+use borrow.Author.Tests.{eqb-true, eq-eqb, ne-eqb}
+use lib.Dec.{eqb}
+use lib.ListN.{length, set, replicate}
+use Rattle.lists.specs.Below.{Below, below-at, below-take, below-drop}
+use Rattle.hash.specs.Hash.{pieceBits}
+use Rattle.area.specs.Area.{areaWords, phaseOf, totalOf, keyBytesOf, keyOf, compressionsOf, paramsOf, levelsFrom, levelsOf, withLevels, emptyLevel, emptyLevels, holdsFor, openCount, treeCount, countFor, cleanAll, soundParams, soundKey, soundCount, sound}
+use Rattle.area.specs.Calls.{Made, feedBits, fedBits, feedNumber, fedArea, feedOf, closedBy, endNumber, endedArea, endOf}
+use Rattle.area.specs.Block.{length-blockOf}
+use Rattle.area.specs.Rows.{AllLen}
+use Rattle.area.specs.Counts
+use Rattle.area.specs.AreaLaws.{Changed, changed}
+use Rattle.area.specs.Sound.{clean-empty, empty-widths}
+use Rattle.area.specs.CallLaws.{length-pieceBits, FeedPassed, feed-passed, feed-number, feed-accepted, EndPassed, end-passed, end-number, end-accepted}
+use Rattle.area.specs.Accepts.{levelsOf-size, closed-count}
+use Rattle.area.specs.WriteLaws.{levelsOf-widths}
+use Rattle.area.specs.Moved.{Tests, sound-tests, tests-sound, Words, nil, cons}
+use Rattle.area.specs.Kept.{HeldAbove, HeldOpen, open-held, open-clean, held-feedBits}
+
+levels-words : (area : List ℕ) (n k : ℕ) → Below (2 ^ 64) area → Words (levelsFrom area n k)
+levels-words area zero k b = nil
+levels-words area (suc n) k b = cons (below-take 64 (below-drop (16 + 64 * (k - 1)) b)) (levels-words area n (suc k) b)
+
+levelsOf-words : (area : List ℕ) → Below (2 ^ 64) area → Words (levelsOf area)
+unfolding levelsOf
+levelsOf-words area b = levels-words area 27 1 b
+
+above-widths : (n i : ℕ) (st : List (List ℕ)) → HeldAbove n i st → AllLen 64 st
+above-widths n i [] h = tt
+above-widths zero i (ws ∷ up) h = (ap length (h .is) ∙ length-blockOf (h .chain ++ h .Y), rw (h .empty) (empty-widths (length up)))
+above-widths (suc n) i (ws ∷ up) h = (ap length (h .0 .is) ∙ length-blockOf (h .0 .Y), above-widths n (i / 4) up (h .1))
+
+open-widths : (limit T : ℕ) (st : List (List ℕ)) → HeldOpen limit T st → AllLen 64 st
+open-widths limit T [] h = tt
+open-widths zero T (ws ∷ up) h = (ap length (h .is) ∙ length-blockOf (h .chain ++ h .Y), rw (h .empty) (empty-widths (length up)))
+open-widths (suc n) T (ws ∷ up) h = (ap length (h .0 .is) ∙ length-blockOf (h .0 .Y), above-widths n _ up (h .1))
+
+-- an area that is sound and has not ended is open
+open-phase : (area : List ℕ) → sound area ≡ true → (phaseOf area ≡ 2 → ⊥) → phaseOf area ≡ 1
+open-phase area s n = eqb-true (phaseOf area) 1 (go (eqb (phaseOf area) 1) (eqb (phaseOf area) 2) (sound-tests area s .phase) (ne-eqb (phaseOf area) 2 n))
+  where
+    go : (a b : Bool) → a || b ≡ true → b ≡ false → a ≡ true
+    go true b e f = refl
+    go false b e f = sym f ∙ e
+
+-- what the levels of a sound open area hold
+pub sound-held : (area : List ℕ) → areaWords ≤ length area → Below (2 ^ 64) area → sound area ≡ true → phaseOf area ≡ 1 →
+    HeldOpen (paramsOf area .limit) (totalOf area) (levelsOf area)
+sound-held area long b s p =
+    open-held (paramsOf area .limit) (totalOf area) (levelsOf area) (levelsOf-size area) (levelsOf-words area b) (levelsOf-widths area long)
+    (subst (λ (k : ℕ). cleanAll (holdsFor k (paramsOf area .limit) (totalOf area)) (levelsOf area) ≡ true) p (sound-tests area s .levels))
+
+-- tests that look at what neither a feed nor an end changes
+same-params-test : (x y : List ℕ) → paramsOf y ≡ paramsOf x → soundParams x ≡ true → soundParams y ≡ true
+same-params-test x y e t = rw e t
+
+same-key-test : (x y : List ℕ) → keyOf y ≡ keyOf x → keyBytesOf y ≡ keyBytesOf x → soundKey x ≡ true → soundKey y ≡ true
+same-key-test x y e f t = rw (e, f) t
+
+pub feed-keeps : (area piece : List ℕ) (n : ℕ) (log : List ℕ) → Below (2 ^ 64) area → feedOf area piece n log .number ≡ 0 →
+    sound (feedOf area piece n log .area) ≡ true
+unfolding fedArea fedBits
+feed-keeps area piece n log b e = rw (feed-accepted area piece n log z) (tests-sound to record {
+  phase = rw (c .same 0 (omega arith) (omega arith) (omega arith), p) refl;
+  params = same-params-test area to (c .params) (t .params);
+  key = same-key-test area to (c .key) (c .same 2 (omega arith) (omega arith) (omega arith)) (t .key);
+  count = count;
+  last = rw (c .same 15 (omega arith) (omega arith) (omega arith)) (t .last);
+  levels = rw (c .same 0 (omega arith) (omega arith) (omega arith), p, c .params, c .set, c .levels) (open-clean (paramsOf area .limit) (totalOf area + n) (made .levels) size held);
+})
+  where
+    z : feedNumber area piece n log ≡ 0
+    z = sym (feed-number area piece n log) ∙ e
+
+    q : FeedPassed area piece n log
+    q = feed-passed area piece n log z
+
+    t : Tests area
+    t = sound-tests area (q .sound)
+
+    p : phaseOf area ≡ 1
+    p = open-phase area (q .sound) (q .notEnded)
+
+    Y : List Bool
+    Y = pieceBits piece n
+
+    len : length Y ≡ n
+    len = length-pieceBits piece n (q .bits)
+
+    made : Made
+    made = feedBits (paramsOf area) (totalOf area) Y (levelsOf area)
+
+    held : HeldOpen (paramsOf area .limit) (totalOf area + n) (made .levels)
+    held = rw len at (held-feedBits (paramsOf area) (totalOf area) Y (levelsOf area) (rw (levelsOf-size area) (omega arith)) (sound-held area (q .long) b (q .sound) p))
+
+    size : length (made .levels) ≡ 27
+    size = Counts.feedBits-size (paramsOf area) (totalOf area) Y (levelsOf area) (rw (levelsOf-size area) (omega arith)) ∙ levelsOf-size area
+
+    to : List ℕ
+    to = withLevels (set (set area 1 (totalOf area + n)) 14 (compressionsOf area + length (made .nodes))) (made .levels)
+
+    c : Changed area 1 (totalOf area + n) (compressionsOf area + length (made .nodes)) (made .levels) to
+    c = changed area 1 (totalOf area + n) (compressionsOf area + length (made .nodes)) (made .levels) (q .long) (omega arith)
+        (open-widths (paramsOf area .limit) (totalOf area + n) (made .levels) held) size
+
+    before : compressionsOf area ≡ openCount (paramsOf area .limit) (totalOf area)
+    before = eqb-true (compressionsOf area) (openCount (paramsOf area .limit) (totalOf area))
+        (subst (λ (k : ℕ). eqb (compressionsOf area) (countFor k (paramsOf area .limit) (totalOf area)) ≡ true) p (t .count))
+
+    counted : compressionsOf area + length (made .nodes) ≡ openCount (paramsOf area .limit) (totalOf area + n)
+    counted = omega (arith, before, rw len at (Counts.feedBits-count (paramsOf area) (totalOf area) Y (levelsOf area) (levelsOf-size area) (rw len (q .total))))
+
+    count : soundCount to ≡ true
+    count = rw (c .same 0 (omega arith) (omega arith) (omega arith), p, c .params, c .set, c .count) (eq-eqb (compressionsOf area + length (made .nodes)) (openCount (paramsOf area .limit) (totalOf area + n)) counted)
+
+pub end-keeps : (area out log : List ℕ) → Below (2 ^ 64) area → endOf area out log .number ≡ 0 → sound (endOf area out log .area) ≡ true
+unfolding endedArea emptyLevels
+end-keeps area out log b e = rw (end-accepted area out log z) (tests-sound to record {
+  phase = rw (c .set) refl;
+  params = same-params-test area to (c .params) (t .params);
+  key = same-key-test area to (c .key) (c .same 2 (omega arith) (omega arith) (omega arith)) (t .key);
+  count = rw (c .set, c .params, c .same 1 (omega arith) (omega arith) (omega arith), c .count) (eq-eqb (compressionsOf area + length (closedBy area)) (treeCount (paramsOf area .limit) (totalOf area)) counted);
+  last = rw (c .same 15 (omega arith) (omega arith) (omega arith)) (t .last);
+  levels = rw (c .set, c .levels) (clean-empty 27);
+})
+  where
+    z : endNumber area out log ≡ 0
+    z = sym (end-number area out log) ∙ e
+
+    q : EndPassed area out log
+    q = end-passed area out log z
+
+    t : Tests area
+    t = sound-tests area (q .sound)
+
+    p : phaseOf area ≡ 1
+    p = open-phase area (q .sound) (q .notEnded)
+
+    to : List ℕ
+    to = withLevels (set (set area 0 2) 14 (compressionsOf area + length (closedBy area))) (replicate 27 emptyLevel)
+
+    c : Changed area 0 2 (compressionsOf area + length (closedBy area)) (replicate 27 emptyLevel) to
+    c = changed area 0 2 (compressionsOf area + length (closedBy area)) (replicate 27 emptyLevel) (q .long) (omega arith) (empty-widths 27) refl
+
+    before : compressionsOf area ≡ openCount (paramsOf area .limit) (totalOf area)
+    before = eqb-true (compressionsOf area) (openCount (paramsOf area .limit) (totalOf area))
+        (subst (λ (k : ℕ). eqb (compressionsOf area) (countFor k (paramsOf area .limit) (totalOf area)) ≡ true) p (t .count))
+
+    counted : compressionsOf area + length (closedBy area) ≡ treeCount (paramsOf area .limit) (totalOf area)
+    counted = omega (arith, before, closed-count area (below-at b 1 (omega (arith, q .long))))

@@ -1,0 +1,127 @@
+use mathlib.Core.Path.{_≡_, refl, sym, ap, _∙_}
+use mathlib.Core.Bool.{Bool, true, false}
+use mathlib.Core.List.{List}
+use Prim.Native.Nat.{ℕ, suc, _+_, _-_, _*_, _/_, _%_, _^_, _≤_, _<_}
+use lib.Dec.{eqb}
+use lib.ListN.{length, take, drop, getD}
+use borrow.Author.Tests.{not-true, not-false, eq-eqb, ne-eqb}
+use Rattle.lists.specs.Table.{both}
+use Rattle.area.specs.Area.{levelWords, levelsFrom, levelsOf, doneBlocks, heldBits}
+use Rattle.stream.specs.LevelTests.{emptyFrom, allEmpty, soundSequential, soundAbove, soundOpen}
+use Rattle.stream.specs.SoundLaws.{both-true, both-assoc, both-first, both-second, empty-end, empty-not, empty-rest, empty-levels, lent-level, sequential-kept, sequential-none, above-more, above-last, above-none, open-none, open-more}
+use borrow.Author.Needs.{needs}
+use native.Mathlib.Omega.{arith}
+use Rattle.stream.proofs.sound.above_sound.Statement.{statement}
+use Rattle.stream.proofs.sound.above_sound.Tie as tie
+use Rattle.stream.proofs.sound.above_sound.Reads as reads
+use Rattle.stream.proofs.sound.above_sound.Lts as lts
+use Rattle.stream.proofs.sound.empty_from.Reads as empty-from-reads
+use Rattle.stream.proofs.sound.last_sound.Reads as last-sound-reads
+
+abbrev Inv-loop : tie.InvT-loop
+Inv-loop area levels outputs n₀ i₀ k₀ n i k = (2 ≤ k) × (k ≤ 28) × (soundAbove n i (levelsFrom area (28 - k) k) ≡ soundAbove levels outputs (levelsFrom area 26 2))
+
+abbrev μ-loop : tie.MeasureT-loop
+μ-loop area levels outputs n₀ i₀ k₀ n i k = 28 - k
+
+loop-holds : tie.Need-loop-holds Inv-loop μ-loop
+loop-holds c = (omega arith, omega arith, refl)
+
+mul-last-sound : tie.Need-mul-last-sound Inv-loop μ-loop
+mul-last-sound c = search needs
+
+last-sound-requires : tie.Need-last-sound-requires Inv-loop μ-loop
+last-sound-requires c κs = omega arith
+
+returns : tie.Need-returns Inv-loop μ-loop
+returns c = 
+    let at = c .before .before .before .loop in
+    c .last-sound .ensures ∙ sym (above-last (c .before .before .before .before .before .args .area .now) (at .n) (at .i) (at .k) (c .before .if1 .taken) (omega arith)) ∙ at .inv .2
+
+sub-a : tie.Need-sub-a Inv-loop μ-loop
+sub-a c = search needs
+
+mul-a : tie.Need-mul-a Inv-loop μ-loop
+mul-a c = search needs
+
+add-a : tie.Need-add-a Inv-loop μ-loop
+add-a c = search needs
+
+add-e : tie.Need-add-e Inv-loop μ-loop
+add-e c = search needs
+
+mul-empty-from : tie.Need-mul-empty-from Inv-loop μ-loop
+mul-empty-from c = search needs
+
+sub-empty-from : tie.Need-sub-empty-from Inv-loop μ-loop
+sub-empty-from c = search needs
+
+part-empty-from-start : tie.Need-part-empty-from-start Inv-loop μ-loop
+part-empty-from-start c = search needs
+
+part-empty-from-end : tie.Need-part-empty-from-end Inv-loop μ-loop
+part-empty-from-end c = search needs
+
+mul-empty-from-2 : tie.Need-mul-empty-from-2 Inv-loop μ-loop
+mul-empty-from-2 c = search needs
+
+empty-from-requires : tie.Need-empty-from-requires Inv-loop μ-loop
+empty-from-requires c κs = search needs
+
+returns-2 : tie.Need-returns-2 Inv-loop μ-loop
+returns-2 c = 
+    let at = c .before .before .before .before .before .loop in
+    let area = c .before .before .before .before .before .before .before .args .area .now in
+    let f = ap (emptyFrom (1024 * (at .i % 4))) (lent-level area (at .k)) in
+    let e = sym f ∙ sym (c .before .empty-from .ensures) ∙ not-true (c .before .empty-from .result) (c .if2 .taken) in
+    sym (both-first (emptyFrom (1024 * (at .i % 4)) (levelWords area (at .k))) (soundAbove (at .n - 1) (at .i / 4) (levelsFrom area (28 - (at .k + 1)) (at .k + 1))) e)
+    ∙ sym (above-more area (at .n) (at .i) (at .k) (c .before .before .before .if1 .left) (omega arith)) ∙ at .inv .2
+
+add-k : tie.Need-add-k Inv-loop μ-loop
+add-k c = search needs
+
+loop-less : tie.Need-loop-less Inv-loop μ-loop
+loop-less c = omega arith
+
+loop-again : tie.Need-loop-again Inv-loop μ-loop
+loop-again c = 
+    let at = c .before .before .before .before .before .loop in
+    let area = c .before .before .before .before .before .before .before .args .area .now in
+    let f = ap (emptyFrom (1024 * (at .i % 4))) (lent-level area (at .k)) in
+    let e = sym f ∙ sym (c .before .empty-from .ensures) ∙ not-false (c .before .empty-from .result) (c .if2 .left) in (
+      omega arith,
+      omega arith,
+      sym (both-second (emptyFrom (1024 * (at .i % 4)) (levelWords area (at .k))) (soundAbove (at .n - 1) (at .i / 4) (levelsFrom area (28 - (at .k + 1)) (at .k + 1))) e)
+      ∙ sym (above-more area (at .n) (at .i) (at .k) (c .before .before .before .if1 .left) (omega arith)) ∙ at .inv .2,
+    )
+
+returns-3 : tie.Need-returns-3 Inv-loop μ-loop
+returns-3 c = 
+    let at = c .before .loop in
+    sym (above-none (c .before .before .before .args .area .now) (at .n) (at .i) (at .k) (omega arith)) ∙ at .inv .2
+
+pub above-sound-spec : {M : Type 1} → statement M
+above-sound-spec =
+    tie.close
+    (tie.spec
+    Inv-loop
+    μ-loop
+    loop-holds
+    mul-last-sound
+    last-sound-requires
+    returns
+    sub-a
+    mul-a
+    add-a
+    add-e
+    mul-empty-from
+    sub-empty-from
+    part-empty-from-start
+    part-empty-from-end
+    mul-empty-from-2
+    empty-from-requires
+    returns-2
+    add-k
+    loop-less
+    loop-again
+    returns-3)

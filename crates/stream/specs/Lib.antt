@@ -1,0 +1,16 @@
+pub mod LevelTests
+pub mod Answers
+pub mod ChunkLaws
+pub mod CloseCount
+pub mod CloseLaws
+pub mod CountLaws
+pub mod FeedCall
+pub mod FeedLaws
+pub mod FeedSteps
+pub mod LevelLaws
+pub mod Levels
+pub mod MakeLaws
+pub mod OpenArea
+pub mod OpenLaws
+pub mod ReceiveLaws
+pub mod SoundLaws
