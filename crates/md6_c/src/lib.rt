@@ -3,6 +3,8 @@ ghost use mathlib.Core.Path.{_≡_};
 ghost use Rattle.hash.specs.Hash.{hashOf, defaultRoundsOf};
 ghost use Rattle.area.specs.Calls.{openOf, feedOf, endOf, logWordsOf};
 ghost use Rattle.stream.specs.Answers.{params, opened, fed, ended};
+ghost use Rattle.text.specs.Text.{writeOf, readOf};
+ghost use Rattle.text.specs.Answers.{written, taken};
 
 // The digest of a whole message. Answers the number alone.
 #[no_mangle]
@@ -50,7 +52,7 @@ pub extern "C" fn md6_feed(area: &mut [u64], piece: &[u8], bits: u64, log: &mut 
 pub extern "C" fn md6_end(area: &mut [u64], digest: &mut [u8], log: &mut [u64]) -> stream::Answer
     ensures { λ o. ⌜ ended (o .number) (o .count) (now (area .exit)) (now (digest .exit)) (now (log .exit)) ≡ endOf (now (area .entry)) (now (digest .entry)) (now (log .entry)) ⌝ }
 {
-    stream::close::end(area, digest, log)
+    stream::end(area, digest, log)
 }
 
 // Tells how many words of log are enough for a piece of so many bits.
@@ -59,4 +61,20 @@ pub extern "C" fn md6_log_words(bits: u64) -> stream::Answer
     ensures { λ o. ⌜ (o .number ≡ 0) × (o .count ≡ logWordsOf bits) ⌝ }
 {
     stream::log_words(bits)
+}
+
+// Writes a stream as text.
+#[no_mangle]
+pub extern "C" fn md6_write(area: &[u64], text: &mut [u8]) -> stream::Answer
+    ensures { λ o. ⌜ written (o .number) (o .count) (now (text .exit)) ≡ writeOf (now (area .entry)) (now (text .entry)) ⌝ }
+{
+    text::write(area, text)
+}
+
+// Reads a text into an area.
+#[no_mangle]
+pub extern "C" fn md6_read(area: &mut [u64], text: &[u8]) -> stream::Answer
+    ensures { λ o. ⌜ taken (o .number) (o .count) (now (area .exit)) ≡ readOf (now (area .entry)) (now (text .entry)) ⌝ }
+{
+    text::read(area, text)
 }

@@ -1,0 +1,87 @@
+-- What follows from demand 3 for two runs that both ended.
+-- Assumes nothing.
+use mathlib.Core.Path.{_≡_, sym, ap, _∙_}
+use mathlib.Core.Bool.{Bool}
+use mathlib.Core.Logic.{_⊎_}
+use mathlib.Core.Option.{Option, some}
+use mathlib.Core.List.{List}
+use Prim.Native.Nat.{ℕ}
+use lib.ListN.{length}
+use Rattle.tree.specs.Tree.{Params, Node, order, digest}
+use Rattle.area.specs.Calls
+use Rattle.area.specs.Marks.{allNodes}
+use Rattle.collision.specs.Clash.{Different, RootsDiffer, Meeting}
+use Rattle.collision.specs.Collision.{collision}
+use Rattle.runs.specs.Runs.{Run, messageOf, logOf, countOf, outputOf, digestIn}
+use Rattle.runs.specs.Demand3.{nodesFor, nodesOf, demand3}
+
+-- an end was accepted: its output
+pub record Ended (r : Run) : Type 0 where
+  pub out : List ℕ
+  pub is : outputOf r ≡ some out
+
+-- the run's digest
+abbrev pub digestOf : (r : Run) → Ended r → List ℕ
+digestOf r e = digestIn (r .params) (e .out)
+
+-- "runs alike in message, key, digest size, height limit and rounds"
+pub record Alike (a b : Run) : Type 0 where
+  pub message : messageOf a ≡ messageOf b
+  pub key : a .params .key ≡ b .params .key
+  pub d : a .params .d ≡ b .params .d
+  pub limit : a .params .limit ≡ b .params .limit
+  pub rounds : a .params .rounds ≡ b .params .rounds
+
+pub record Same (a b : Run) (e : Ended a) (f : Ended b) : Type 0 where
+  pub count : countOf a ≡ countOf b
+  pub log : logOf a ≡ logOf b
+  pub digest : digestOf a e ≡ digestOf b f
+
+abbrev params : List ℕ → ℕ → ℕ → ℕ → Params
+params key d limit rounds = record { key = key; d = d; limit = limit; rounds = rounds }
+
+alike-params : (a b : Run) → Alike a b → a .params ≡ b .params
+alike-params a b s =
+    let P : Params = a .params in
+    let Q : Params = b .params in
+    ap (λ (x : List ℕ). params x (P .d) (P .limit) (P .rounds)) (s .key)
+    ∙ ap (λ (x : ℕ). params (Q .key) x (P .limit) (P .rounds)) (s .d)
+    ∙ ap (λ (x : ℕ). params (Q .key) (Q .d) x (P .rounds)) (s .limit)
+    ∙ ap (λ (x : ℕ). params (Q .key) (Q .d) (Q .limit) x) (s .rounds)
+
+ended-nodes : (r : Run) → Ended r → nodesOf r ≡ allNodes (order (r .params) (messageOf r))
+ended-nodes r e = ap (λ (o : Option (List ℕ)). nodesFor o (order (r .params) (messageOf r))) (e .is)
+
+-- "So runs alike in message, key, digest size, height limit and rounds, both ended, give the same count, order and digest,
+-- however the message is cut or suspended."
+pub same-runs : (a b : Run) (e : Ended a) (f : Ended b) → Alike a b → Same a b e f
+same-runs a b e f s =
+    let p = alike-params a b s in
+    let x = demand3 a in
+    let y = demand3 b in
+    let n : nodesOf a ≡ nodesOf b =
+    ended-nodes a e
+    ∙ ap (λ (P : Params). allNodes (order P (messageOf a))) p
+    ∙ ap (λ (M : List Bool). allNodes (order (b .params) M)) (s .message)
+    ∙ sym (ended-nodes b f) in
+    record {
+      count = x .count ∙ ap (λ (ns : List Node). length ns) n ∙ sym (y .count);
+      log = x .log ∙ ap (λ (ns : List Node). Calls.logOf ns) n ∙ sym (y .log);
+      digest =
+          x .digest (e .out) (e .is)
+          ∙ ap (λ (P : Params). digest P (messageOf a)) p
+          ∙ ap (λ (M : List Bool). digest (b .params) M) (s .message)
+          ∙ sym (y .digest (f .out) (f .is));
+    }
+
+-- "For any two different inputs (message, key, height limit, rounds) with one digest size and equal digests, either the root
+-- inputs differ, or some node other than the root, at the same level and index in both trees, has different inputs and the same
+-- 1,024-bit output": for the digests of two runs, whatever their messages' lengths, which number 6 bounds
+pub run-collision : (a b : Run) (e : Ended a) (f : Ended b) → Different (a .params) (b .params) (messageOf a) (messageOf b)
+    → a .params .d ≡ b .params .d → digestOf a e ≡ digestOf b f
+    → RootsDiffer (a .params) (b .params) (messageOf a) (messageOf b) ⊎ Meeting (a .params) (b .params) (messageOf a) (messageOf b)
+run-collision a b e f different d same =
+    let x = demand3 a in
+    let y = demand3 b in
+    collision (a .params) (b .params) (messageOf a) (messageOf b) (x .valid) (y .valid) (x .short) (y .short) different d
+    (sym (x .digest (e .out) (e .is)) ∙ same ∙ y .digest (f .out) (f .is))

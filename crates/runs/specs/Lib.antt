@@ -1,0 +1,10 @@
+pub mod Runs
+pub mod RunLaws
+pub mod Suspend
+pub mod Effects
+pub mod Induction
+pub mod Demand3
+pub mod Table
+pub mod Corollaries
+pub mod RunTest
+pub mod WorkedRun

@@ -1,0 +1,64 @@
+-- What write and read answer, by the tests that the code makes.
+-- Assumes nothing.
+use mathlib.Core.Path.{_≡_, refl, sym, ap, _∙_}
+use mathlib.Core.Bool.{Bool, true, false, not}
+use mathlib.Core.List.{List, _++_}
+use Prim.Native.Nat.{ℕ, suc, _+_, _-_, _*_, _≤_, _<_}
+use native.Mathlib.Omega.{arith}
+use borrow.Author.Tests.{lt-ltb, le-ltb}
+use borrow.Rule.Slice.PartMut.{putMid}
+use lib.ListN.{length, take, drop}
+use lib.Seq.{paste, take-all}
+use Rattle.area.specs.Area.{areaWords, sound}
+use Rattle.text.specs.Text.{heldOf, textOf, speltArea, readable, writeNumber, writeOf, readNumber, readOf}
+use Rattle.text.specs.Answers.{written, taken}
+use Rattle.text.specs.LengthLaws.{lines, text-length}
+use Rattle.text.specs.TextLaws.{length-speltArea}
+use Rattle.text.specs.ReadLaws.{read-accepted, read-refused, write-accepted, write-refused}
+
+-- ---- write
+
+pub write-short : (area out : List ℕ) → length area < areaWords → written 7 0 out ≡ writeOf area out
+unfolding writeNumber
+write-short area out h = sym (write-refused area out 6 (rw (lt-ltb (length area) areaWords h)))
+
+pub write-unsound : (area out : List ℕ) (r : Bool) → areaWords ≤ length area → r ≡ sound area → r ≡ false → written 7 0 out ≡ writeOf area out
+unfolding writeNumber
+write-unsound area out r h e f = sym (write-refused area out 6 (rw (le-ltb (length area) areaWords h, ← e, f)))
+
+module _ (area out : List ℕ) (r : Bool) (n : ℕ) (h : areaWords ≤ length area) (e : r ≡ sound area) (f : r ≡ true)
+    (g : n ≡ 174 + 1027 * lines (heldOf area)) where
+  size : n ≡ length (textOf area)
+  size = g ∙ sym (text-length area h)
+
+  pub write-no-room : length out < n → written 9 0 out ≡ writeOf area out
+  unfolding writeNumber
+  write-no-room l =
+      sym (write-refused area out 8 (rw (le-ltb (length area) areaWords h, ← e, f, lt-ltb (length out) (length (textOf area)) (omega (arith, size)))))
+
+  pub write-done : (ys : List ℕ) → n ≤ length out → ys ≡ textOf area → written 0 n (putMid 0 (n - 0) out ys) ≡ writeOf area out
+  write-done ys l y =
+      let k : n - 0 ≡ n = omega arith in
+      ap (λ (m : ℕ). written 0 n (putMid 0 m out ys)) k
+      ∙ ap (λ (x : List ℕ). written 0 n (x ++ drop n out)) y
+      ∙ ap (λ (m : ℕ). written 0 m (textOf area ++ drop m out)) size
+      ∙ sym (write-accepted area out h (sym e ∙ f) (omega (arith, size)))
+
+-- ---- read
+
+pub read-short : (area text : List ℕ) → length area < areaWords → taken 7 0 area ≡ readOf area text
+unfolding readNumber
+read-short area text h = sym (read-refused area text 6 (rw (lt-ltb (length area) areaWords h)))
+
+pub read-no : (area text : List ℕ) (r : Bool) → areaWords ≤ length area → r ≡ readable text → r ≡ false → taken 11 0 area ≡ readOf area text
+unfolding readNumber
+read-no area text r h e f = sym (read-refused area text 10 (rw (le-ltb (length area) areaWords h, ← e, f)))
+
+pub read-done : (area text s last : List ℕ) (r : Bool) → areaWords ≤ length area → r ≡ readable text → r ≡ true → s ≡ speltArea text
+    → last ≡ paste area 0 s (length s) → taken 0 0 last ≡ readOf area text
+read-done area text s last r h e f a l =
+    let n : length s ≡ 1744 = ap length a ∙ length-speltArea text in
+    let k : 0 + length s ≡ 1744 = omega arith in
+    let p : last ≡ speltArea text ++ drop 1744 area =
+        l ∙ ap (λ (x : List ℕ). x ++ drop (0 + length s) area) (take-all (length s) s (omega arith) ∙ a) ∙ ap (λ (m : ℕ). speltArea text ++ drop m area) k in
+    ap (taken 0 0) p ∙ sym (read-accepted area text h (sym e ∙ f))

@@ -1,0 +1,9 @@
+pub mod Text
+pub mod Answers
+pub mod DigitLaws
+pub mod LayoutLaws
+pub mod HeldLaws
+pub mod LengthLaws
+pub mod TextLaws
+pub mod ReadLaws
+pub mod TextExamples

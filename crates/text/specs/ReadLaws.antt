@@ -1,0 +1,179 @@
+-- Demand 2 for suspended text: reading what was written gives the same area; one text stands for one area; a text that is read
+-- writes back as itself; and a text is read exactly if some sound area writes it.
+-- Assumes nothing.
+use mathlib.Core.Path.{_≡_, refl, sym, ap, _∙_}
+use mathlib.Core.Bool.{Bool, true, false, not}
+use mathlib.Core.List.{List, [], _∷_, _++_}
+use mathlib.Core.Logic.{_↔_}
+use Prim.Native.Nat.{ℕ, zero, suc, _^_, _≤_, _<_}
+use native.Mathlib.Omega.{arith}
+use borrow.Author.Tests.{eqb-true, eq-eqb, ltb-false, le-ltb, not-false}
+use lib.Dec.{eqb, ltb}
+use lib.ListN.{length, take, drop, length-append, length-drop}
+use lib.Seq.{take-at, take-all}
+use Rattle.lists.specs.Append.{cons-eq}
+use Rattle.lists.specs.Below.{Below, below-append, below-drop}
+use Rattle.lists.specs.Table.{both}
+use Rattle.hash.specs.Hash.{orElse, refusedOutput}
+use Rattle.area.specs.Area.{areaWords, sound}
+use Rattle.area.specs.Calls.{refusedArea, refusedShort}
+use Rattle.area.specs.Sound.{both-true}
+use Rattle.area.specs.CallLaws.{orElse-passed}
+use Rattle.text.specs.Text.{textOf, speltArea, same, readable, Written, writeNumber, writeAnswer, writeOf, Taken, readNumber, readAnswer, readOf}
+use Rattle.text.specs.LayoutLaws.{sound-front, text-front}
+use Rattle.text.specs.HeldLaws.{both-parts}
+use Rattle.text.specs.TextLaws.{SoundArea, spells-back, length-speltArea, speltArea-below}
+
+-- ---- tests
+
+pub same-refl : (xs : List ℕ) → same xs xs ≡ true
+same-refl [] = refl
+same-refl (x ∷ xs) = both-true (eq-eqb x x refl) (same-refl xs)
+
+pub same-eq : (xs ys : List ℕ) → same xs ys ≡ true → xs ≡ ys
+same-eq [] [] e = refl
+same-eq [] (y ∷ ys) e = let z : _≡_ {A = ℕ} 0 1 = cc in absurd (omega arith)
+same-eq (x ∷ xs) [] e = let z : _≡_ {A = ℕ} 0 1 = cc in absurd (omega arith)
+same-eq (x ∷ xs) (y ∷ ys) e =
+    let p = both-parts (eqb x y) (same xs ys) e in
+    cons-eq (eqb-true x y (p .0)) (same-eq xs ys (p .1))
+
+-- ---- what is accepted
+
+pub read-accepted : (area text : List ℕ) → areaWords ≤ length area → readable text ≡ true
+    → readOf area text ≡ record { number = 0; count = 0; area = speltArea text ++ drop areaWords area }
+unfolding readOf readNumber
+read-accepted area text h e = rw (le-ltb (length area) areaWords h, e)
+
+pub read-number : (area text : List ℕ) → readOf area text .number ≡ readNumber area text
+unfolding readOf
+read-number area text = by (readNumber area text)
+  where
+    by : (n : ℕ) → readAnswer n area text .number ≡ n
+    by zero = refl
+    by (suc n) = refl
+
+pub read-refused : (area text : List ℕ) (k : ℕ) → readNumber area text ≡ suc k → readOf area text ≡ record { number = suc k; count = 0; area = area }
+unfolding readOf
+read-refused area text k e = rw e
+
+pub read-passed : (area text : List ℕ) → readNumber area text ≡ 0 → (areaWords ≤ length area) × (readable text ≡ true)
+unfolding readNumber
+read-passed area text e =
+    let a = orElse-passed (ltb (length area) areaWords) 6 (orElse (not (readable text)) 11 0) e in
+    let b = orElse-passed (not (readable text)) 10 0 (a .1) in
+    (ltb-false (length area) areaWords (a .0), not-false (readable text) (b .0))
+
+pub write-number : (area out : List ℕ) → writeOf area out .number ≡ writeNumber area out
+unfolding writeOf
+write-number area out = by (writeNumber area out)
+  where
+    by : (n : ℕ) → writeAnswer n area out .number ≡ n
+    by zero = refl
+    by (suc n) = refl
+
+pub write-refused : (area out : List ℕ) (k : ℕ) → writeNumber area out ≡ suc k → writeOf area out ≡ record { number = suc k; count = 0; text = out }
+unfolding writeOf
+write-refused area out k e = rw e
+
+pub record WritePassed (area out : List ℕ) : Type 0 where
+  pub long : areaWords ≤ length area
+  pub is-sound : sound area ≡ true
+  pub room : length (textOf area) ≤ length out
+
+pub write-passed : (area out : List ℕ) → writeNumber area out ≡ 0 → WritePassed area out
+unfolding writeNumber
+write-passed area out e =
+    let a = orElse-passed (ltb (length area) areaWords) 6 (orElse (not (sound area)) 7 (refusedOutput (length (textOf area)) out 0)) e in
+    let b = orElse-passed (not (sound area)) 6 (refusedOutput (length (textOf area)) out 0) (a .1) in
+    let c = orElse-passed (ltb (length out) (length (textOf area))) 8 0 (b .1) in
+    record {
+      long = ltb-false (length area) areaWords (a .0);
+      is-sound = not-false (sound area) (b .0);
+      room = ltb-false (length out) (length (textOf area)) (c .0);
+    }
+
+pub write-accepted : (area out : List ℕ) → areaWords ≤ length area → sound area ≡ true → length (textOf area) ≤ length out
+    → writeOf area out ≡ record { number = 0; count = length (textOf area); text = textOf area ++ drop (length (textOf area)) out }
+unfolding writeOf writeNumber
+write-accepted area out h s l = rw (le-ltb (length area) areaWords h, s, le-ltb (length out) (length (textOf area)) l)
+
+-- ---- demand 2
+
+-- the text that a write put out: the first bytes of its output, as many as its count says
+pub written-text : (area out : List ℕ) → writeNumber area out ≡ 0 → take (writeOf area out .count) (writeOf area out .text) ≡ textOf area
+written-text area out e =
+    let p = write-passed area out e in
+    rw (write-accepted area out (p .long) (p .is-sound) (p .room))
+    (take-at (textOf area) (drop (length (textOf area)) out) (length (textOf area)) refl)
+
+-- a sound area's text is readable
+pub text-readable : (area : List ℕ) → SoundArea area → readable (textOf area) ≡ true
+unfolding readable
+text-readable area s =
+    let e = spells-back area s in
+    both-true (ap sound e ∙ sound-front area ∙ s .is-sound)
+    (ap (λ (x : List ℕ). same (textOf x) (textOf area)) e ∙ rw (text-front area) (same-refl (textOf area)))
+
+-- reading what was written is accepted and gives the same area in its first 1,744 words; the tail of the area read into stays
+pub read-back : (area out other : List ℕ) → Below (2 ^ 64) area → writeNumber area out ≡ 0 → areaWords ≤ length other
+    → readOf other (take (writeOf area out .count) (writeOf area out .text)) ≡ record { number = 0; count = 0; area = take areaWords area ++ drop areaWords other }
+read-back area out other b e h =
+    let p = write-passed area out e in
+    let s : SoundArea area = record { words = b; long = p .long; is-sound = p .is-sound } in
+    ap (readOf other) (written-text area out e)
+    ∙ read-accepted other (textOf area) h (text-readable area s)
+    ∙ ap (λ (x : List ℕ). record { number = 0; count = 0; area = x ++ drop areaWords other }) (spells-back area s)
+
+-- two sound areas with one text agree in those words
+pub one-text : (a b : List ℕ) → SoundArea a → SoundArea b → textOf a ≡ textOf b → take areaWords a ≡ take areaWords b
+one-text a b s t e = sym (spells-back a s) ∙ ap speltArea e ∙ spells-back b t
+
+-- what a readable text spells is a sound area, and its text is that text
+readable-sound : (text : List ℕ) → readable text ≡ true → SoundArea (speltArea text) × (textOf (speltArea text) ≡ text)
+unfolding readable
+readable-sound text e =
+    let p = both-parts (sound (speltArea text)) (same (textOf (speltArea text)) text) e in
+    (record { words = speltArea-below text; long = omega (arith, length-speltArea text); is-sound = p .0 }, same-eq (textOf (speltArea text)) text (p .1))
+
+front : (text area : List ℕ) → take areaWords (speltArea text ++ drop areaWords area) ≡ speltArea text
+front text area = take-at (speltArea text) (drop areaWords area) areaWords (length-speltArea text)
+
+-- an accepted read leaves a sound area
+pub read-sound : (area text : List ℕ) → Below (2 ^ 64) area → readNumber area text ≡ 0 → SoundArea (readOf area text .area)
+read-sound area text b e =
+    let p = read-passed area text e in
+    let s = readable-sound text (p .1) .0 in
+    rw (read-accepted area text (p .0) (p .1)) (record {
+      words = below-append (s .words) (below-drop areaWords b);
+      long = rw (length-append (speltArea text) (drop areaWords area), length-speltArea text) (omega arith);
+      is-sound = sym (sound-front (speltArea text ++ drop areaWords area)) ∙ ap sound (front text area) ∙ s .is-sound;
+    })
+
+-- a text that is read writes back as itself
+pub writes-back : (area text : List ℕ) → readNumber area text ≡ 0 → textOf (readOf area text .area) ≡ text
+writes-back area text e =
+    let p = read-passed area text e in
+    rw (read-accepted area text (p .0) (p .1))
+    (sym (text-front (speltArea text ++ drop areaWords area)) ∙ ap textOf (front text area) ∙ readable-sound text (p .1) .1)
+
+-- a sound area that writes a text
+pub record WrittenBy (text : List ℕ) : Type 0 where
+  pub area : List ℕ
+  pub is : SoundArea area
+  pub writes : textOf area ≡ text
+
+-- "11, 0: text is not what writing some sound area gives"
+pub readable-iff : (area text : List ℕ) → areaWords ≤ length area → (readOf area text .number ≡ 0) ↔ WrittenBy text
+readable-iff area text h = (there, back)
+  where
+    there : readOf area text .number ≡ 0 → WrittenBy text
+    there e =
+        let p = read-passed area text (sym (read-number area text) ∙ e) in
+        let s = readable-sound text (p .1) in
+        record { area = speltArea text; is = s .0; writes = s .1 }
+
+    back : WrittenBy text → readOf area text .number ≡ 0
+    back w =
+        let e : readable text ≡ true = ap readable (sym (w .writes)) ∙ text-readable (w .area) (w .is) in
+        ap (λ (x : Taken). x .number) (read-accepted area text h e)

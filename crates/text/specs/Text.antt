@@ -1,0 +1,181 @@
+-- A suspended stream as text. Document 01, "Suspended text", and the calls write and read. A text is a list of bytes.
+-- Assumes nothing.
+use mathlib.Core.Bool.{Bool, true, false, not, _||_}
+use mathlib.Core.List.{List, [], _∷_, _++_, map}
+use Prim.Native.Nat.{ℕ, zero, suc, _+_, _-_, _*_, _/_, _%_, _^_}
+use lib.Dec.{eqb, ltb}
+use lib.ListN.{length, take, drop, getD, replicate}
+use Rattle.lists.specs.Concat.{concat}
+use Rattle.lists.specs.Table.{both}
+use Rattle.bits.specs.Hex.{digitOf, hexDigit}
+use Rattle.bits.specs.declared.hex.Digit.{Digit}
+use Rattle.bits.specs.declared.hex.Digit.the-variants.{Value, Refused}
+use Rattle.tree.specs.Tree.{blockBits, sequentialBits, mostLevels}
+use Rattle.hash.specs.Hash.{orElse, refusedOutput}
+use Rattle.area.specs.Area.{headWords, blockWords, areaWords, phaseOf, totalOf, keyBytesOf, keyOf, compressionsOf, levelsOf, emptyLevel, doneBlocks, heldBits, heldParallel, heldSequential, sound}
+use Rattle.area.specs.Calls.{refusedShort, refusedArea}
+
+-- ---- the text of an area
+
+-- n hexadecimal digits of a number, high digit first
+unfoldable pub digits : ℕ → ℕ → List ℕ
+digits zero x = []
+digits (suc n) x = hexDigit (x / 16 ^ n % 16) ∷ digits n x
+
+-- the digits of words, 16 each
+abbrev pub wordDigits : List ℕ → List ℕ
+wordDigits ws = concat (map (digits 16) ws)
+
+-- "each line ended by byte 10"
+abbrev pub line : List ℕ → List ℕ
+line ds = ds ++ (10 ∷ [])
+
+-- "Line 1: phase (1 byte), r (1), L (1), key bytes (1), d (2), total (8), compressions (8): 44 digits."
+abbrev pub line1 : List ℕ → List ℕ
+line1 area =
+    line
+    (digits 2 (phaseOf area)
+    ++ (digits 2 (getD area 5 0)
+    ++ (digits 2 (getD area 4 0)
+    ++ (digits 2 (keyBytesOf area) ++ (digits 4 (getD area 3 0) ++ (digits 16 (totalOf area) ++ digits 16 (compressionsOf area)))))))
+
+-- "Line 2: K, 128 digits."
+abbrev pub line2 : List ℕ → List ℕ
+line2 area = line (wordDigits (keyOf area))
+
+-- "level (1 byte) and its 64 words, 1,026 digits"
+abbrev pub levelLine : ℕ → List ℕ → List ℕ
+levelLine level ws = line (digits 2 level ++ wordDigits ws)
+
+-- whether each level holds bits or has a sequential output: levels above level 1, when i outputs came to the first of them,
+-- of which n may be parallel; the last number counts the levels
+abbrev pub heldAbove : ℕ → ℕ → ℕ → List Bool
+heldAbove n i zero = []
+heldAbove zero i (suc k) = (not (eqb (heldSequential i) 0) || not (eqb (i / 3) 0)) ∷ replicate k false
+heldAbove (suc n) i (suc k) = not (eqb (heldParallel i) 0) ∷ heldAbove n (i / 4) k
+
+-- the same for level 1 and those above it, when T bits were fed
+abbrev pub heldOpen : ℕ → ℕ → ℕ → List Bool
+heldOpen limit T zero = []
+heldOpen zero T (suc k) = (not (eqb (heldBits sequentialBits T) 0) || not (eqb (doneBlocks sequentialBits T) 0)) ∷ replicate k false
+heldOpen (suc n) T (suc k) = not (eqb (heldBits blockBits T) 0) ∷ heldAbove n (doneBlocks blockBits T) k
+
+-- "Ended areas hold nothing in any level"
+abbrev pub heldLevels : ℕ → ℕ → ℕ → List Bool
+heldLevels phase limit T = elim (eqb phase 2) [ true ↦ replicate mostLevels false | false ↦ heldOpen limit T mostLevels ]
+
+-- which levels of an area hold bits or have a sequential output, level 1 first
+abbrev pub heldOf : List ℕ → List Bool
+heldOf area = heldLevels (phaseOf area) (getD area 4 0) (totalOf area)
+
+-- "Then, rising, a line for each level that holds bits or has a sequential output"
+abbrev pub levelLines : ℕ → List Bool → List (List ℕ) → List ℕ
+levelLines level [] levels = []
+levelLines level (h ∷ hs) [] = []
+levelLines level (true ∷ hs) (ws ∷ up) = levelLine level ws ++ levelLines (suc level) hs up
+levelLines level (false ∷ hs) (ws ∷ up) = levelLines (suc level) hs up
+
+unfoldable pub textOf : List ℕ → List ℕ
+textOf area = line1 area ++ (line2 area ++ levelLines 1 (heldOf area) (levelsOf area))
+
+-- ---- the area that a text's digits spell
+
+-- the number that digits spell, high digit first, after those that spelt x; what is no digit counts as 0
+abbrev pub digitValue : Digit → ℕ
+digitValue (Value v) = v
+digitValue Refused = 0
+
+abbrev pub spelt : ℕ → List ℕ → ℕ
+spelt x [] = x
+spelt x (b ∷ bs) = spelt (x * 16 + digitValue (digitOf b)) bs
+
+-- the number that n digits spell from a place of a text on
+abbrev pub numberAt : List ℕ → ℕ → ℕ → ℕ
+numberAt text at n = spelt 0 (take n (drop at text))
+
+-- n words of 16 digits each
+unfoldable pub speltWords : ℕ → List ℕ → List ℕ
+speltWords zero text = []
+speltWords (suc n) text = spelt 0 (take 16 text) ∷ speltWords n (drop 16 text)
+
+-- the bytes of line 1, of line 2 and of a level's line, with their ends
+abbrev pub line1Bytes : ℕ
+line1Bytes = 45
+
+abbrev pub line2Bytes : ℕ
+line2Bytes = 129
+
+abbrev pub levelBytes : ℕ
+levelBytes = 1027
+
+-- the levels, from the lines of those that have one, in their order
+abbrev pub speltLevels : List Bool → List ℕ → List (List ℕ)
+speltLevels [] text = []
+speltLevels (true ∷ hs) text = speltWords blockWords (drop 2 text) ∷ speltLevels hs (drop levelBytes text)
+speltLevels (false ∷ hs) text = emptyLevel ∷ speltLevels hs text
+
+-- words 0 to 15, in the order of the area: phase, total, key bytes, d, L, r, K, compressions, 0
+unfoldable pub speltHead : List ℕ → List ℕ
+speltHead text =
+    numberAt text 0 2
+    ∷ numberAt text 12 16
+    ∷ numberAt text 6 2
+    ∷ numberAt text 8 4
+    ∷ numberAt text 4 2
+    ∷ numberAt text 2 2
+    ∷ (speltWords 8 (drop line1Bytes text) ++ (numberAt text 28 16 ∷ 0 ∷ []))
+
+-- the 1,744 words; which levels have a line goes by the phase, L and total of line 1
+unfoldable pub speltArea : List ℕ → List ℕ
+speltArea text =
+    let head : List ℕ = speltHead text in
+    head ++ concat (speltLevels (heldOf head) (drop (line1Bytes + line2Bytes) text))
+
+-- ---- write text
+
+pub record Written : Type 0 where
+  pub number : ℕ
+  pub count : ℕ
+  pub text : List ℕ
+
+-- "Write 7, 9"
+unfoldable pub writeNumber : List ℕ → List ℕ → ℕ
+writeNumber area out = refusedArea area (refusedOutput (length (textOf area)) out 0)
+
+-- "for writing the text's bytes" as count; "Output bytes past the digest or text stay."
+abbrev pub writeAnswer : ℕ → List ℕ → List ℕ → Written
+writeAnswer zero area out = record { number = 0; count = length (textOf area); text = textOf area ++ drop (length (textOf area)) out }
+writeAnswer (suc k) area out = record { number = suc k; count = 0; text = out }
+
+unfoldable pub writeOf : List ℕ → List ℕ → Written
+writeOf area out = writeAnswer (writeNumber area out) area out
+
+-- ---- read text
+
+pub record Taken : Type 0 where
+  pub number : ℕ
+  pub count : ℕ
+  pub area : List ℕ
+
+-- two lists of numbers are the same
+abbrev pub same : List ℕ → List ℕ → Bool
+same [] [] = true
+same [] (y ∷ ys) = false
+same (x ∷ xs) [] = false
+same (x ∷ xs) (y ∷ ys) = both (eqb x y) (same xs ys)
+
+-- "text is not what writing some sound area gives": the area that the digits spell is sound, and writes this text
+unfoldable pub readable : List ℕ → Bool
+readable text = both (sound (speltArea text)) (same (textOf (speltArea text)) text)
+
+-- "Read 7, 11"
+unfoldable pub readNumber : List ℕ → List ℕ → ℕ
+readNumber area text = refusedShort area (orElse (not (readable text)) 11 0)
+
+-- "words from 1,744 on are never touched"
+abbrev pub readAnswer : ℕ → List ℕ → List ℕ → Taken
+readAnswer zero area text = record { number = 0; count = 0; area = speltArea text ++ drop areaWords area }
+readAnswer (suc k) area text = record { number = suc k; count = 0; area = area }
+
+unfoldable pub readOf : List ℕ → List ℕ → Taken
+readOf area text = readAnswer (readNumber area text) area text

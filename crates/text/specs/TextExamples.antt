@@ -1,0 +1,120 @@
+-- Texts by computing: of an opened area, of areas that hold bits, of an ended one; and texts that are not read.
+-- Assumes nothing.
+use mathlib.Core.Path.{_≡_, refl}
+use mathlib.Core.Bool.{Bool, true, false}
+use mathlib.Core.List.{List, [], _∷_, _++_, map}
+use Prim.Native.Nat.{ℕ, zero, suc, _+_, _-_, _*_}
+use Prim.Native.Char.{code}
+use Prim.Native.String as string
+use lib.ListN.{length, take, drop, replicate}
+use Rattle.bits.specs.Bits.{numbers}
+use Rattle.compress.specs.Compress.{grown, compressed}
+use Rattle.tree.specs.Tree.{Params, keyWords, output}
+use Rattle.area.specs.Area.{areaWords, paramsOf, levelsOf, withLevels, emptyLevel, emptyLevels, sound}
+use Rattle.area.specs.Calls.{withBit, outWords, receive, feedBit, feedBits, closeAbove, closing, openNumber, openedArea, openOf, fedBits, feedNumber, fedArea, feedOf, closedBy, endNumber, endedArea, digestOut, endOf}
+use Rattle.text.specs.Text.{digits, textOf, speltWords, speltHead, speltArea, readable, writeNumber, writeOf, readNumber, readOf}
+
+-- the bytes of a text of ASCII characters
+abbrev ascii : string.String → List ℕ
+ascii string.[] = []
+ascii (string._∷_ c s) = code c ∷ ascii s
+
+abbrev zeros : ℕ → List ℕ
+zeros n = replicate n 48
+
+-- an area with something in it, and two words more than an area needs
+abbrev used : List ℕ
+used = replicate (areaWords + 2) 7
+
+abbrev out : List ℕ
+out = replicate 2300 7
+
+-- ---- an opened area: two lines, 174 bytes
+
+-- a key of three bytes, d = 256, L = 64, r = 104
+abbrev keyed : Params
+keyed = record { key = 1 ∷ 2 ∷ 171 ∷ []; d = 256; limit = 64; rounds = 104 }
+
+abbrev opened : List ℕ
+opened = openOf used keyed .area
+
+abbrev openedText : List ℕ
+openedText = ascii "01684003010000000000000000000000000000000000\n0102ab" ++ (zeros 122 ++ ascii "\n")
+
+opened-text : textOf opened ≡ openedText
+unfolding keyWords numbers openNumber openedArea openOf levelsOf emptyLevels emptyLevel digits textOf
+opened-text = refl
+
+opened-written : (writeOf opened out .number ≡ 0) × (writeOf opened out .count ≡ 174) × (take 174 (writeOf opened out .text) ≡ openedText)
+    × (drop 174 (writeOf opened out .text) ≡ drop 174 out)
+unfolding keyWords numbers openNumber openedArea openOf paramsOf levelsOf emptyLevels emptyLevel sound digits textOf writeNumber writeOf
+opened-written = (refl, refl, refl, refl)
+
+-- it is read into an area that holds something else, whose last two words stay
+opened-read : (readOf used openedText .number ≡ 0) × (readOf used openedText .area ≡ opened)
+unfolding keyWords numbers openNumber openedArea openOf paramsOf levelsOf emptyLevels emptyLevel sound digits textOf speltWords speltHead speltArea readable readNumber readOf
+opened-read = (refl, refl)
+
+-- ---- areas that hold bits
+
+abbrev ones : ℕ → Params → List ℕ
+ones n P = feedOf (openOf used P .area) (replicate (n + 1) 255) n out .area
+
+-- no key, d = 8, r = 0
+abbrev plain : ℕ → Params
+plain limit = record { key = []; d = 8; limit = limit; rounds = 0 }
+
+-- nine bits, L = 64: a line for level 1
+nine-bits : textOf (ones 9 (plain 64))
+    ≡ ascii "01004000000800000000000000090000000000000000\n" ++ (zeros 128 ++ (ascii "\n01ff8" ++ (zeros 1021 ++ ascii "\n")))
+unfolding keyWords numbers output compressed grown paramsOf levelsOf withLevels emptyLevels emptyLevel sound withBit outWords receive feedBit feedBits openNumber openedArea openOf fedBits feedNumber fedArea feedOf digits textOf
+nine-bits = refl
+
+-- 4,097 bits, L = 1: one compression; level 2 is sequential and has no output yet, and what it holds follows 16 words of zeros
+two-levels : textOf (ones 4097 (plain 1))
+    ≡ ascii "01000100000800000000000010010000000000000001\n" ++ (zeros 128 ++ (ascii "\n018" ++ (zeros 1023 ++ (ascii "\n02" ++ (zeros 256 ++ (replicate 256 102 ++ (zeros 512 ++ ascii "\n")))))))
+unfolding keyWords numbers output compressed grown paramsOf levelsOf withLevels emptyLevels emptyLevel sound withBit outWords receive feedBit feedBits openNumber openedArea openOf fedBits feedNumber fedArea feedOf digits textOf
+two-levels = refl
+
+-- ---- an ended area: two lines, one compression for the empty message
+
+ended-text : textOf (endOf (openOf used (plain 64) .area) out out .area) ≡ ascii "02004000000800000000000000000000000000000001\n" ++ (zeros 128 ++ ascii "\n")
+unfolding keyWords numbers output compressed grown paramsOf levelsOf withLevels emptyLevels emptyLevel sound outWords closeAbove closing openNumber openedArea openOf closedBy endNumber endedArea digestOut endOf digits textOf
+ended-text = refl
+
+-- ---- texts that are not read: each of them differs from a text that is read in one thing
+
+abbrev rest : List ℕ
+rest = zeros 128 ++ ascii "\n"
+
+abbrev damaged : List (List ℕ)
+damaged =
+    -- a capital in r, or in K
+    (ascii "010A4000000800000000000000000000000000000000\n" ++ rest)
+    ∷ (ascii "01004001000800000000000000000000000000000000\nA0" ++ drop 2 rest)
+    -- a byte more, the last byte missing, no byte at all
+    ∷ (openedText ++ (10 ∷ []))
+    ∷ take 173 openedText
+    ∷ []
+    -- phase 0 and 3, L = 65, 65 key bytes, d = 0 and 513
+    ∷ (ascii "00004000000800000000000000000000000000000000\n" ++ rest)
+    ∷ (ascii "03004000000800000000000000000000000000000000\n" ++ rest)
+    ∷ (ascii "01004100000800000000000000000000000000000000\n" ++ rest)
+    ∷ (ascii "01004041000800000000000000000000000000000000\n" ++ rest)
+    ∷ (ascii "01004000000000000000000000000000000000000000\n" ++ rest)
+    ∷ (ascii "01004000020100000000000000000000000000000000\n" ++ rest)
+    -- a compression too many, a key byte past the key, a line of zeros, a held level without its line
+    ∷ (ascii "01004000000800000000000000000000000000000001\n" ++ rest)
+    ∷ (ascii "01004000000800000000000000000000000000000000\n01" ++ drop 2 rest)
+    ∷ (ascii "01004000000800000000000000000000000000000000\n" ++ (rest ++ (ascii "01" ++ (zeros 1024 ++ ascii "\n"))))
+    ∷ (ascii "01004000000800000000000000090000000000000000\n" ++ rest)
+    ∷ []
+
+-- the text that they differ from
+undamaged : readable (ascii "010a4000000800000000000000000000000000000000\n" ++ rest) ≡ true
+unfolding numbers paramsOf levelsOf emptyLevel sound digits textOf speltWords speltHead speltArea readable
+undamaged = refl
+
+damaged-refused : map (λ (text : List ℕ). readOf used text .number) damaged ≡ replicate 15 11
+unfolding numbers paramsOf levelsOf emptyLevel sound digits textOf speltWords speltHead speltArea readable readNumber readOf
+damaged-refused = refl

@@ -1,0 +1,183 @@
+-- The digits of a sound area's text spell its first 1,744 words.
+-- Assumes nothing.
+use mathlib.Core.Path.{_≡_, refl, sym, ap, _∙_}
+use mathlib.Core.Bool.{Bool, true, false, not}
+use mathlib.Core.List.{List, [], _∷_, _++_, map, append-assoc, append-nil}
+use Prim.Native.Nat.{ℕ, zero, suc, _+_, _-_, _*_, _^_, _≤_, _<_}
+use native.Mathlib.Omega.{arith}
+use lib.ListN.{length, take, drop, getD, replicate, length-append, length-replicate}
+use lib.Seq.{take-at, drop-at, drop-drop, getD-take}
+use Rattle.lists.specs.Append.{cons-eq}
+use Rattle.lists.specs.Below.{Below, none, more, below-append, below-zeros, below-at, below-take, below-drop}
+use Rattle.lists.specs.Concat.{concat}
+use Rattle.area.specs.Area.{headWords, blockWords, areaWords, phaseOf, totalOf, keyBytesOf, keyOf, compressionsOf, levelsOf, emptyLevel, sound}
+use Rattle.text.specs.Text.{digits, wordDigits, line1, line2, levelLine, heldLevels, heldOf, levelLines, textOf, spelt, numberAt, speltWords, line1Bytes, line2Bytes, levelBytes, speltLevels, speltHead, speltArea}
+use Rattle.text.specs.DigitLaws.{drop-digits, number-here, number-past, number-lt, length-speltWords, speltWords-below, words-exact}
+use Rattle.text.specs.LayoutLaws.{head-words, length-keyOf, levels-are, length-levelsOf, first-words}
+use Rattle.text.specs.HeldLaws.{Ranges, ranges, Fit, none, line, bare, fit-levels, levels-sound}
+use Rattle.text.specs.LengthLaws.{length-line1, length-line2, length-levelLine, length-heldLevels}
+
+-- ---- line 1
+
+-- the fields of line 1, and what follows it
+fields : ℕ → ℕ → ℕ → ℕ → ℕ → ℕ → ℕ → List ℕ → List ℕ
+fields p r l k d t c rest =
+    digits 2 p ++ (digits 2 r ++ (digits 2 l ++ (digits 2 k ++ (digits 4 d ++ (digits 16 t ++ (digits 16 c ++ rest))))))
+
+line1-fields : (area rest : List ℕ) → line1 area ++ rest
+    ≡ fields (phaseOf area) (getD area 5 0) (getD area 4 0) (keyBytesOf area) (getD area 3 0) (totalOf area) (compressionsOf area) (10 ∷ rest)
+unfolding fields
+line1-fields area rest = simp append-assoc
+
+module _ (p r l k d t c : ℕ) (rest : List ℕ) where
+  field-0 : p < 256 → numberAt (fields p r l k d t c rest) 0 2 ≡ p
+  unfolding fields
+  field-0 h = number-here 2 p _ h
+
+  field-2 : r < 256 → numberAt (fields p r l k d t c rest) 2 2 ≡ r
+  unfolding fields
+  field-2 h = number-past 2 p 0 2 _ ∙ number-here 2 r _ h
+
+  field-4 : l < 256 → numberAt (fields p r l k d t c rest) 4 2 ≡ l
+  unfolding fields
+  field-4 h = number-past 2 p 2 2 _ ∙ number-past 2 r 0 2 _ ∙ number-here 2 l _ h
+
+  field-6 : k < 256 → numberAt (fields p r l k d t c rest) 6 2 ≡ k
+  unfolding fields
+  field-6 h = number-past 2 p 4 2 _ ∙ number-past 2 r 2 2 _ ∙ number-past 2 l 0 2 _ ∙ number-here 2 k _ h
+
+  field-8 : d < 65536 → numberAt (fields p r l k d t c rest) 8 4 ≡ d
+  unfolding fields
+  field-8 h = number-past 2 p 6 4 _ ∙ number-past 2 r 4 4 _ ∙ number-past 2 l 2 4 _ ∙ number-past 2 k 0 4 _ ∙ number-here 4 d _ h
+
+  field-12 : t < 2 ^ 64 → numberAt (fields p r l k d t c rest) 12 16 ≡ t
+  unfolding fields
+  field-12 h =
+      number-past 2 p 10 16 _ ∙ number-past 2 r 8 16 _ ∙ number-past 2 l 6 16 _ ∙ number-past 2 k 4 16 _ ∙ number-past 4 d 0 16 _
+      ∙ number-here 16 t _ h
+
+  field-28 : c < 2 ^ 64 → numberAt (fields p r l k d t c rest) 28 16 ≡ c
+  unfolding fields
+  field-28 h =
+      number-past 2 p 26 16 _ ∙ number-past 2 r 24 16 _ ∙ number-past 2 l 22 16 _ ∙ number-past 2 k 20 16 _ ∙ number-past 4 d 16 16 _
+      ∙ number-past 16 t 0 16 _ ∙ number-here 16 c _ h
+
+-- ---- the head
+
+head-back : (area rest : List ℕ) → Below (2 ^ 64) area → headWords ≤ length area → Ranges area → speltHead (line1 area ++ (line2 area ++ rest)) ≡ take headWords area
+unfolding speltHead
+head-back area rest b h g =
+    let text : List ℕ = line1 area ++ (line2 area ++ rest) in
+    let e = line1-fields area (line2 area ++ rest) in
+    let p : ℕ = phaseOf area in
+    let r : ℕ = getD area 5 0 in
+    let l : ℕ = getD area 4 0 in
+    let k : ℕ = keyBytesOf area in
+    let d : ℕ = getD area 3 0 in
+    let t : ℕ = totalOf area in
+    let c : ℕ = compressionsOf area in
+    let more : List ℕ = 10 ∷ (line2 area ++ rest) in
+    let w0 = ap (λ (x : List ℕ). numberAt x 0 2) e ∙ field-0 p r l k d t c more (omega (arith, g .phase)) in
+    let w1 = ap (λ (x : List ℕ). numberAt x 12 16) e ∙ field-12 p r l k d t c more (below-at b 1 (omega arith)) in
+    let w2 = ap (λ (x : List ℕ). numberAt x 6 2) e ∙ field-6 p r l k d t c more (omega (arith, g .keyBytes)) in
+    let w3 = ap (λ (x : List ℕ). numberAt x 8 4) e ∙ field-8 p r l k d t c more (omega (arith, g .d)) in
+    let w4 = ap (λ (x : List ℕ). numberAt x 4 2) e ∙ field-4 p r l k d t c more (omega (arith, g .limit)) in
+    let w5 = ap (λ (x : List ℕ). numberAt x 2 2) e ∙ field-2 p r l k d t c more (omega (arith, g .rounds)) in
+    let w14 = ap (λ (x : List ℕ). numberAt x 28 16) e ∙ field-28 p r l k d t c more (below-at b 14 (omega arith)) in
+    let a : line2 area ++ rest ≡ wordDigits (keyOf area) ++ (10 ∷ rest) = append-assoc (wordDigits (keyOf area)) (10 ∷ []) rest in
+    let key : speltWords 8 (drop line1Bytes text) ≡ keyOf area =
+    ap (speltWords 8) (drop-at (line1 area) (line2 area ++ rest) line1Bytes (length-line1 area) ∙ a)
+    ∙ words-exact 8 (10 ∷ rest) (below-take 8 (below-drop 6 b)) (length-keyOf area h) in
+    let tail = cons-eq w14 (cons-eq (sym (g .last)) refl) in
+    cons-eq w0 (cons-eq w1 (cons-eq w2 (cons-eq w3 (cons-eq w4 (cons-eq w5 (ap (λ (x : List ℕ). x ++ (numberAt text 28 16 ∷ 0 ∷ [])) key ∙ ap (λ (x : List ℕ). keyOf area ++ x) tail))))))
+    ∙ sym (head-words area h)
+
+-- ---- the levels
+
+levels-back : {hs : List Bool} {ls : List (List ℕ)} (k : ℕ) (rest : List ℕ) → Fit hs ls → speltLevels hs (levelLines k hs ls ++ rest) ≡ ls
+levels-back k rest none = refl
+levels-back k rest (line {hs = hs} {ls = ls} {ws = ws} l b f) =
+    let up : List ℕ = levelLines (suc k) hs ls ++ rest in
+    let e : levelLine k ws ++ levelLines (suc k) hs ls ++ rest ≡ levelLine k ws ++ up = append-assoc (levelLine k ws) (levelLines (suc k) hs ls) rest in
+    let d : levelLine k ws ++ up ≡ digits 2 k ++ (wordDigits ws ++ (10 ∷ up)) = simp append-assoc in
+    let w : speltWords 64 (drop 2 (levelLine k ws ++ up)) ≡ ws =
+    ap (λ (x : List ℕ). speltWords 64 (drop 2 x)) d ∙ rw (drop-digits 2 k (wordDigits ws ++ (10 ∷ up))) (words-exact 64 (10 ∷ up) b l) in
+    let n : drop levelBytes (levelLine k ws ++ up) ≡ up = drop-at (levelLine k ws) up levelBytes (length-levelLine k ws l) in
+    rw (e, n) (cons-eq w (levels-back (suc k) rest f))
+levels-back k rest (bare e f) = cons-eq (sym e) (levels-back (suc k) rest f)
+
+-- ---- the area
+
+-- the levels that have a line go by words 0, 1 and 4
+held-front : (area : List ℕ) → heldOf (take headWords area) ≡ heldOf area
+held-front area =
+    ap (λ (p : ℕ). heldLevels p (getD (take 16 area) 4 0) (getD (take 16 area) 1 0)) (getD-take 16 area 0 0 (omega arith))
+    ∙ ap (λ (l : ℕ). heldLevels (phaseOf area) l (getD (take 16 area) 1 0)) (getD-take 16 area 4 0 (omega arith))
+    ∙ ap (λ (t : ℕ). heldLevels (phaseOf area) (getD area 4 0) t) (getD-take 16 area 1 0 (omega arith))
+
+-- an area as a caller lends it, long enough and sound
+pub record SoundArea (area : List ℕ) : Type 0 where
+  pub words : Below (2 ^ 64) area
+  pub long : areaWords ≤ length area
+  pub is-sound : sound area ≡ true
+
+pub spells-back : (area : List ℕ) → SoundArea area → speltArea (textOf area) ≡ take areaWords area
+unfolding speltArea textOf
+spells-back area s =
+    let ls : List ℕ = levelLines 1 (heldOf area) (levelsOf area) in
+    let g = ranges area (s .is-sound) in
+    let h : headWords ≤ length area = omega (arith, s .long) in
+    let fit = fit-levels (phaseOf area) (getD area 4 0) (totalOf area) (levelsOf area) (length-levelsOf area) (levels-are area (s .long) (s .words)) (levels-sound area (g .levels)) in
+    let head : speltHead (line1 area ++ (line2 area ++ ls)) ≡ take headWords area = head-back area ls (s .words) h g in
+    let rest : drop (line1Bytes + line2Bytes) (line1 area ++ (line2 area ++ ls)) ≡ ls =
+    sym (drop-drop line2Bytes line1Bytes (line1 area ++ (line2 area ++ ls)))
+    ∙ ap (drop line2Bytes) (drop-at (line1 area) (line2 area ++ ls) line1Bytes (length-line1 area))
+    ∙ drop-at (line2 area) ls line2Bytes (length-line2 area h) in
+    let up : speltLevels (heldOf area) ls ≡ levelsOf area = ap (speltLevels (heldOf area)) (sym (append-nil ls)) ∙ levels-back 1 [] fit in
+    ap (λ (x : List ℕ). x ++ concat (speltLevels (heldOf x) (drop (line1Bytes + line2Bytes) (line1 area ++ (line2 area ++ ls))))) head
+    ∙ ap (λ (x : List ℕ). take headWords area ++ concat (speltLevels (heldOf (take headWords area)) x)) rest
+    ∙ ap (λ (x : List Bool). take headWords area ++ concat (speltLevels x ls)) (held-front area)
+    ∙ ap (λ (x : List (List ℕ)). take headWords area ++ concat x) up
+    ∙ first-words area
+
+-- ---- what any text spells is an area of 1,744 words
+
+pub length-speltHead : (text : List ℕ) → length (speltHead text) ≡ headWords
+unfolding speltHead
+length-speltHead text = rw (length-append, length-speltWords 8 (drop line1Bytes text))
+
+speltHead-below : (text : List ℕ) → Below (2 ^ 64) (speltHead text)
+unfolding speltHead
+speltHead-below text =
+    more (number-lt text 0 2 (omega arith))
+    (more (number-lt text 12 16 (omega arith))
+    (more (number-lt text 6 2 (omega arith))
+    (more (number-lt text 8 4 (omega arith))
+    (more (number-lt text 4 2 (omega arith))
+    (more (number-lt text 2 2 (omega arith))
+    (below-append (speltWords-below 8 (drop line1Bytes text)) (more (number-lt text 28 16 (omega arith)) (more {w = 0} (omega arith) none))))))))
+
+length-speltLevels : (hs : List Bool) (text : List ℕ) → length (concat (speltLevels hs text)) ≡ length hs * blockWords
+unfolding emptyLevel
+length-speltLevels [] text = refl
+length-speltLevels (true ∷ hs) text =
+    rw (length-append, length-speltWords 64 (drop 2 text), length-speltLevels hs (drop levelBytes text)) (omega arith)
+length-speltLevels (false ∷ hs) text = rw (length-append, length-speltLevels hs text) (omega arith)
+
+speltLevels-below : (hs : List Bool) (text : List ℕ) → Below (2 ^ 64) (concat (speltLevels hs text))
+unfolding emptyLevel
+speltLevels-below [] text = none
+speltLevels-below (true ∷ hs) text = below-append (speltWords-below 64 (drop 2 text)) (speltLevels-below hs (drop levelBytes text))
+speltLevels-below (false ∷ hs) text = below-append (below-zeros (2 ^ 64) 64 (omega arith)) (speltLevels-below hs text)
+
+pub length-speltArea : (text : List ℕ) → length (speltArea text) ≡ areaWords
+unfolding speltArea
+length-speltArea text =
+    let head : List ℕ = speltHead text in
+    let hs : List Bool = heldOf head in
+    length-append head (concat (speltLevels hs (drop (line1Bytes + line2Bytes) text)))
+    ∙ rw (length-speltHead text, length-speltLevels hs (drop (line1Bytes + line2Bytes) text), length-heldLevels (phaseOf head) (getD head 4 0) (totalOf head))
+
+pub speltArea-below : (text : List ℕ) → Below (2 ^ 64) (speltArea text)
+unfolding speltArea
+speltArea-below text = below-append (speltHead-below text) (speltLevels-below (heldOf (speltHead text)) (drop (line1Bytes + line2Bytes) text))
