@@ -33,7 +33,13 @@ pub extern "C" fn md6_default_rounds(d: u64) -> hash::Answer
 
 // Opens a stream in an area.
 #[no_mangle]
-pub extern "C" fn md6_open(area: &mut [u64], key: &[u8], d: u64, limit: u64, rounds: u64) -> stream::Answer
+pub extern "C" fn md6_open(
+    area: &mut [u64],
+    key: &[u8],
+    d: u64,
+    limit: u64,
+    rounds: u64,
+) -> stream::Answer
     ensures { λ o. ⌜ opened (o .number) (o .count) (now (area .exit)) ≡ openOf (now (area .entry)) (params (now (key .entry)) d limit rounds) ⌝ }
 {
     stream::open(area, key, d, limit, rounds)
@@ -41,7 +47,12 @@ pub extern "C" fn md6_open(area: &mut [u64], key: &[u8], d: u64, limit: u64, rou
 
 // Feeds the first bits of a piece.
 #[no_mangle]
-pub extern "C" fn md6_feed(area: &mut [u64], piece: &[u8], bits: u64, log: &mut [u64]) -> stream::Answer
+pub extern "C" fn md6_feed(
+    area: &mut [u64],
+    piece: &[u8],
+    bits: u64,
+    log: &mut [u64],
+) -> stream::Answer
     ensures { λ o. ⌜ fed (o .number) (o .count) (now (area .exit)) (now (log .exit)) ≡ feedOf (now (area .entry)) (now (piece .entry)) bits (now (log .entry)) ⌝ }
 {
     stream::feed(area, piece, bits, log)

@@ -46,9 +46,9 @@ at-spelt area s =
     let sa : SoundArea front = record {
       words = at-below s;
       long = omega (arith, length-take-le areaWords area (at-head s .long));
-      is-sound = sound-front area ∙ at-sound s;
+      is-sound = sound-front area (at-head s .long) ∙ at-sound s;
     } in
-    ap speltArea (sym (text-front area)) ∙ spells-back front sa ∙ take-take areaWords areaWords area (omega arith)
+    ap speltArea (sym (text-front area (at-head s .long))) ∙ spells-back front sa ∙ take-take areaWords areaWords area (omega arith)
 
 -- an accepted read of the area's text, into any area
 pub at-resumed : {P : Params} {M : List Bool} (area into text : List ℕ) {e : Bool} → At P M area e → text ≡ textOf area

@@ -67,12 +67,12 @@ module _ (P : Params) (limit T : ℕ) (area : List ℕ) where
 
   flushed-some : 1 ≤ limit
       → flushed P limit T (levelsOf area)
-          ≡ (let above : Made = receive P (limit - 1) 2 (doneBlocks blockBits T) (outWords P leafNode) (levelsFrom area 26 2) in made (emptyLevel ∷ above .levels) (leafNode ∷ above .nodes))
+      ≡ (let above : Made = receive P (limit - 1) 2 (doneBlocks blockBits T) (outWords P leafNode) (levelsFrom area 26 2) in made (emptyLevel ∷ above .levels) (leafNode ∷ above .nodes))
   flushed-some h = by limit h
     where
       by : (limit : ℕ) → 1 ≤ limit
           → flushed P limit T (levelsOf area)
-              ≡ (let above : Made = receive P (limit - 1) 2 (doneBlocks blockBits T) (outWords P leafNode) (levelsFrom area 26 2) in made (emptyLevel ∷ above .levels) (leafNode ∷ above .nodes))
+          ≡ (let above : Made = receive P (limit - 1) 2 (doneBlocks blockBits T) (outWords P leafNode) (levelsFrom area 26 2) in made (emptyLevel ∷ above .levels) (leafNode ∷ above .nodes))
       by zero h = absurd (omega arith)
       by (suc n) h = let e : suc n - 1 ≡ n = omega arith in rw (levels-split area, e)
 
@@ -124,10 +124,10 @@ module _ (P : Params) (limit T : ℕ) (area : List ℕ) where
           let F = flushed-some some in
           let n = ap (λ (x : ℕ). sets log at (logOf (node P 1 x 0 0 (levelWords area 1) ∷ []))) d in (
             ea ∙ ap (λ (x : Made). upArea area₁ 2 (x .levels)) up-is ∙ ap (λ (x : List ℕ). upArea x 2 (above .levels)) e₁
-            ∙ sym (up-step area 1 emptyLevel long low₁ high₁ refl (above .levels)) ∙ sym (with-up area (emptyLevel ∷ above .levels))
-            ∙ sym (ap (λ (x : Made). withLevels area (x .levels)) F),
+                ∙ sym (up-step area 1 emptyLevel long low₁ high₁ refl (above .levels)) ∙ sym (with-up area (emptyLevel ∷ above .levels))
+                ∙ sym (ap (λ (x : Made). withLevels area (x .levels)) F),
             el′ ∙ ap (λ (x : Made). sets log₁ (at + 2) (logOf (x .nodes))) up-is ∙ ap (λ (x : List ℕ). sets x (at + 2) (logOf (above .nodes))) (el ∙ n)
-            ∙ sym (log-more log at leafNode (above .nodes)) ∙ sym (ap (λ (x : Made). sets log at (logOf (x .nodes))) F),
+                ∙ sym (log-more log at leafNode (above .nodes)) ∙ sym (ap (λ (x : Made). sets log at (logOf (x .nodes))) F),
             count-others at (ap (λ (x : Made). length (x .nodes)) F) (ap (λ (x : Made). length (x .nodes)) up-is) et,
           )
 
@@ -159,9 +159,9 @@ module _ (P : Params) (limit : ℕ) (same : P .limit ≡ limit) (T start count :
       let place : ℕ = baseOf limit + heldBits (sizeOf limit) T in
       let fits : heldBits (sizeOf (P .limit)) T + count ≤ sizeOf (P .limit) = rw same (omega (arith, room-free limit T h)) in
       let c : fedNow ≡ made (filled ws place bytes start count ∷ levelsFrom area 26 2) [] =
-          ap (feedBits P T (take count (drop start (bitsOf 8 bytes)))) (levels-split area)
-          ∙ chunk P count T start ws bytes (levelsFrom area 26 2) (below-take 64 (below-drop 16 below)) level-size fits inside
-          ∙ rw same in
+      ap (feedBits P T (take count (drop start (bitsOf 8 bytes)))) (levels-split area)
+      ∙ chunk P count T start ws bytes (levelsFrom area 26 2) (below-take 64 (below-drop 16 below)) level-size fits inside
+      ∙ rw same in
       let l : length (filled ws place bytes start count) ≡ 64 = length-filled ws place bytes start count ∙ level-size in (
         ea ∙ sym (with-first area (filled ws place bytes start count) long l) ∙ sym (ap (λ (x : Made). withLevels area (x .levels)) c),
         sym (ap (λ (x : Made). sets log at (logOf (x .nodes))) c),
@@ -199,9 +199,9 @@ module _ (P : Params) (limit : ℕ) (same : P .limit ≡ limit) (T start count :
         let l : length new ≡ 64 = length-filled (levelWords area₁ 1) (baseOf limit) bytes start count ∙ length-level area₁ 1 long₁ low₁ high₁ in
         let L : List (List ℕ) = filled (firstOf (flushedNow .levels)) (baseOf limit) bytes start count ∷ restOf (flushedNow .levels) in (
           ea ∙ sym (with-first area₁ new long₁ l)
-          ∙ ap (λ (x : List (List ℕ)). withLevels area₁ (new ∷ x)) u ∙ ap (λ (x : List ℕ). withLevels area₁ (filled x (baseOf limit) bytes start count ∷ restOf (flushedNow .levels))) w
-          ∙ ap (λ (x : List ℕ). withLevels x L) (F .0) ∙ with-again area long s L
-          ∙ sym (ap (λ (x : Made). withLevels area (x .levels)) full-is),
+              ∙ ap (λ (x : List (List ℕ)). withLevels area₁ (new ∷ x)) u ∙ ap (λ (x : List ℕ). withLevels area₁ (filled x (baseOf limit) bytes start count ∷ restOf (flushedNow .levels))) w
+              ∙ ap (λ (x : List ℕ). withLevels x L) (F .0) ∙ with-again area long s L
+              ∙ sym (ap (λ (x : Made). withLevels area (x .levels)) full-is),
           F .1 ∙ sym (ap (λ (x : Made). sets log at (logOf (x .nodes))) full-is),
           omega (arith, F .2, ap (λ (x : Made). at + 2 * length (x .nodes)) full-is),
         )
@@ -242,7 +242,7 @@ module _ {P : Params} {T : ℕ} {bytes : List ℕ} {bits : ℕ} {area₀ log₀ 
   -- the next c bits
   next-is : (c : ℕ)
       → feedBits P T (take (done + c) (bitsOf 8 bytes)) (levelsOf area₀)
-          ≡ (let C : Made = feedBits P (T + done) (take c (drop done (bitsOf 8 bytes))) (levelsOf area) in made (C .levels) (before .nodes ++ C .nodes))
+      ≡ (let C : Made = feedBits P (T + done) (take c (drop done (bitsOf 8 bytes))) (levelsOf area) in made (C .levels) (before .nodes ++ C .nodes))
   next-is c =
       let B : List Bool = bitsOf 8 bytes in
       let l : length (take done B) ≡ done = length-take-le done B (rw length-bitsOf (omega (arith, f .within))) in
@@ -260,8 +260,8 @@ module _ {P : Params} {T : ℕ} {bytes : List ℕ} {bits : ℕ} {area₀ log₀ 
       let L : List (List ℕ) = levelsOf area₀ in
       let A : Made = feedBits P T (take (done + c) B) L in
       let whole = ap (λ (n : ℕ). length (feedBits P T (take n B) L .nodes)) q ∙ ap (λ (x : List Bool). length (feedBits P T x L .nodes)) (take-add (done + c) (bits - (done + c)) B)
-          ∙ ap (λ (x : Made). length (x .nodes)) (feed-append P T (take (done + c) B) r L)
-          ∙ length-append (A .nodes) (feedBits P (T + length (take (done + c) B)) r (A .levels) .nodes) in
+      ∙ ap (λ (x : Made). length (x .nodes)) (feed-append P T (take (done + c) B) r L)
+      ∙ length-append (A .nodes) (feedBits P (T + length (take (done + c) B)) r (A .levels) .nodes) in
       let part = ap (λ (x : Made). length (x .nodes)) (next-is c) ∙ length-append (before .nodes) (feedBits P (T + done) (take c (drop done B)) (levelsOf area) .nodes) in
       omega (arith, whole, part, f .at-is, f .log-length)
 

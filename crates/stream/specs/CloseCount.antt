@@ -23,7 +23,7 @@ module _ (P : Params) where
 
   close-many : (n level i : ℕ) (x ws : List ℕ) (up : List (List ℕ)) → eqb (i / 4) 0 ≡ false
       → length (closeAbove P (suc n) level i x (ws ∷ up))
-          ≡ suc (length (closeAbove P n (suc level) (i / 4) (outWords P (node P level (i / 4) 0 (outputBits * (3 - i % 4)) (joinParallel i x ws))) up))
+      ≡ suc (length (closeAbove P n (suc level) (i / 4) (outWords P (node P level (i / 4) 0 (outputBits * (3 - i % 4)) (joinParallel i x ws))) up))
   unfolding closeAbove
   close-many n level i x ws up e = rw (e, closeAbove) refl
 

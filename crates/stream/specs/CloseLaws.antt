@@ -77,7 +77,7 @@ module _ (P : Params) (n k i : ℕ) (out area : List ℕ) (high : k ≤ 27) wher
 -- a level's words copied, and the output put into its place among them
 pub block-made : (area : List ℕ) (k place : ℕ) (out : List ℕ) → length out ≡ 16 → areaWords ≤ length area → 1 ≤ k → k ≤ 27
     → (let part : List ℕ = take ((levelAt k + 64) - levelAt k) (drop (levelAt k) area) in
-      paste (paste (replicate 64 0) 0 part (length part)) place out (length out) ≡ put place 16 (levelWords area k) out)
+    paste (paste (replicate 64 0) 0 part (length part)) place out (length out) ≡ put place 16 (levelWords area k) out)
 block-made area k place out h long low high =
     let ws : List ℕ = levelWords area k in
     let e : paste (replicate 64 0) 0 ws (length ws) ≡ ws = paste-put (replicate 64 0) 0 64 ws (length-level area k long low high) ∙ append-nil ws in
@@ -187,7 +187,7 @@ closing-root P (suc n) T area h g = rw (eq-eqb (doneBlocks 4096 T) 0 (omega arit
 
 pub closing-more : (P : Params) (limit T : ℕ) (area : List ℕ) → 1 ≤ limit → 1 ≤ doneBlocks 4096 T
     → (let m : Node = firstNode P T (doneBlocks 4096 T) 0 area in
-      closing P limit T (levelsOf area) ≡ m ∷ closeAbove P (limit - 1) 2 (doneBlocks 4096 T) (outWords P m) (levelsFrom area 26 2))
+    closing P limit T (levelsOf area) ≡ m ∷ closeAbove P (limit - 1) 2 (doneBlocks 4096 T) (outWords P m) (levelsFrom area 26 2))
 unfolding levelsOf closing
 closing-more P zero T area h g = absurd (omega arith)
 closing-more P (suc n) T area h g =
@@ -225,7 +225,7 @@ closed-above P nodes m n i area log first log₁ root log′ e ef e₁ er el =
     let l : lastOr noNode rest ≡ lastOr m rest = last-above P n i (outWords P m) (levelWords area 2) (levelsFrom area 25 3) noNode m in (
       er ∙ ap (λ (x : List Node). outWords P (lastOr noNode x)) f ∙ ap (outWords P) l ∙ sym (ap (λ (x : List Node). outWords P (lastOr noNode x)) e),
       el ∙ ap (λ (x : List Node). sets log₁ 2 (logOf x)) f ∙ ap (λ (x : List ℕ). sets x 2 (logOf rest)) e₁ ∙ sym (log-more log 0 m rest)
-      ∙ sym (ap (λ (x : List Node). sets log 0 (logOf x)) e),
+          ∙ sym (ap (λ (x : List Node). sets log 0 (logOf x)) e),
     )
 
 -- the log has room for the node of level 1, and then for those above
@@ -275,7 +275,7 @@ sized-above P area long (suc m) (suc n) level k i out x low high w h =
 
     go : (b : Bool) → eqb (i / 4) 0 ≡ b
         → ((y : Node) → length (output (P .rounds) y) ≡ 1024
-            → length (output (P .rounds) (lastOr y (closeAbove P n (suc level) (i / 4) (outWords P y) (levelsFrom area m (suc k))))) ≡ 1024)
+        → length (output (P .rounds) (lastOr y (closeAbove P n (suc level) (i / 4) (outWords P y) (levelsFrom area m (suc k))))) ≡ 1024)
         → length (output (P .rounds) (lastOr x (closeAbove P (suc n) level i out (levelWords area k ∷ levelsFrom area m (suc k))))) ≡ 1024
     go true e up = rw (e, closeAbove) (length-output-node P (P .rounds) level 0 1 (1024 * (3 - i % 4)) block size)
     go false e up =

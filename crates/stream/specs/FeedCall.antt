@@ -117,9 +117,9 @@ number-is area piece log n long s =
     let nodes : List Node = fedBits area (pieceBits piece n) .nodes in
     let words : ℕ = 2 * (openCount (getD area 4 0) (getD area 1 0 + n) - openCount (getD area 4 0) (getD area 1 0)) in
     let w : ltb (8 * length piece) n ≡ false → ltb (2 ^ 64 - 1) (getD area 1 0 + n) ≡ false → refusedLog nodes log 0 ≡ orElse (ltb (length log) words) 8 0 =
-        λ f g. ap (λ (x : ℕ). orElse (ltb (length log) x) 8 0)
-            (twice-less (length nodes) (openCount (getD area 4 0) (getD area 1 0)) (openCount (getD area 4 0) (getD area 1 0 + n))
-            (made-count area piece n long (ltb-false (8 * length piece) n f) (omega (arith, ltb-false (2 ^ 64 - 1) (getD area 1 0 + n) g)))) in
+    λ f g. ap (λ (x : ℕ). orElse (ltb (length log) x) 8 0)
+    (twice-less (length nodes) (openCount (getD area 4 0) (getD area 1 0)) (openCount (getD area 4 0) (getD area 1 0 + n))
+    (made-count area piece n long (ltb-false (8 * length piece) n f) (omega (arith, ltb-false (2 ^ 64 - 1) (getD area 1 0 + n) g)))) in
     rw (le-ltb (length area) areaWords long, s)
     (orElse-same (eqb (getD area 0 0) 2) 10 (λ e. orElse-same (ltb (8 * length piece) n) 5 (λ f. orElse-same (ltb (2 ^ 64 - 1) (getD area 1 0 + n)) 6 (λ g. w f g))))
 
@@ -207,7 +207,7 @@ head-set area L i v long h =
 
 pub fed-written : (area piece : List ℕ) (n count : ℕ) → areaWords ≤ length area → count ≡ length (fedBits area (pieceBits piece n) .nodes)
     → set (set (withLevels area (fedBits area (pieceBits piece n) .levels)) 1 (getD area 1 0 + n)) 14 (getD area 14 0 + count)
-        ≡ fedArea area n (fedBits area (pieceBits piece n))
+    ≡ fedArea area n (fedBits area (pieceBits piece n))
 unfolding fedArea
 fed-written area piece n count long e =
     let L : List (List ℕ) = fedBits area (pieceBits piece n) .levels in

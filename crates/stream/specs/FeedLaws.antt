@@ -88,7 +88,7 @@ from-concat p k rest (more {n = n} {ws = ws} {up = up} w s) h l =
     let whole : List ℕ = p ++ ((ws ++ concat up) ++ rest) in
     let a : (ws ++ concat up) ++ rest ≡ ws ++ (concat up ++ rest) = append-assoc ws (concat up) rest in
     let first : levelWords whole k ≡ ws =
-        ap (take 64) (drop-at p ((ws ++ concat up) ++ rest) (levelAt k) h ∙ a) ∙ take-at ws (concat up ++ rest) 64 w in
+    ap (take 64) (drop-at p ((ws ++ concat up) ++ rest) (levelAt k) h ∙ a) ∙ take-at ws (concat up ++ rest) 64 w in
     let again : whole ≡ (p ++ ws) ++ (concat up ++ rest) = ap (λ (x : List ℕ). p ++ x) a ∙ sym (append-assoc p ws (concat up ++ rest)) in
     let lp : length (p ++ ws) ≡ levelAt (suc k) = length-append p ws ∙ omega arith in
     let others : levelsFrom whole n (suc k) ≡ up = ap (λ (x : List ℕ). levelsFrom x n (suc k)) again ∙ from-concat (p ++ ws) (suc k) rest s lp (omega arith) in

@@ -75,7 +75,7 @@ bit-filled {ws} h bytes start bw hw hs =
     let q : o + 1 ≡ suc o = omega arith in
     let s : drop start B ≡ b ∷ drop (suc start) B = drop-cons B start false (rw length-bitsOf (omega arith)) in
     let p : paste d o (drop start B) 1 ≡ set d o b =
-        ap (λ (x : List Bool). paste d o x 1) s ∙ rw q (append-snoc (take o d) b (drop (suc o) d) ∙ sym (set-split d o b (rw length-bits (omega arith)))) in
+    ap (λ (x : List Bool). paste d o x 1) s ∙ rw q (append-snoc (take o d) b (drop (suc o) d) ∙ sym (set-split d o b (rw length-bits (omega arith)))) in
     ap (λ (x : List Bool). set ws j (spell 0 x)) (sym p)
     ∙ filled-word j o bytes start 1 bw (omega arith) (omega arith) (omega arith)
     ∙ ap (λ (x : ℕ). filled ws x bytes start 1) e
@@ -102,7 +102,7 @@ module _ (P : Params) where
   pub chunk : (count T start : ℕ) (ws bytes : List ℕ) (up : List (List ℕ)) → Below (2 ^ 64) ws → length ws ≡ 64
       → heldBits (sizeOf (P .limit)) T + count ≤ sizeOf (P .limit) → start + count ≤ 8 * length bytes
       → feedBits P T (take count (drop start (bitsOf 8 bytes))) (ws ∷ up)
-          ≡ made (filled ws (baseOf (P .limit) + heldBits (sizeOf (P .limit)) T) bytes start count ∷ up) []
+      ≡ made (filled ws (baseOf (P .limit) + heldBits (sizeOf (P .limit)) T) bytes start count ∷ up) []
   unfolding Rattle.area.specs.Calls.receive Rattle.area.specs.Calls.feedBit Rattle.area.specs.Calls.feedBits Rattle.area.specs.Area.emptyLevel Rattle.area.specs.Area.emptyLevels
   chunk zero T start ws bytes up bw lw h g = ap (λ (x : List ℕ). made (x ∷ up) []) (sym (filled-none (baseOf (P .limit) + heldBits (sizeOf (P .limit)) T) bytes start bw))
   chunk (suc c) T start ws bytes up bw lw h g =
@@ -113,7 +113,7 @@ module _ (P : Params) where
       let room : baseOf (P .limit) + S ≡ 4096 = base-size (P .limit) in
       let one : withBit at b ws ≡ filled ws at bytes start 1 = bit-filled at bytes start bw (omega arith) (omega arith) in
       let free : feedBit P (P .limit) T b (ws ∷ up) ≡ made (filled ws at bytes start 1 ∷ up) [] =
-          bit-free T b ws up (omega arith) ∙ ap (λ (x : List ℕ). made (x ∷ up) []) one in
+      bit-free T b ws up (omega arith) ∙ ap (λ (x : List ℕ). made (x ∷ up) []) one in
       let next : heldBits S (suc T) ≡ heldBits S T + 1 = held-next (P .limit) T (omega arith) in
       let q : suc start ≡ start + 1 = omega arith in
       let p : baseOf (P .limit) + heldBits S (suc T) ≡ at + 1 = omega arith in
@@ -121,7 +121,7 @@ module _ (P : Params) where
       let lf : length (filled ws at bytes start 1) ≡ 64 = length-filled ws at bytes start 1 ∙ lw in
       let rest = chunk c (suc T) (suc start) (filled ws at bytes start 1) bytes up (filled-below ws at bytes start 1) lf (omega arith) (omega arith) in
       let more : filled (filled ws at bytes start 1) (baseOf (P .limit) + heldBits S (suc T)) bytes (suc start) c ≡ filled ws at bytes start (suc c) =
-          rw (p, q) (filled-more ws at bytes start 1 c (omega arith) (omega arith)) ∙ ap (filled ws at bytes start) t in
+      rw (p, q) (filled-more ws at bytes start 1 c (omega arith) (omega arith)) ∙ ap (filled ws at bytes start) t in
       ap (λ (x : List Bool). feedBits P T x (ws ∷ up)) (bits-cons bytes start c (omega arith))
       ∙ rw (free, rest, more)
 
@@ -152,7 +152,7 @@ first-below P (suc n) T ws up = below-zeros (2 ^ 64) 64 (omega arith)
 module _ (P : Params) where
   bit-full : (T : ℕ) (b : Bool) (ws : List ℕ) (up : List (List ℕ)) → heldBits (sizeOf (P .limit)) T ≡ sizeOf (P .limit)
       → feedBit P (P .limit) T b (ws ∷ up)
-          ≡ (let F : Made = flushed P (P .limit) T (ws ∷ up) in made (withBit (baseOf (P .limit)) b (firstOf (F .levels)) ∷ restOf (F .levels)) (F .nodes))
+      ≡ (let F : Made = flushed P (P .limit) T (ws ∷ up) in made (withBit (baseOf (P .limit)) b (firstOf (F .levels)) ∷ restOf (F .levels)) (F .nodes))
   unfolding Rattle.area.specs.Calls.receive Rattle.area.specs.Calls.feedBit Rattle.area.specs.Calls.feedBits Rattle.area.specs.Area.emptyLevel Rattle.area.specs.Area.emptyLevels
   bit-full T b ws up h = by (P .limit) h
     where
@@ -165,7 +165,7 @@ module _ (P : Params) where
   pub full-chunk : (count T start : ℕ) (ws bytes : List ℕ) (up : List (List ℕ)) → heldBits (sizeOf (P .limit)) T ≡ sizeOf (P .limit) → 1 ≤ count
       → count ≤ sizeOf (P .limit) → start + count ≤ 8 * length bytes
       → feedBits P T (take count (drop start (bitsOf 8 bytes))) (ws ∷ up)
-          ≡ (let F : Made = flushed P (P .limit) T (ws ∷ up) in made (filled (firstOf (F .levels)) (baseOf (P .limit)) bytes start count ∷ restOf (F .levels)) (F .nodes))
+      ≡ (let F : Made = flushed P (P .limit) T (ws ∷ up) in made (filled (firstOf (F .levels)) (baseOf (P .limit)) bytes start count ∷ restOf (F .levels)) (F .nodes))
   unfolding Rattle.area.specs.Calls.receive Rattle.area.specs.Calls.feedBit Rattle.area.specs.Calls.feedBits Rattle.area.specs.Area.emptyLevel Rattle.area.specs.Area.emptyLevels
   full-chunk zero T start ws bytes up e l h g = absurd (omega arith)
   full-chunk (suc c) T start ws bytes up e l h g =
@@ -179,7 +179,7 @@ module _ (P : Params) where
       let lw : length W ≡ 64 = first-size P (P .limit) T ws up in
       let one : withBit at b W ≡ filled W at bytes start 1 = bit-filled at bytes start (first-below P (P .limit) T ws up) (omega arith) (omega arith) in
       let full : feedBit P (P .limit) T b (ws ∷ up) ≡ made (filled W at bytes start 1 ∷ restOf (F .levels)) (F .nodes) =
-          bit-full T b ws up e ∙ ap (λ (x : List ℕ). made (x ∷ restOf (F .levels)) (F .nodes)) one in
+      bit-full T b ws up e ∙ ap (λ (x : List ℕ). made (x ∷ restOf (F .levels)) (F .nodes)) one in
       let next : heldBits S (suc T) ≡ 1 = held-first (P .limit) T e in
       let q : suc start ≡ start + 1 = omega arith in
       let p : at + heldBits S (suc T) ≡ at + 1 = omega arith in
@@ -187,14 +187,14 @@ module _ (P : Params) where
       let lf : length (filled W at bytes start 1) ≡ 64 = length-filled W at bytes start 1 ∙ lw in
       let rest = chunk P c (suc T) (suc start) (filled W at bytes start 1) bytes (restOf (F .levels)) (filled-below W at bytes start 1) lf (omega arith) (omega arith) in
       let more : filled (filled W at bytes start 1) (at + heldBits S (suc T)) bytes (suc start) c ≡ filled W at bytes start (suc c) =
-          rw (p, q) (filled-more W at bytes start 1 c (omega arith) (omega arith)) ∙ ap (filled W at bytes start) t in
+      rw (p, q) (filled-more W at bytes start 1 c (omega arith) (omega arith)) ∙ ap (filled W at bytes start) t in
       ap (λ (x : List Bool). feedBits P T x (ws ∷ up)) (bits-cons bytes start c (omega arith))
       ∙ rw (full, rest, more) (ap (made (filled W at bytes start (suc c) ∷ restOf (F .levels))) (append-nil (F .nodes)))
 
   -- some bits, and then the others
   pub feed-append : (T : ℕ) (xs ys : List Bool) (L : List (List ℕ))
       → feedBits P T (xs ++ ys) L
-          ≡ (let A : Made = feedBits P T xs L in let B : Made = feedBits P (T + length xs) ys (A .levels) in made (B .levels) (A .nodes ++ B .nodes))
+      ≡ (let A : Made = feedBits P T xs L in let B : Made = feedBits P (T + length xs) ys (A .levels) in made (B .levels) (A .nodes ++ B .nodes))
   unfolding Rattle.area.specs.Calls.receive Rattle.area.specs.Calls.feedBit Rattle.area.specs.Calls.feedBits Rattle.area.specs.Area.emptyLevel Rattle.area.specs.Area.emptyLevels
   feed-append T [] ys L = let e : T + 0 ≡ T = omega arith in rw e
   feed-append T (x ∷ xs) ys L =

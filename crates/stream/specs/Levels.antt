@@ -94,7 +94,7 @@ module _ (area : List ℕ) (k : ℕ) (ws : List ℕ) (long : areaWords ≤ lengt
   up-step L =
       let e : levelAt (k + 1) ≡ levelAt k + 64 = omega arith in
       let t : take (levelAt (k + 1)) (withLevel area k ws) ≡ take (levelAt k) area ++ ws =
-          ap (λ (n : ℕ). take n (withLevel area k ws)) e ∙ take-past (levelAt k) area ws fits size in
+      ap (λ (n : ℕ). take n (withLevel area k ws)) e ∙ take-past (levelAt k) area ws fits size in
       let d : drop areaWords (withLevel area k ws) ≡ drop areaWords area = drop-put (levelAt k) area ws fits size areaWords (omega arith) in
       sym
       (ap (λ (x : List ℕ). x ++ (concat L ++ drop areaWords (withLevel area k ws))) t
@@ -157,7 +157,7 @@ length-joined place ws out h g f = simp (length-append, length-take, length-drop
 -- words copied into a lent level
 pub lent-join : (area : List ℕ) (k place : ℕ) (out : List ℕ) → length out ≡ 16
     → put (levelAt k) ((levelAt k + 64) - levelAt k) area (paste (take ((levelAt k + 64) - levelAt k) (drop (levelAt k) area)) place out (length out))
-        ≡ withLevel area k (put place 16 (levelWords area k) out)
+    ≡ withLevel area k (put place 16 (levelWords area k) out)
 lent-join area k place out h =
     lent-put area k (paste (take ((levelAt k + 64) - levelAt k) (drop (levelAt k) area)) place out (length out))
     ∙ ap (λ (n : ℕ). withLevel area k (paste (take n (drop (levelAt k) area)) place out (length out))) (lent-size k)

@@ -53,10 +53,10 @@ key-words k n l b h e =
     let m : 8 * n ≡ n * 8 = omega arith in
     let q : length (drop (8 * n) bs) ≡ (64 - n) * 8 = length-drop (8 * n) bs ∙ omega arith in
     let d : drop (n * 8) bs ≡ replicate ((64 - n) * 8) false =
-        ap (λ (j : ℕ). drop j bs) (sym m) ∙ all-false (drop (8 * n) bs) e ∙ ap (λ (j : ℕ). replicate j false) q in
+    ap (λ (j : ℕ). drop j bs) (sym m) ∙ all-false (drop (8 * n) bs) e ∙ ap (λ (j : ℕ). replicate j false) q in
     ap (numbers 64 8)
-        (bitsOf-append 8 (numbers 8 n bs) (replicate (64 - length (numbers 8 n bs)) 0)
-        ∙ rw (length-numbers 8 n bs, bitsOf-zeros 8 (64 - n), t, ← d) (take-append-drop (n * 8) bs))
+    (bitsOf-append 8 (numbers 8 n bs) (replicate (64 - length (numbers 8 n bs)) 0)
+    ∙ rw (length-numbers 8 n bs, bitsOf-zeros 8 (64 - n), t, ← d) (take-append-drop (n * 8) bs))
     ∙ numbers-exact 64 8 b l
 
 module _ (k : List ℕ) (numbered : declared.Params) (table : List ℕ) (ready : Ready k numbered table) where
@@ -78,7 +78,7 @@ module _ (k : List ℕ) (numbered : declared.Params) (table : List ℕ) (ready :
   -- the words of a node's output are what the compression gives
   pub node-made : (level index z p : ℕ) (block : List ℕ) → level < 256 → index < 2 ^ 56 → z ≤ 1 → p ≤ 4096 → length block ≡ 64 → Below (2 ^ 64) block
       → compressed (numbered .rounds) (windowOf k (nodeU level index) (nodeV (paramsFrom k numbered) z p) block)
-          ≡ outWords (paramsFrom k numbered) (node (paramsFrom k numbered) level index z p block)
+      ≡ outWords (paramsFrom k numbered) (node (paramsFrom k numbered) level index z p block)
   unfolding outWords output nodeWords paramsFrom
   node-made level index z p block hl hi hz hp lb bb =
       let P : Params = paramsFrom k numbered in

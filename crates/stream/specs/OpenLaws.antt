@@ -51,8 +51,8 @@ empty-words = refl
 -- the area after the first six words were stored, the rest cleared, and K written
 pub open-written : (area key : List ℕ) (d limit rounds : ℕ) → areaWords ≤ length area → length key ≤ 64
     → (let A : List ℕ = sets area 0 (1 ∷ 0 ∷ length key ∷ d ∷ limit ∷ rounds ∷ []) in
-      let Z : List ℕ = put 6 1738 A (replicate 1738 0) in
-      put 6 8 Z (filled (take 8 (drop 6 Z)) 0 key 0 (8 * length key)) ≡ openedArea area (params key d limit rounds))
+    let Z : List ℕ = put 6 1738 A (replicate 1738 0) in
+    put 6 8 Z (filled (take 8 (drop 6 Z)) 0 key 0 (8 * length key)) ≡ openedArea area (params key d limit rounds))
 unfolding openedArea Rattle.area.specs.Calls.receive Rattle.area.specs.Calls.feedBit Rattle.area.specs.Calls.feedBits Rattle.area.specs.Area.emptyLevel Rattle.area.specs.Area.emptyLevels
 open-written area key d limit rounds h g =
     let vs : List ℕ = 1 ∷ 0 ∷ length key ∷ d ∷ limit ∷ rounds ∷ [] in

@@ -127,7 +127,7 @@ module _ {P : Params} {all : Made} {area₀ log₀ : List ℕ} {at₀ n k i : �
       let full = received-full P n k i out area high h e in
       let la = length-with area k emptyLevel (c .long) low high refl in
       let next : received P (n - 1) (k + 1) (i / 4) out′ area′ ≡ above =
-          rw (eo, ea, other-with area k emptyLevel (c .long) low high refl (28 - (k + 1)) (k + 1) (omega arith)) refl in
+      rw (eo, ea, other-with area k emptyLevel (c .long) low high refl (28 - (k + 1)) (k + 1) (omega arith)) refl in
       record {
         low = omega arith;
         high = omega arith;
@@ -229,7 +229,7 @@ module _ (P : Params) (k i : ℕ) (out area log : List ℕ) (at : ℕ) (long : a
       let o : out′ ≡ outWords P m = eo ∙ ap (λ (x : List ℕ). outWords P (node P k (i / 3) 0 0 x)) b in
       let l : length (chained P m) ≡ 64 = length-append (outWords P m) (replicate 48 0) ∙ omega (arith, length-outWords P m) in (
         ez ∙ rw (ea, o) (with-with area k block long low high size (chained P m))
-        ∙ sym (up-level area k (chained P m) long low high l) ∙ sym (ap (λ (x : Made). upArea area k (x .levels)) full),
+            ∙ sym (up-level area k (chained P m) long low high l) ∙ sym (ap (λ (x : Made). upArea area k (x .levels)) full),
         el ∙ ap (λ (x : List ℕ). sets log at (logOf (node P k (i / 3) 0 0 x ∷ []))) b ∙ sym (ap (λ (x : Made). sets log at (logOf (x .nodes))) full),
         omega (arith, ap (λ (x : Made). at + 2 * length (x .nodes)) full),
       )

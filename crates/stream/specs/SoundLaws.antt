@@ -78,7 +78,7 @@ shl-mod w s h =
     let r : w % 2 ^ k < 2 ^ k = mod-lt w (pow-pos k) in
     let f : w % 2 ^ k * 2 ^ s < 2 ^ 64 = rw p at (shl-lt k s r) in
     let e : w * 2 ^ s ≡ w / 2 ^ k * 2 ^ 64 + w % 2 ^ k * 2 ^ s =
-        ap (λ (x : ℕ). x * 2 ^ s) (sym (split w k)) ∙ omega (arith, ap (λ (x : ℕ). w / 2 ^ k * x) (sym (pow-add 2 k s) ∙ ap (λ (x : ℕ). 2 ^ x) p)) in
+    ap (λ (x : ℕ). x * 2 ^ s) (sym (split w k)) ∙ omega (arith, ap (λ (x : ℕ). w / 2 ^ k * x) (sym (pow-add 2 k s) ∙ ap (λ (x : ℕ). 2 ^ x) p)) in
     rw e (low (w / 2 ^ k) 64 f)
 
 times-zero : (x s : ℕ) → eqb (x * 2 ^ s) 0 ≡ eqb x 0
@@ -121,8 +121,8 @@ empty-word n ws h g =
     let s : ℕ = n % 64 in
     let e : n ≡ i * 64 + s = omega arith in
     let d : drop n (bitsOf 64 ws) ≡ drop s (bits 64 (getD ws i 0)) ++ bitsOf 64 (drop (suc i) ws) =
-        ap (λ (k : ℕ). drop k (bitsOf 64 ws)) e ∙ sym (drop-drop s (i * 64) (bitsOf 64 ws))
-        ∙ rw (bitsOf-drop 64 i ws (omega arith), drop-cons ws i 0 h, drop-append-le s (bits 64 (getD ws i 0)) (bitsOf 64 (drop (suc i) ws)) (rw length-bits (omega arith))) in
+    ap (λ (k : ℕ). drop k (bitsOf 64 ws)) e ∙ sym (drop-drop s (i * 64) (bitsOf 64 ws))
+    ∙ rw (bitsOf-drop 64 i ws (omega arith), drop-cons ws i 0 h, drop-append-le s (bits 64 (getD ws i 0)) (bitsOf 64 (drop (suc i) ws)) (rw length-bits (omega arith))) in
     let q : i + 1 ≡ suc i = omega arith in
     rw (d, allFalse-append, word-empty (getD ws i 0) s (omega arith) g, q)
 
@@ -170,7 +170,7 @@ sequential-none c held ws h g = rw (eq-eqb c 0 h, chain-empty ws g)
 -- all levels of an open area
 pub open-none : (area : List ℕ) (limit T : ℕ) → limit < 1
     → soundOpen limit T (levelsOf area)
-        ≡ both (soundSequential (doneBlocks sequentialBits T) (heldBits sequentialBits T) (levelWords area 1)) (allEmpty (levelsFrom area 26 2))
+    ≡ both (soundSequential (doneBlocks sequentialBits T) (heldBits sequentialBits T) (levelWords area 1)) (allEmpty (levelsFrom area 26 2))
 unfolding levelsOf
 open-none area zero T h = refl
 open-none area (suc n) T h = absurd (omega arith)
@@ -197,7 +197,7 @@ above-more area (suc n) i k h g =
 
 pub above-last : (area : List ℕ) (n i k : ℕ) → n < 1 → k ≤ 27
     → soundAbove n i (levelsFrom area (28 - k) k)
-        ≡ both (soundSequential (i / 3) (1024 * (i % 3)) (levelWords area k)) (allEmpty (levelsFrom area (28 - (k + 1)) (k + 1)))
+    ≡ both (soundSequential (i / 3) (1024 * (i % 3)) (levelWords area k)) (allEmpty (levelsFrom area (28 - (k + 1)) (k + 1)))
 above-last area zero i k h g =
     let e : 28 - k ≡ suc (28 - (k + 1)) = omega arith in
     let q : k + 1 ≡ suc k = omega arith in

@@ -37,7 +37,15 @@ fn room_of(limit: u64, total: u64) -> u64
 }
 
 // Makes the node of level 1, which is full, and gives its output to the level above.
-fn flush(area: &mut [u64], params: Params, key: &[u64], table: &[u64], total: u64, log: &mut [u64], at: usize) -> usize
+fn flush(
+    area: &mut [u64],
+    params: Params,
+    key: &[u64],
+    table: &[u64],
+    total: u64,
+    log: &mut [u64],
+    at: usize,
+) -> usize
     requires { ⌜ Ready (now key) params (now table) ⌝ }
     requires { ⌜ areaWords ≤ length (now area) ⌝ }
     requires { ⌜ at + 2 * length (flushed (paramsFrom (now key) params) (params .limit) total (levelsOf (now area)) .nodes) ≤ length (now log) ⌝ }
@@ -54,7 +62,17 @@ fn flush(area: &mut [u64], params: Params, key: &[u64], table: &[u64], total: u6
     let done = count::done_blocks(Block::BITS, total);
     let made = climb::make_level(area, params, key, table, 1, done, log, at);
     climb::clear_level(&mut *area, 1);
-    climb::receive(area, params, key, table, params.limit - 1, done, made, log, at + 2)
+    climb::receive(
+        area,
+        params,
+        key,
+        table,
+        params.limit - 1,
+        done,
+        made,
+        log,
+        at + 2,
+    )
 }
 
 // Copies bits of a piece into level 1, through its own part of the area.
@@ -64,11 +82,29 @@ fn fill_level(area: &mut [u64], place: u64, piece: &[u8], start: u64, count: u64
 {
     let byte = (start / 8) as usize;
     let bit = (start % 8) as usize;
-    bits::fill(&mut area[16..80], place as usize, piece, byte, bit, count as usize);
+    bits::fill(
+        &mut area[16..80],
+        place as usize,
+        piece,
+        byte,
+        bit,
+        count as usize,
+    );
 }
 
 // Feeds bits of a piece that level 1 takes at once, and answers where the log goes on.
-fn feed_chunk(area: &mut [u64], params: Params, key: &[u64], table: &[u64], total: u64, piece: &[u8], start: u64, count: u64, log: &mut [u64], at: usize) -> usize
+fn feed_chunk(
+    area: &mut [u64],
+    params: Params,
+    key: &[u64],
+    table: &[u64],
+    total: u64,
+    piece: &[u8],
+    start: u64,
+    count: u64,
+    log: &mut [u64],
+    at: usize,
+) -> usize
     requires { ⌜ Ready (now key) params (now table) ⌝ }
     requires { ⌜ (areaWords ≤ length (now area)) × (1 ≤ count) × (count ≤ roomOf (params .limit) total) × (start + count ≤ 8 * length (now piece)) ⌝ }
     requires { ⌜ at + 2 * length (feedBits (paramsFrom (now key) params) total (take count (drop start (bitsOf 8 (now piece)))) (levelsOf (now area)) .nodes) ≤ length (now log) ⌝ }
@@ -89,7 +125,16 @@ fn feed_chunk(area: &mut [u64], params: Params, key: &[u64], table: &[u64], tota
 }
 
 // Feeds all bits of a piece, and answers how many words of the log were written.
-pub fn feed_bits(area: &mut [u64], params: Params, key: &[u64], table: &[u64], total: u64, piece: &[u8], bits: u64, log: &mut [u64]) -> usize
+pub fn feed_bits(
+    area: &mut [u64],
+    params: Params,
+    key: &[u64],
+    table: &[u64],
+    total: u64,
+    piece: &[u8],
+    bits: u64,
+    log: &mut [u64],
+) -> usize
     requires { ⌜ Ready (now key) params (now table) ⌝ }
     requires { ⌜ (areaWords ≤ length (now area)) × (bits ≤ 8 * length (now piece)) × (total + bits < 2 ^ 64) ⌝ }
     requires { ⌜ 2 * length (feedBits (paramsFrom (now key) params) total (take bits (bitsOf 8 (now piece))) (levelsOf (now area)) .nodes) ≤ length (now log) ⌝ }
@@ -103,7 +148,18 @@ pub fn feed_bits(area: &mut [u64], params: Params, key: &[u64], table: &[u64], t
         let room = room_of(params.limit, total + done);
         let left = bits - done;
         let count = less(room, left);
-        at = feed_chunk(area, params, key, table, total + done, piece, done, count, log, at);
+        at = feed_chunk(
+            area,
+            params,
+            key,
+            table,
+            total + done,
+            piece,
+            done,
+            count,
+            log,
+            at,
+        );
         done += count;
     }
     at

@@ -14,7 +14,18 @@ use super::Area;
 use hash::Params;
 
 // Makes a node: U and V go to the log from a place on, and its 16 words are given back.
-pub fn make_node(params: Params, key: &[u64], table: &[u64], level: u64, index: u64, z: u64, p: u64, block: &[u64], log: &mut [u64], at: usize) -> [u64; 16]
+pub fn make_node(
+    params: Params,
+    key: &[u64],
+    table: &[u64],
+    level: u64,
+    index: u64,
+    z: u64,
+    p: u64,
+    block: &[u64],
+    log: &mut [u64],
+    at: usize,
+) -> [u64; 16]
     requires { ⌜ Ready (now key) params (now table) ⌝ }
     requires { ⌜ (level < 256) × (index < 2 ^ 56) × (z ≤ 1) × (p ≤ 4096) × (length (now block) ≡ 64) × (at + 2 ≤ length (now log)) ⌝ }
     ensures { λ r. ⌜ r ≡ outWords (paramsFrom (now (key .entry)) params) (node (paramsFrom (now (key .entry)) params) level index z p (now (block .entry))) ⌝ }
@@ -28,7 +39,16 @@ pub fn make_node(params: Params, key: &[u64], table: &[u64], level: u64, index: 
 }
 
 // Makes the node of a level's block, which is full.
-pub fn make_level(area: &[u64], params: Params, key: &[u64], table: &[u64], level: usize, index: u64, log: &mut [u64], at: usize) -> [u64; 16]
+pub fn make_level(
+    area: &[u64],
+    params: Params,
+    key: &[u64],
+    table: &[u64],
+    level: usize,
+    index: u64,
+    log: &mut [u64],
+    at: usize,
+) -> [u64; 16]
     requires { ⌜ Ready (now key) params (now table) ⌝ }
     requires { ⌜ (areaWords ≤ length (now area)) × (1 ≤ level) × (level ≤ 27) × (index < 2 ^ 56) × (at + 2 ≤ length (now log)) ⌝ }
     ensures { λ r. ⌜ r ≡ outWords (paramsFrom (now (key .entry)) params) (node (paramsFrom (now (key .entry)) params) level index 0 0 (levelWords (now (area .entry)) level)) ⌝ }
@@ -36,7 +56,18 @@ pub fn make_level(area: &[u64], params: Params, key: &[u64], table: &[u64], leve
 {
     let a = Area::HEAD + Area::LEVEL * (level - 1);
     let e = a + Area::LEVEL;
-    make_node(params, key, table, level as u64, index, 0, 0, &area[a..e], log, at)
+    make_node(
+        params,
+        key,
+        table,
+        level as u64,
+        index,
+        0,
+        0,
+        &area[a..e],
+        log,
+        at,
+    )
 }
 
 // Gives an output to a level, at a place of the level's own part of the area.
@@ -69,7 +100,17 @@ pub fn chain_level(area: &mut [u64], level: usize, out: &[u64])
 }
 
 // Gives the last output that a parallel level's block takes to it, makes its node and clears it.
-fn pass_up(area: &mut [u64], params: Params, key: &[u64], table: &[u64], level: usize, i: u64, out: &[u64], log: &mut [u64], at: usize) -> [u64; 16]
+fn pass_up(
+    area: &mut [u64],
+    params: Params,
+    key: &[u64],
+    table: &[u64],
+    level: usize,
+    i: u64,
+    out: &[u64],
+    log: &mut [u64],
+    at: usize,
+) -> [u64; 16]
     requires { ⌜ Ready (now key) params (now table) ⌝ }
     requires { ⌜ (areaWords ≤ length (now area)) × (1 ≤ level) × (level ≤ 27) × (i < 2 ^ 56) × (i % 4 ≡ 3) × (length (now out) ≡ 16) × (at + 2 ≤ length (now log)) ⌝ }
     ensures { λ _. ⌜ now (area .exit) ≡ withLevel (now (area .entry)) level emptyLevel ⌝ }
@@ -83,7 +124,17 @@ fn pass_up(area: &mut [u64], params: Params, key: &[u64], table: &[u64], level: 
 }
 
 // An output comes to the sequential level: it is given to the level, which is compressed if its block is full then.
-fn receive_last(area: &mut [u64], params: Params, key: &[u64], table: &[u64], level: usize, i: u64, out: &[u64], log: &mut [u64], at: usize) -> usize
+fn receive_last(
+    area: &mut [u64],
+    params: Params,
+    key: &[u64],
+    table: &[u64],
+    level: usize,
+    i: u64,
+    out: &[u64],
+    log: &mut [u64],
+    at: usize,
+) -> usize
     requires { ⌜ Ready (now key) params (now table) ⌝ }
     requires { ⌜ (areaWords ≤ length (now area)) × (1 ≤ level) × (level ≤ 27) × (i < 2 ^ 56) × (length (now out) ≡ 16) ⌝ }
     requires { ⌜ at + 2 * length (receive (paramsFrom (now key) params) 0 level i (now out) (levelsFrom (now area) (28 - level) level) .nodes) ≤ length (now log) ⌝ }
@@ -103,7 +154,17 @@ fn receive_last(area: &mut [u64], params: Params, key: &[u64], table: &[u64], le
 
 // An output comes to level 2, when so many came before and so many levels from it up may be parallel. It is given to the
 // level; a level whose block is full then is compressed, and its output goes to the level above.
-pub fn receive(area: &mut [u64], params: Params, key: &[u64], table: &[u64], levels: u64, outputs: u64, first: [u64; 16], log: &mut [u64], start: usize) -> usize
+pub fn receive(
+    area: &mut [u64],
+    params: Params,
+    key: &[u64],
+    table: &[u64],
+    levels: u64,
+    outputs: u64,
+    first: [u64; 16],
+    log: &mut [u64],
+    start: usize,
+) -> usize
     requires { ⌜ Ready (now key) params (now table) ⌝ }
     requires { ⌜ (areaWords ≤ length (now area)) × (outputs < 2 ^ 56) × (length first ≡ 16) ⌝ }
     requires { ⌜ start + 2 * length (receive (paramsFrom (now key) params) levels 2 outputs first (levelsFrom (now area) 26 2) .nodes) ≤ length (now log) ⌝ }

@@ -20,7 +20,20 @@ use hash::Block;
 use hash::Params;
 
 // Makes the node of a level's block after an output came to it, without giving the output to the area.
-fn close_level(area: &[u64], params: Params, key: &[u64], table: &[u64], level: usize, index: u64, z: u64, p: u64, place: usize, out: &[u64], log: &mut [u64], at: usize) -> [u64; 16]
+fn close_level(
+    area: &[u64],
+    params: Params,
+    key: &[u64],
+    table: &[u64],
+    level: usize,
+    index: u64,
+    z: u64,
+    p: u64,
+    place: usize,
+    out: &[u64],
+    log: &mut [u64],
+    at: usize,
+) -> [u64; 16]
     requires { ⌜ Ready (now key) params (now table) ⌝ }
     requires { ⌜ (areaWords ≤ length (now area)) × (1 ≤ level) × (level ≤ 27) × (index < 2 ^ 56) × (z ≤ 1) × (p ≤ 4096) × (place + 16 ≤ 64) × (length (now out) ≡ 16) × (at + 2 ≤ length (now log)) ⌝ }
     ensures { λ r. ⌜ r ≡ outWords (paramsFrom (now (key .entry)) params) (node (paramsFrom (now (key .entry)) params) level index z p (put place 16 (levelWords (now (area .entry)) level) (now (out .entry)))) ⌝ }
@@ -31,12 +44,33 @@ fn close_level(area: &[u64], params: Params, key: &[u64], table: &[u64], level: 
     let mut block = [0u64; 64];
     hash::node::put_words(&mut block, 0, &area[a..e]);
     hash::node::put_words(&mut block, place, out);
-    climb::make_node(params, key, table, level as u64, index, z, p, &block, log, at)
+    climb::make_node(
+        params,
+        key,
+        table,
+        level as u64,
+        index,
+        z,
+        p,
+        &block,
+        log,
+        at,
+    )
 }
 
 // Makes the nodes above level 1, when so many outputs came to level 2 before this last one and so many levels from it up may
 // be parallel. The root's words are given back.
-fn close_above(area: &[u64], params: Params, key: &[u64], table: &[u64], levels: u64, outputs: u64, first: [u64; 16], log: &mut [u64], start: usize) -> [u64; 16]
+fn close_above(
+    area: &[u64],
+    params: Params,
+    key: &[u64],
+    table: &[u64],
+    levels: u64,
+    outputs: u64,
+    first: [u64; 16],
+    log: &mut [u64],
+    start: usize,
+) -> [u64; 16]
     requires { ⌜ Ready (now key) params (now table) ⌝ }
     requires { ⌜ (areaWords ≤ length (now area)) × (1 ≤ outputs) × (outputs < 2 ^ 52) × (length first ≡ 16) ⌝ }
     requires { ⌜ start + 2 * length (closeAbove (paramsFrom (now key) params) levels 2 outputs first (levelsFrom (now area) 26 2)) ≤ length (now log) ⌝ }
@@ -50,14 +84,40 @@ fn close_above(area: &[u64], params: Params, key: &[u64], table: &[u64], levels:
     let mut k: usize = 2;
     while k < 28 {
         if n < 1 {
-            return close_level(area, params, key, table, k, i / 3, 1, 1024 * (2 - i % 3), 16 + 16 * ((i % 3) as usize), &out, log, at);
+            return close_level(
+                area,
+                params,
+                key,
+                table,
+                k,
+                i / 3,
+                1,
+                1024 * (2 - i % 3),
+                16 + 16 * ((i % 3) as usize),
+                &out,
+                log,
+                at,
+            );
         }
         let p = 1024 * (3 - i % 4);
         let place = 16 * ((i % 4) as usize);
         if i < 4 {
             return close_level(area, params, key, table, k, 0, 1, p, place, &out, log, at);
         }
-        let next = close_level(area, params, key, table, k, i / 4, 0, p, place, &out, log, at);
+        let next = close_level(
+            area,
+            params,
+            key,
+            table,
+            k,
+            i / 4,
+            0,
+            p,
+            place,
+            &out,
+            log,
+            at,
+        );
         out = next;
         at += 2;
         n -= 1;
@@ -69,7 +129,14 @@ fn close_above(area: &[u64], params: Params, key: &[u64], table: &[u64], levels:
 
 // Makes the nodes of all levels, when so many bits came. U and V of each go to the log from its first word, and the root's
 // words are given back.
-fn close_levels(area: &[u64], params: Params, key: &[u64], table: &[u64], total: u64, log: &mut [u64]) -> [u64; 16]
+fn close_levels(
+    area: &[u64],
+    params: Params,
+    key: &[u64],
+    table: &[u64],
+    total: u64,
+    log: &mut [u64],
+) -> [u64; 16]
     requires { ⌜ Ready (now key) params (now table) ⌝ }
     requires { ⌜ areaWords ≤ length (now area) ⌝ }
     requires { ⌜ 2 * length (closing (paramsFrom (now key) params) (params .limit) total (levelsOf (now area))) ≤ length (now log) ⌝ }

@@ -13,7 +13,9 @@ pub mod sound; // sound.rt: whether an area is sound
 pub mod climb; // climb.rt: how a node is made, and how its output goes up through the levels
 pub mod chunk; // chunk.rt: the bits of a piece, as many at a time as level 1 takes
 pub mod close; // close.rt: the end of a stream
+
 pub use close::end;
+
 pub mod piece; // piece.rt: the call that feeds a piece
 
 // The area of a stream: words that the caller lends.
@@ -35,9 +37,7 @@ impl Area {
     pub fn new() -> Self
         ensures { λ r. ⌜ r .words ≡ areaWords ⌝ }
     {
-        Self {
-            words: Area::WORDS,
-        }
+        Self { words: Area::WORDS }
     }
 }
 

@@ -60,5 +60,5 @@ read-done area text s last r h e f a l =
     let n : length s ≡ 1744 = ap length a ∙ length-speltArea text in
     let k : 0 + length s ≡ 1744 = omega arith in
     let p : last ≡ speltArea text ++ drop 1744 area =
-        l ∙ ap (λ (x : List ℕ). x ++ drop (0 + length s) area) (take-all (length s) s (omega arith) ∙ a) ∙ ap (λ (m : ℕ). speltArea text ++ drop m area) k in
+    l ∙ ap (λ (x : List ℕ). x ++ drop (0 + length s) area) (take-all (length s) s (omega arith) ∙ a) ∙ ap (λ (m : ℕ). speltArea text ++ drop m area) k in
     ap (taken 0 0) p ∙ sym (read-accepted area text h (sym e ∙ f))

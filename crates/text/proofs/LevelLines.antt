@@ -89,11 +89,11 @@ length-up area (suc j) h g = by (length-up area j h (omega arith)) (getD (heldOf
         → length (upTo area (suc j)) ≡ 1027 * lines (take (suc j) (heldOf area))
     by i true e =
         rw (up-yes area j e, length-append (upTo area j) (levelLine (suc j) (levelWords area (suc j)))) (
-          omega (
-            arith,
-            length-levelLine (suc j) (levelWords area (suc j)) (length-levelWords area (suc j) h g),
-            lines-yes (heldOf area) j (omega (arith, length-held area)) e,
-          )
+        omega (
+          arith,
+          length-levelLine (suc j) (levelWords area (suc j)) (length-levelWords area (suc j) h g),
+          lines-yes (heldOf area) j (omega (arith, length-held area)) e,
+        )
         )
     by i false e = rw (up-no area j e, lines-no (heldOf area) j (omega (arith, length-held area)) e) i
 
@@ -142,8 +142,8 @@ module _ (area : List ℕ) (k : ℕ) (long : areaWords ≤ length area) (lo : 1 
   same-line text at r e g h =
       let n : at + 1027 - at ≡ 1027 = omega arith in
       let q : r ≡ same (levelLine k (levelWords area k)) (take 1027 (drop at text)) =
-          h ∙ ap (λ (ws : List ℕ). same (levelLine k ws) (take (at + 1027 - at) (drop at text))) (lent-words area k)
-          ∙ ap (λ (m : ℕ). same (levelLine k (levelWords area k)) (take m (drop at text))) n in
+      h ∙ ap (λ (ws : List ℕ). same (levelLine k ws) (take (at + 1027 - at) (drop at text))) (lent-words area k)
+      ∙ ap (λ (m : ℕ). same (levelLine k (levelWords area k)) (take m (drop at text))) n in
       let l = length-levelLine k (levelWords area k) (length-levelWords area k long (omega arith)) in
       ap (λ (x : List ℕ). same x (drop at text)) (from-yes e)
       ∙ same-append (levelLine k (levelWords area k)) (from area (k + 1 - 1)) (drop at text) 1027 l (rw length-drop (omega arith))

@@ -68,7 +68,7 @@ words-step ws p l ys i h g is d =
     let k : length (wordDigits (take i ws)) ≡ 16 * i = rw (length-wordDigits (take i ws), length-take-le i ws (omega arith)) in
     let m : 16 * i + 16 ≡ 16 * (i + 1) = omega arith in
     let t : wordDigits (take (i + 1) ws) ≡ wordDigits (take i ws) ++ digits 16 (getD ws i 0) =
-        rw (add-one, take-suc ws i 0 h, map-append, concat-append, append-nil) in
+    rw (add-one, take-suc ws i 0 h, map-append, concat-append, append-nil) in
     lent-digits (16 * i) (16 * i + 16) (wordDigits (take i ws)) l p ys k is (omega arith) (omega arith) 16 (getD ws i 0) (omega arith) d
     ∙ ap (λ (n : ℕ). (wordDigits (take i ws) ++ digits 16 (getD ws i 0)) ++ drop n p) m
     ∙ ap (λ (q : List ℕ). q ++ drop (16 * (i + 1)) p) (sym t)

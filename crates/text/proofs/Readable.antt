@@ -48,7 +48,7 @@ unfolding readable
 other-length text h =
     let a : List ℕ = speltArea text in
     let l : length (textOf a) ≡ 174 + 1027 * lines (heldOf (speltHead text)) =
-        text-length a (omega (arith, length-speltArea text)) ∙ ap (λ (hs : List Bool). 174 + 1027 * lines hs) (held-area text) in
+    text-length a (omega (arith, length-speltArea text)) ∙ ap (λ (hs : List Bool). 174 + 1027 * lines hs) (held-area text) in
     sym (both-false (sound a)) ∙ ap (both (sound a)) (same-other-length (textOf a) text (λ e. h (sym e ∙ l)))
 
 pub unsound : (text : List ℕ) → sound (speltArea text) ≡ false → false ≡ readable text

@@ -150,11 +150,11 @@ module _ (area text : List ℕ) (long : length area ≡ 1744) (z : drop 16 area 
     level-line l ys at e is a y =
         let n : 16 + 64 * (k - 1) + 64 - (16 + 64 * (k - 1)) ≡ 64 = omega arith in
         let m : length (midOf (16 + 64 * (k - 1)) (16 + 64 * (k - 1) + 64 - (16 + 64 * (k - 1))) l) ≡ 64 =
-            mid-len (16 + 64 * (k - 1)) (16 + 64 * (k - 1) + 64) l (omega (arith, ap length is, after-length (k - 1) (omega arith))) ∙ n in
+        mid-len (16 + 64 * (k - 1)) (16 + 64 * (k - 1) + 64) l (omega (arith, ap length is, after-length (k - 1) (omega arith))) ∙ n in
         let t : at + 2 + 1024 - (at + 2) ≡ 1024 = omega arith in
         let f : ys ≡ speltWords 64 (drop 2 (drop (1027 * lines (take (k - 1) (heldOf area))) text)) =
-            y ∙ ap (λ (x : ℕ). speltWords x (take (at + 2 + 1024 - (at + 2)) (drop (at + 2) text))) m
-            ∙ ap (λ (x : ℕ). speltWords 64 (take x (drop (at + 2) text))) t
-            ∙ words-front 64 (drop (at + 2) text)
-            ∙ ap (speltWords 64) (sym (drop-drop 2 at text) ∙ ap (λ (x : ℕ). drop 2 (drop x text)) a) in
+        y ∙ ap (λ (x : ℕ). speltWords x (take (at + 2 + 1024 - (at + 2)) (drop (at + 2) text))) m
+        ∙ ap (λ (x : ℕ). speltWords 64 (take x (drop (at + 2) text))) t
+        ∙ words-front 64 (drop (at + 2) text)
+        ∙ ap (speltWords 64) (sym (drop-drop 2 at text) ∙ ap (λ (x : ℕ). drop 2 (drop x text)) a) in
         after-yes (k - 1) l ys (omega arith) e is f ∙ ap (after area text) (sym at-next)

@@ -1,32 +1,26 @@
 -- What soundness says of an area, as far as its text needs it: words 0 to 5 fit their digits, and a level without a line holds
 -- nothing.
 -- Assumes nothing.
-use mathlib.Core.Path.{_≡_, refl, sym, ap, _∙_, subst}
+use mathlib.Core.Path.{_≡_, refl, sym, ap, _∙_}
 use mathlib.Core.Bool.{Bool, true, false, not, _||_}
-use mathlib.Core.List.{List, [], _∷_, _++_}
-use Prim.Native.Nat.{ℕ, zero, suc, _+_, _-_, _*_, _/_, _%_, _^_, _≤_, _<_}
+use mathlib.Core.List.{List, [], _∷_, map}
+use Prim.Native.Nat.{ℕ, zero, suc, _+_, _^_, _≤_}
+use native.Mathlib.Nat.{add-zero}
 use native.Mathlib.Omega.{arith}
-use borrow.Author.Tests.{eqb-true, eqb-false, ltb-false}
+use borrow.Author.Tests.{eqb-true, ltb-false}
 use lib.Dec.{eqb, ltb}
-use lib.ListN.{length, take, drop, getD, replicate, take-append-drop, length-replicate}
-use Rattle.lists.specs.Append.{cons-eq}
+use lib.ListN.{length, take, drop, getD, replicate, length-replicate}
 use Rattle.lists.specs.Below.{Below, below-zeros}
-use Rattle.lists.specs.Table.{both}
-use Rattle.bits.specs.Bits.{bitsOf, numbers}
+use Rattle.bits.specs.Bits.{bitsOf}
 use Rattle.bits.specs.BitsLaws.{length-numbers, length-bitsOf, bitsOf-zeros, bitsOf-inj}
-use Rattle.tree.specs.Tree.{Params, blockBits, sequentialBits, outputBits, mostLevels}
-use Rattle.hash.specs.Hash.{orElse, refusedParams}
-use Rattle.area.specs.Area.{headWords, blockWords, areaWords, phaseOf, totalOf, keyBytesOf, keyOf, compressionsOf, levelsOf, paramsOf, emptyLevel, doneBlocks, heldBits, heldParallel, heldSequential, allFalse, sound, soundPhase, soundParams, soundKey, soundCount, soundLast, soundLevels}
-use Rattle.stream.specs.SoundLaws.{levels-ended, levels-open}
-use Rattle.stream.specs.LevelTests.{emptyFrom, allEmpty, soundSequential, soundAbove, soundOpen}
+use Rattle.tree.specs.Tree.{Params}
+use Rattle.hash.specs.Hash.{refusedParams}
+use Rattle.area.specs.Area.{Hold, blockWords, phaseOf, totalOf, keyBytesOf, keyOf, levelsOf, paramsOf, emptyLevel, holdsFor, allFalse, clean, cleanAll, sound, soundLevels}
 use Rattle.area.specs.AreaLaws.{allFalse-is}
 use Rattle.area.specs.CallLaws.{orElse-passed}
-use Rattle.text.specs.Text.{heldAbove, heldOpen, heldLevels, heldOf}
+use Rattle.area.specs.Moved.{both-parts, sound-tests}
+use Rattle.text.specs.Text.{hasLine}
 use Rattle.text.specs.LayoutLaws.{Levels}
-
-pub both-parts : (a b : Bool) → both a b ≡ true → (a ≡ true) × (b ≡ true)
-both-parts true b e = (refl, e)
-both-parts false b e = (e, cc)
 
 -- ---- words 0 to 5 and word 15
 
@@ -48,27 +42,23 @@ phase-range p e = by (eqb p 1) (eqb p 2) refl refl e
     by false false f g e = let z : _≡_ {A = ℕ} 0 1 = cc in absurd (omega arith)
 
 pub ranges : (area : List ℕ) → sound area ≡ true → Ranges area
-unfolding sound paramsOf
+unfolding paramsOf
 ranges area e =
     let P : Params = paramsOf area in
-    let s1 = both-parts (soundPhase area) _ e in
-    let s2 = both-parts (soundParams area) _ (s1 .1) in
-    let s3 = both-parts (soundKey area) _ (s2 .1) in
-    let s4 = both-parts (soundCount area) _ (s3 .1) in
-    let s5 = both-parts (soundLast area) (soundLevels area) (s4 .1) in
-    let p1 = orElse-passed (ltb (P .d) 1) 0 _ (eqb-true (refusedParams P 0) 0 (s2 .0)) in
+    let t = sound-tests area e in
+    let p1 = orElse-passed (ltb (P .d) 1) 0 _ (eqb-true (refusedParams P 0) 0 (t .params)) in
     let p2 = orElse-passed (ltb 512 (P .d)) 0 _ (p1 .1) in
     let p3 = orElse-passed (ltb 64 (length (P .key))) 1 _ (p2 .1) in
     let p4 = orElse-passed (ltb 64 (P .limit)) 2 _ (p3 .1) in
     let p5 = orElse-passed (ltb 255 (P .rounds)) 3 0 (p4 .1) in
     record {
-      phase = phase-range (phaseOf area) (s1 .0);
+      phase = phase-range (phaseOf area) (t .phase);
       keyBytes = rw (length-numbers 8 (keyBytesOf area) (bitsOf 64 (keyOf area))) at (ltb-false 64 (length (P .key)) (p3 .0));
       d = ltb-false 512 (P .d) (p2 .0);
       limit = ltb-false 64 (P .limit) (p4 .0);
       rounds = ltb-false 255 (P .rounds) (p5 .0);
-      last = eqb-true (getD area 15 0) 0 (s5 .0);
-      levels = s5 .1;
+      last = eqb-true (getD area 15 0) 0 (t .last);
+      levels = t .levels;
     }
 
 -- ---- a level whose bits are all false
@@ -92,75 +82,32 @@ pub data Fit : List Bool → List (List ℕ) → Type 0 where
   line : {hs : List Bool} {ls : List (List ℕ)} {ws : List ℕ} → length ws ≡ blockWords → Below (2 ^ 64) ws → Fit hs ls → Fit (true ∷ hs) (ws ∷ ls)
   bare : {hs : List Bool} {ls : List (List ℕ)} {ws : List ℕ} → ws ≡ emptyLevel → Fit hs ls → Fit (false ∷ hs) (ws ∷ ls)
 
-fit-empty : (ls : List (List ℕ)) → Levels ls → allEmpty ls ≡ true → Fit (replicate (length ls) false) ls
-fit-empty [] w e = none
-fit-empty (ws ∷ ls) w e =
-    let p = both-parts (emptyFrom 0 ws) (allEmpty ls) e in
-    bare (empty-level ws (w .0) (w .1) (p .0)) (fit-empty ls (w .2) (p .1))
-
-fit-parallel : (h n : ℕ) {hs : List Bool} {ls : List (List ℕ)} (ws : List ℕ) → (h ≡ 0 → n ≡ 0) → length ws ≡ blockWords → Below (2 ^ 64) ws
-    → emptyFrom n ws ≡ true → Fit hs ls → Fit (not (eqb h 0) ∷ hs) (ws ∷ ls)
-fit-parallel h n {hs} {ls} ws z l b e f = by (eqb h 0) refl
+-- one level that is clean for what it holds
+fit-one : (h : Hold) (ws : List ℕ) {hs : List Bool} {ls : List (List ℕ)} → length ws ≡ blockWords → Below (2 ^ 64) ws → clean h ws ≡ true
+    → Fit hs ls → Fit (hasLine h ∷ hs) (ws ∷ ls)
+fit-one h ws {hs} {ls} l b e f =
+    by (h .output) (eqb (h .bits) 0) refl
+    (both-parts (h .output || allFalse (take (h .reserved) (bitsOf 64 ws))) (allFalse (drop (h .reserved + h .bits) (bitsOf 64 ws))) e)
   where
-    by : (t : Bool) → eqb h 0 ≡ t → Fit (not t ∷ hs) (ws ∷ ls)
-    by true g = let n0 : n ≡ 0 = z (eqb-true h 0 g) in bare (empty-level ws l b (rw n0 at e)) f
-    by false g = line l b f
+    by : (o t : Bool) → eqb (h .bits) 0 ≡ t
+        → (o || allFalse (take (h .reserved) (bitsOf 64 ws)) ≡ true) × (allFalse (drop (h .reserved + h .bits) (bitsOf 64 ws)) ≡ true)
+        → Fit ((o || not t) ∷ hs) (ws ∷ ls)
+    by true t g p = line l b f
+    by false false g p = line l b f
+    by false true g p =
+        let z : h .reserved + h .bits ≡ h .reserved = omega (arith, eqb-true (h .bits) 0 g) in
+        bare (empty-level ws l b (all-parts (h .reserved) (bitsOf 64 ws) (p .0) (rw z at (p .1)))) f
 
-fit-sequential : (h c n : ℕ) {hs : List Bool} {ls : List (List ℕ)} (ws : List ℕ) → (h ≡ 0 → n ≡ 0) → length ws ≡ blockWords → Below (2 ^ 64) ws
-    → soundSequential c n ws ≡ true → Fit hs ls → Fit ((not (eqb h 0) || not (eqb c 0)) ∷ hs) (ws ∷ ls)
-fit-sequential h c n {hs} {ls} ws z l b e f =
-    by (eqb h 0) (eqb c 0) refl refl (both-parts (not (eqb c 0) || allFalse (take outputBits (bitsOf 64 ws))) (emptyFrom (outputBits + n) ws) e)
-  where
-    by : (s t : Bool) → eqb h 0 ≡ s → eqb c 0 ≡ t
-        → (not (eqb c 0) || allFalse (take outputBits (bitsOf 64 ws)) ≡ true) × (emptyFrom (outputBits + n) ws ≡ true)
-        → Fit ((not s || not t) ∷ hs) (ws ∷ ls)
-    by true true g k p =
-        let n0 : n ≡ 0 = z (eqb-true h 0 g) in
-        let first : allFalse (take 1024 (bitsOf 64 ws)) ≡ true = rw k at (p .0) in
-        let rest : allFalse (drop 1024 (bitsOf 64 ws)) ≡ true = rw n0 at (p .1) in
-        bare (empty-level ws l b (all-parts 1024 (bitsOf 64 ws) first rest)) f
-    by true false g k p = line l b f
-    by false t g k p = line l b f
-
-fit-above : (n i : ℕ) (ls : List (List ℕ)) → Levels ls → soundAbove n i ls ≡ true → Fit (heldAbove n i (length ls)) ls
-fit-above zero i [] w e = none
-fit-above (suc n) i [] w e = none
-fit-above zero i (ws ∷ ls) w e =
-    let p = both-parts (soundSequential (i / 3) (outputBits * heldSequential i) ws) (allEmpty ls) e in
-    fit-sequential (i % 3) (i / 3) (1024 * (i % 3)) ws (λ z. omega arith) (w .0) (w .1) (p .0) (fit-empty ls (w .2) (p .1))
-fit-above (suc n) i (ws ∷ ls) w e =
-    let p = both-parts (emptyFrom (outputBits * heldParallel i) ws) (soundAbove n (i / 4) ls) e in
-    fit-parallel (i % 4) (1024 * (i % 4)) ws (λ z. omega arith) (w .0) (w .1) (p .0) (fit-above n (i / 4) ls (w .2) (p .1))
-
-fit-open : (limit T : ℕ) (ls : List (List ℕ)) → Levels ls → soundOpen limit T ls ≡ true → Fit (heldOpen limit T (length ls)) ls
-fit-open zero T [] w e = none
-fit-open (suc n) T [] w e = none
-fit-open zero T (ws ∷ ls) w e =
-    let p = both-parts (soundSequential (doneBlocks sequentialBits T) (heldBits sequentialBits T) ws) (allEmpty ls) e in
-    fit-sequential (heldBits sequentialBits T) (doneBlocks sequentialBits T) (heldBits sequentialBits T) ws (λ z. z) (w .0) (w .1) (p .0)
-    (fit-empty ls (w .2) (p .1))
-fit-open (suc n) T (ws ∷ ls) w e =
-    let p = both-parts (emptyFrom (heldBits blockBits T) ws) (soundAbove n (doneBlocks blockBits T) ls) e in
-    fit-parallel (heldBits blockBits T) (heldBits blockBits T) ws (λ z. z) (w .0) (w .1) (p .0)
-    (fit-above n (doneBlocks blockBits T) ls (w .2) (p .1))
+fit-all : (holds : List Hold) (ls : List (List ℕ)) → length holds ≡ length ls → Levels ls → cleanAll holds ls ≡ true → Fit (map hasLine holds) ls
+fit-all [] [] n w e = none
+fit-all [] (ws ∷ ls) n w e = absurd (omega arith)
+fit-all (h ∷ hs) [] n w e = absurd (omega arith)
+fit-all (h ∷ hs) (ws ∷ ls) n w e =
+    let p = both-parts (clean h ws) (cleanAll hs ls) e in
+    fit-one h ws (w .0) (w .1) (p .0) (fit-all hs ls (omega arith) (w .2) (p .1))
 
 -- the levels of a sound area
-pub fit-levels : (phase limit T : ℕ) (ls : List (List ℕ)) → length ls ≡ mostLevels → Levels ls
-    → elim (eqb phase 2) [ true ↦ allEmpty ls | false ↦ soundOpen limit T ls ] ≡ true → Fit (heldLevels phase limit T) ls
-fit-levels phase limit T ls l w e = by (eqb phase 2) e
-  where
-    by : (t : Bool) → elim t [ true ↦ allEmpty ls | false ↦ soundOpen limit T ls ] ≡ true
-        → Fit (elim t [ true ↦ replicate mostLevels false | false ↦ heldOpen limit T mostLevels ]) ls
-    by true e = subst (λ (n : ℕ). Fit (replicate n false) ls) l (fit-empty ls w e)
-    by false e = subst (λ (n : ℕ). Fit (heldOpen limit T n) ls) l (fit-open limit T ls w e)
-
--- soundness of the levels, by word 4 itself
-pub levels-sound : (area : List ℕ) → soundLevels area ≡ true
-    → elim (eqb (phaseOf area) 2) [ true ↦ allEmpty (levelsOf area) | false ↦ soundOpen (getD area 4 0) (totalOf area) (levelsOf area) ] ≡ true
-unfolding levelsOf
-levels-sound area e = by (eqb (phaseOf area) 2) refl
-  where
-    by : (t : Bool) → eqb (phaseOf area) 2 ≡ t
-        → elim t [ true ↦ allEmpty (levelsOf area) | false ↦ soundOpen (getD area 4 0) (totalOf area) (levelsOf area) ] ≡ true
-    by true g = sym (levels-ended area (eqb-true (phaseOf area) 2 g)) ∙ e
-    by false g = sym (levels-open area (eqb-false (phaseOf area) 2 g)) ∙ e
+pub fit-levels : (area : List ℕ) → length (holdsFor (phaseOf area) (getD area 4 0) (totalOf area)) ≡ length (levelsOf area) → Levels (levelsOf area)
+    → soundLevels area ≡ true → Fit (map hasLine (holdsFor (phaseOf area) (getD area 4 0) (totalOf area))) (levelsOf area)
+unfolding paramsOf
+fit-levels area n w e = fit-all (holdsFor (phaseOf area) (getD area 4 0) (totalOf area)) (levelsOf area) n w e

@@ -6,10 +6,10 @@ use mathlib.Core.List.{List, [], _∷_, _++_, map}
 use Prim.Native.Nat.{ℕ, zero, suc, _+_, _-_, _*_, _/_, _≤_, _<_}
 use native.Mathlib.Omega.{arith}
 use lib.Dec.{eqb}
-use lib.ListN.{length, take, drop, getD, replicate, length-append, length-replicate}
+use lib.ListN.{length, take, drop, getD, replicate, length-append, length-map, length-replicate}
 use Rattle.tree.specs.Tree.{mostLevels, blockBits}
-use Rattle.area.specs.Area.{headWords, blockWords, areaWords, phaseOf, totalOf, keyBytesOf, keyOf, compressionsOf, doneBlocks, levelWords, levelsFrom, levelsOf}
-use Rattle.text.specs.Text.{digits, wordDigits, line, line1, line2, levelLine, heldAbove, heldOpen, heldLevels, heldOf, levelLines, textOf, line1Bytes, line2Bytes, levelBytes}
+use Rattle.area.specs.Area.{Hold, headWords, blockWords, areaWords, phaseOf, totalOf, keyOf, doneBlocks, parallelHold, holdsAbove, openHolds, holdsFor, levelWords, levelsFrom, levelsOf}
+use Rattle.text.specs.Text.{digits, wordDigits, line, line1, line2, levelLine, hasLine, heldLevels, heldOf, levelLines, textOf, line1Bytes, line2Bytes, levelBytes}
 use Rattle.text.specs.DigitLaws.{length-digits, length-wordDigits}
 use Rattle.text.specs.LayoutLaws.{length-keyOf, length-levelWords}
 
@@ -41,24 +41,24 @@ lines-le [] = omega arith
 lines-le (true ∷ hs) = omega (arith, lines-le hs)
 lines-le (false ∷ hs) = omega (arith, lines-le hs)
 
-length-heldAbove : (n i k : ℕ) → length (heldAbove n i k) ≡ k
-length-heldAbove zero i zero = refl
-length-heldAbove (suc n) i zero = refl
-length-heldAbove zero i (suc k) = ap suc (length-replicate k false)
-length-heldAbove (suc n) i (suc k) = ap suc (length-heldAbove n (i / 4) k)
+length-holdsAbove : (k n i : ℕ) → length (holdsAbove k n i) ≡ k
+length-holdsAbove zero n i = refl
+length-holdsAbove (suc k) zero i = ap suc (length-replicate k (parallelHold 0))
+length-holdsAbove (suc k) (suc n) i = ap suc (length-holdsAbove k n (i / 4))
 
-length-heldOpen : (limit T k : ℕ) → length (heldOpen limit T k) ≡ k
-length-heldOpen zero T zero = refl
-length-heldOpen (suc n) T zero = refl
-length-heldOpen zero T (suc k) = ap suc (length-replicate k false)
-length-heldOpen (suc n) T (suc k) = ap suc (length-heldAbove n (doneBlocks blockBits T) k)
+length-openHolds : (limit T : ℕ) → length (openHolds limit T) ≡ mostLevels
+length-openHolds zero T = refl
+length-openHolds (suc n) T = ap suc (length-holdsAbove 26 n (doneBlocks blockBits T))
+
+pub length-holdsFor : (phase limit T : ℕ) → length (holdsFor phase limit T) ≡ mostLevels
+length-holdsFor phase limit T = by (eqb phase 2)
+  where
+    by : (t : Bool) → length {A = Hold} (elim t [ true ↦ replicate mostLevels (parallelHold 0) | false ↦ openHolds limit T ]) ≡ mostLevels
+    by true = refl
+    by false = length-openHolds limit T
 
 pub length-heldLevels : (phase limit T : ℕ) → length (heldLevels phase limit T) ≡ mostLevels
-length-heldLevels phase limit T = by (eqb phase 2)
-  where
-    by : (t : Bool) → length {A = Bool} (elim t [ true ↦ replicate mostLevels false | false ↦ heldOpen limit T mostLevels ]) ≡ mostLevels
-    by true = refl
-    by false = length-heldOpen limit T 27
+length-heldLevels phase limit T = length-map (holdsFor phase limit T) hasLine ∙ length-holdsFor phase limit T
 
 -- ---- the length of a text
 

@@ -21,7 +21,7 @@ use Rattle.area.specs.Sound.{both-true}
 use Rattle.area.specs.CallLaws.{orElse-passed}
 use Rattle.text.specs.Text.{textOf, speltArea, same, readable, Written, writeNumber, writeAnswer, writeOf, Taken, readNumber, readAnswer, readOf}
 use Rattle.text.specs.LayoutLaws.{sound-front, text-front}
-use Rattle.text.specs.HeldLaws.{both-parts}
+use Rattle.area.specs.Moved.{both-parts}
 use Rattle.text.specs.TextLaws.{SoundArea, spells-back, length-speltArea, speltArea-below}
 
 -- ---- tests
@@ -112,8 +112,8 @@ pub text-readable : (area : List ℕ) → SoundArea area → readable (textOf ar
 unfolding readable
 text-readable area s =
     let e = spells-back area s in
-    both-true (ap sound e ∙ sound-front area ∙ s .is-sound)
-    (ap (λ (x : List ℕ). same (textOf x) (textOf area)) e ∙ rw (text-front area) (same-refl (textOf area)))
+    both-true (ap sound e ∙ sound-front area (s .long) ∙ s .is-sound)
+    (ap (λ (x : List ℕ). same (textOf x) (textOf area)) e ∙ rw (text-front area (s .long)) (same-refl (textOf area)))
 
 -- reading what was written is accepted and gives the same area in its first 1,744 words; the tail of the area read into stays
 pub read-back : (area out other : List ℕ) → Below (2 ^ 64) area → writeNumber area out ≡ 0 → areaWords ≤ length other
@@ -139,15 +139,19 @@ readable-sound text e =
 front : (text area : List ℕ) → take areaWords (speltArea text ++ drop areaWords area) ≡ speltArea text
 front text area = take-at (speltArea text) (drop areaWords area) areaWords (length-speltArea text)
 
+front-long : (text area : List ℕ) → areaWords ≤ length (speltArea text ++ drop areaWords area)
+front-long text area = rw (length-append (speltArea text) (drop areaWords area), length-speltArea text) (omega arith)
+
 -- an accepted read leaves a sound area
 pub read-sound : (area text : List ℕ) → Below (2 ^ 64) area → readNumber area text ≡ 0 → SoundArea (readOf area text .area)
 read-sound area text b e =
     let p = read-passed area text e in
     let s = readable-sound text (p .1) .0 in
+    let l = front-long text area in
     rw (read-accepted area text (p .0) (p .1)) (record {
       words = below-append (s .words) (below-drop areaWords b);
-      long = rw (length-append (speltArea text) (drop areaWords area), length-speltArea text) (omega arith);
-      is-sound = sym (sound-front (speltArea text ++ drop areaWords area)) ∙ ap sound (front text area) ∙ s .is-sound;
+      long = l;
+      is-sound = sym (sound-front (speltArea text ++ drop areaWords area) l) ∙ ap sound (front text area) ∙ s .is-sound;
     })
 
 -- a text that is read writes back as itself
@@ -155,7 +159,7 @@ pub writes-back : (area text : List ℕ) → readNumber area text ≡ 0 → text
 writes-back area text e =
     let p = read-passed area text e in
     rw (read-accepted area text (p .0) (p .1))
-    (sym (text-front (speltArea text ++ drop areaWords area)) ∙ ap textOf (front text area) ∙ readable-sound text (p .1) .1)
+    (sym (text-front (speltArea text ++ drop areaWords area) (front-long text area)) ∙ ap textOf (front text area) ∙ readable-sound text (p .1) .1)
 
 -- a sound area that writes a text
 pub record WrittenBy (text : List ℕ) : Type 0 where

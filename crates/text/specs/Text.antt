@@ -2,17 +2,16 @@
 -- Assumes nothing.
 use mathlib.Core.Bool.{Bool, true, false, not, _||_}
 use mathlib.Core.List.{List, [], _∷_, _++_, map}
-use Prim.Native.Nat.{ℕ, zero, suc, _+_, _-_, _*_, _/_, _%_, _^_}
-use lib.Dec.{eqb, ltb}
-use lib.ListN.{length, take, drop, getD, replicate}
+use Prim.Native.Nat.{ℕ, zero, suc, _+_, _*_, _/_, _%_, _^_}
+use lib.Dec.{eqb}
+use lib.ListN.{length, take, drop, getD}
 use Rattle.lists.specs.Concat.{concat}
 use Rattle.lists.specs.Table.{both}
 use Rattle.bits.specs.Hex.{digitOf, hexDigit}
 use Rattle.bits.specs.declared.hex.Digit.{Digit}
 use Rattle.bits.specs.declared.hex.Digit.the-variants.{Value, Refused}
-use Rattle.tree.specs.Tree.{blockBits, sequentialBits, mostLevels}
 use Rattle.hash.specs.Hash.{orElse, refusedOutput}
-use Rattle.area.specs.Area.{headWords, blockWords, areaWords, phaseOf, totalOf, keyBytesOf, keyOf, compressionsOf, levelsOf, emptyLevel, doneBlocks, heldBits, heldParallel, heldSequential, sound}
+use Rattle.area.specs.Area.{Hold, blockWords, areaWords, phaseOf, totalOf, keyBytesOf, keyOf, compressionsOf, levelsOf, emptyLevel, holdsFor, sound}
 use Rattle.area.specs.Calls.{refusedShort, refusedArea}
 
 -- ---- the text of an area
@@ -47,24 +46,15 @@ line2 area = line (wordDigits (keyOf area))
 abbrev pub levelLine : ℕ → List ℕ → List ℕ
 levelLine level ws = line (digits 2 level ++ wordDigits ws)
 
--- whether each level holds bits or has a sequential output: levels above level 1, when i outputs came to the first of them,
--- of which n may be parallel; the last number counts the levels
-abbrev pub heldAbove : ℕ → ℕ → ℕ → List Bool
-heldAbove n i zero = []
-heldAbove zero i (suc k) = (not (eqb (heldSequential i) 0) || not (eqb (i / 3) 0)) ∷ replicate k false
-heldAbove (suc n) i (suc k) = not (eqb (heldParallel i) 0) ∷ heldAbove n (i / 4) k
+-- whether a level holds bits or has a sequential output
+abbrev pub hasLine : Hold → Bool
+hasLine h = h .output || not (eqb (h .bits) 0)
 
--- the same for level 1 and those above it, when T bits were fed
-abbrev pub heldOpen : ℕ → ℕ → ℕ → List Bool
-heldOpen limit T zero = []
-heldOpen zero T (suc k) = (not (eqb (heldBits sequentialBits T) 0) || not (eqb (doneBlocks sequentialBits T) 0)) ∷ replicate k false
-heldOpen (suc n) T (suc k) = not (eqb (heldBits blockBits T) 0) ∷ heldAbove n (doneBlocks blockBits T) k
-
--- "Ended areas hold nothing in any level"
+-- the same for each level, level 1 first, by the phase, the limit and the total
 abbrev pub heldLevels : ℕ → ℕ → ℕ → List Bool
-heldLevels phase limit T = elim (eqb phase 2) [ true ↦ replicate mostLevels false | false ↦ heldOpen limit T mostLevels ]
+heldLevels phase limit T = map hasLine (holdsFor phase limit T)
 
--- which levels of an area hold bits or have a sequential output, level 1 first
+-- and for an area
 abbrev pub heldOf : List ℕ → List Bool
 heldOf area = heldLevels (phaseOf area) (getD area 4 0) (totalOf area)
 

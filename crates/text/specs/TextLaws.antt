@@ -10,12 +10,13 @@ use lib.Seq.{take-at, drop-at, drop-drop, getD-take}
 use Rattle.lists.specs.Append.{cons-eq}
 use Rattle.lists.specs.Below.{Below, none, more, below-append, below-zeros, below-at, below-take, below-drop}
 use Rattle.lists.specs.Concat.{concat}
-use Rattle.area.specs.Area.{headWords, blockWords, areaWords, phaseOf, totalOf, keyBytesOf, keyOf, compressionsOf, levelsOf, emptyLevel, sound}
+use Rattle.area.specs.Area.{headWords, blockWords, areaWords, phaseOf, totalOf, keyBytesOf, keyOf, compressionsOf, levelsOf, emptyLevel, holdsFor, sound}
+use Rattle.area.specs.Moved.{area-front}
 use Rattle.text.specs.Text.{digits, wordDigits, line1, line2, levelLine, heldLevels, heldOf, levelLines, textOf, spelt, numberAt, speltWords, line1Bytes, line2Bytes, levelBytes, speltLevels, speltHead, speltArea}
 use Rattle.text.specs.DigitLaws.{drop-digits, number-here, number-past, number-lt, length-speltWords, speltWords-below, words-exact}
-use Rattle.text.specs.LayoutLaws.{head-words, length-keyOf, levels-are, length-levelsOf, first-words}
-use Rattle.text.specs.HeldLaws.{Ranges, ranges, Fit, none, line, bare, fit-levels, levels-sound}
-use Rattle.text.specs.LengthLaws.{length-line1, length-line2, length-levelLine, length-heldLevels}
+use Rattle.text.specs.LayoutLaws.{head-words, length-keyOf, levels-are, length-levelsOf}
+use Rattle.text.specs.HeldLaws.{Ranges, ranges, Fit, none, line, bare, fit-levels}
+use Rattle.text.specs.LengthLaws.{length-line1, length-line2, length-levelLine, length-holdsFor, length-heldLevels}
 
 -- ---- line 1
 
@@ -127,7 +128,9 @@ spells-back area s =
     let ls : List ℕ = levelLines 1 (heldOf area) (levelsOf area) in
     let g = ranges area (s .is-sound) in
     let h : headWords ≤ length area = omega (arith, s .long) in
-    let fit = fit-levels (phaseOf area) (getD area 4 0) (totalOf area) (levelsOf area) (length-levelsOf area) (levels-are area (s .long) (s .words)) (levels-sound area (g .levels)) in
+    let n : length (holdsFor (phaseOf area) (getD area 4 0) (totalOf area)) ≡ length (levelsOf area) =
+    length-holdsFor (phaseOf area) (getD area 4 0) (totalOf area) ∙ sym (length-levelsOf area) in
+    let fit = fit-levels area n (levels-are area (s .long) (s .words)) (g .levels) in
     let head : speltHead (line1 area ++ (line2 area ++ ls)) ≡ take headWords area = head-back area ls (s .words) h g in
     let rest : drop (line1Bytes + line2Bytes) (line1 area ++ (line2 area ++ ls)) ≡ ls =
     sym (drop-drop line2Bytes line1Bytes (line1 area ++ (line2 area ++ ls)))
@@ -138,7 +141,7 @@ spells-back area s =
     ∙ ap (λ (x : List ℕ). take headWords area ++ concat (speltLevels (heldOf (take headWords area)) x)) rest
     ∙ ap (λ (x : List Bool). take headWords area ++ concat (speltLevels x ls)) (held-front area)
     ∙ ap (λ (x : List (List ℕ)). take headWords area ++ concat x) up
-    ∙ first-words area
+    ∙ sym (area-front area)
 
 -- ---- what any text spells is an area of 1,744 words
 

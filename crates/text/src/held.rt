@@ -6,8 +6,10 @@ ghost use lib.ListN.{length, getD};
 ghost use Rattle.area.specs.Area.{headWords};
 ghost use Rattle.text.specs.Text.{heldLevels, heldOf, line1Bytes, line2Bytes, levelBytes};
 ghost use Rattle.text.specs.LengthLaws.{lines};
-use stream::count;
+use super::lines;
 use hash::Block;
+use hash::Params;
+use stream::count;
 
 // Whether a level holds bits or has a sequential output.
 pub fn has_line(phase: u64, limit: u64, total: u64, level: u64) -> bool
@@ -35,11 +37,11 @@ pub fn text_bytes(area: &[u64]) -> usize
     requires { ⌜ headWords ≤ length (now area) ⌝ }
     ensures { λ r. ⌜ r ≡ line1Bytes + line2Bytes + levelBytes * lines (heldOf (now (area .entry))) ⌝ }
 {
-    let mut n: usize = 174;
+    let mut n: usize = lines::HEAD;
     let mut k: u64 = 1;
-    while k < 28 {
+    while k <= Params::LEVELS {
         if has_line(area[0], area[4], area[1], k) {
-            n += 1027;
+            n += lines::LEVEL;
         }
         k += 1;
     }

@@ -2,9 +2,10 @@
 ghost use mathlib.Core.Path.{_≡_};
 ghost use Rattle.text.specs.Answers.{written, taken};
 ghost use Rattle.text.specs.Text.{writeOf, readOf};
-use stream::Answer;
-use stream::sound;
 use hash::node;
+use stream::Answer;
+use stream::Area;
+use stream::sound;
 
 pub mod digits; // digits.rt: numbers and words as hexadecimal digits
 pub mod held; // held.rt: which levels have a line
@@ -16,7 +17,7 @@ pub mod spell; // spell.rt: the area that a text spells
 pub fn write(area: &[u64], text: &mut [u8]) -> Answer
     ensures { λ o. ⌜ written (o .number) (o .count) (now (text .exit)) ≡ writeOf (now (area .entry)) (now (text .entry)) ⌝ }
 {
-    if area.len() < 1744 {
+    if area.len() < Area::WORDS {
         return Answer {
             number: 7,
             count: 0,
@@ -46,13 +47,13 @@ pub fn write(area: &[u64], text: &mut [u8]) -> Answer
 pub fn read(area: &mut [u64], text: &[u8]) -> Answer
     ensures { λ o. ⌜ taken (o .number) (o .count) (now (area .exit)) ≡ readOf (now (area .entry)) (now (text .entry)) ⌝ }
 {
-    if area.len() < 1744 {
+    if area.len() < Area::WORDS {
         return Answer {
             number: 7,
             count: 0,
         };
     }
-    let mut spelt = [0u64; 1744];
+    let mut spelt = [0u64; Area::WORDS];
     if !spell::is_readable(&mut spelt, text) {
         return Answer {
             number: 11,

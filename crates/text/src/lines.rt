@@ -7,6 +7,15 @@ ghost use Rattle.area.specs.Area.{headWords, blockWords};
 ghost use Rattle.text.specs.Text.{line1, line2, levelLine, line1Bytes, line2Bytes, levelBytes};
 use super::digits;
 
+// The bytes of line 1, of line 2, of the two, and of a level's line, with their ends.
+pub const LINE1: usize = 45;
+
+pub const LINE2: usize = 129;
+
+pub const HEAD: usize = LINE1 + LINE2;
+
+pub const LEVEL: usize = 1027;
+
 // Phase, r, L, key bytes, d, total and compressions.
 pub fn put_line1(part: &mut [u8], area: &[u64])
     requires { ⌜ (length (now part) ≡ line1Bytes) × (headWords ≤ length (now area)) ⌝ }
@@ -36,8 +45,8 @@ pub fn put_head(part: &mut [u8], area: &[u64])
     requires { ⌜ (length (now part) ≡ line1Bytes + line2Bytes) × (headWords ≤ length (now area)) ⌝ }
     ensures { λ _. ⌜ now (part .exit) ≡ line1 (now (area .entry)) ++ line2 (now (area .entry)) ⌝ }
 {
-    put_line1(&mut part[0..45], area);
-    put_line2(&mut part[45..174], area);
+    put_line1(&mut part[0..LINE1], area);
+    put_line2(&mut part[LINE1..HEAD], area);
 }
 
 // A level and its words.

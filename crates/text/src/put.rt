@@ -7,6 +7,8 @@ ghost use Rattle.text.specs.Text.{heldOf, levelLines, textOf, line1Bytes
 ghost use Rattle.text.specs.LengthLaws.{lines};
 use super::held;
 use super::lines;
+use hash::Params;
+use stream::Area;
 
 // The lines of the levels that have one.
 fn put_levels(part: &mut [u8], area: &[u64])
@@ -15,11 +17,11 @@ fn put_levels(part: &mut [u8], area: &[u64])
 {
     let mut at: usize = 0;
     let mut k: usize = 1;
-    while k < 28 {
+    while k <= Params::LEVELS as usize {
         if held::has_line(area[0], area[4], area[1], k as u64) {
-            let a = 16 + 64 * (k - 1);
-            let b = a + 64;
-            let e = at + 1027;
+            let a = Area::HEAD + Area::LEVEL * (k - 1);
+            let b = a + Area::LEVEL;
+            let e = at + lines::LEVEL;
             lines::put_level(&mut part[at..e], k as u64, &area[a..b]);
             at = e;
         }
@@ -32,6 +34,6 @@ pub fn put_text(part: &mut [u8], area: &[u64])
     requires { ⌜ (areaWords ≤ length (now area)) × (length (now part) ≡ line1Bytes + line2Bytes + levelBytes * lines (heldOf (now area))) ⌝ }
     ensures { λ _. ⌜ now (part .exit) ≡ textOf (now (area .entry)) ⌝ }
 {
-    lines::put_head(&mut part[0..174], area);
-    put_levels(&mut part[174..], area);
+    lines::put_head(&mut part[0..lines::HEAD], area);
+    put_levels(&mut part[lines::HEAD..], area);
 }

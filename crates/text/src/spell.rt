@@ -11,6 +11,8 @@ ghost use Rattle.text.specs.LengthLaws.{lines};
 use super::digits;
 use super::held;
 use super::lines;
+use hash::Params;
+use stream::Area;
 use stream::sound;
 
 // Words 0 to 15 from the first two lines.
@@ -46,14 +48,14 @@ pub fn spell_levels(area: &mut [u64], text: &[u8])
     let total = area[1];
     let mut at: usize = 0;
     let mut k: usize = 1;
-    while k < 28 {
+    while k <= Params::LEVELS as usize {
         if held::has_line(phase, limit, total, k as u64) {
-            let a = 16 + 64 * (k - 1);
-            let b = a + 64;
+            let a = Area::HEAD + Area::LEVEL * (k - 1);
+            let b = a + Area::LEVEL;
             let from = at + 2;
             let to = from + 1024;
             digits::spell_words(&mut area[a..b], &text[from..to]);
-            at += 1027;
+            at += lines::LEVEL;
         }
         k += 1;
     }
@@ -81,7 +83,7 @@ fn same_head(area: &[u64], text: &[u8]) -> bool
     requires { ⌜ headWords ≤ length (now area) ⌝ }
     ensures { λ r. ⌜ r ≡ same (line1 (now (area .entry)) ++ line2 (now (area .entry))) (now (text .entry)) ⌝ }
 {
-    let mut head = [0u8; 174];
+    let mut head = [0u8; lines::HEAD];
     lines::put_head(&mut head, area);
     same_bytes(&head, text)
 }
@@ -91,7 +93,7 @@ fn same_level(level: u64, words: &[u64], text: &[u8]) -> bool
     requires { ⌜ length (now words) ≡ blockWords ⌝ }
     ensures { λ r. ⌜ r ≡ same (levelLine level (now (words .entry))) (now (text .entry)) ⌝ }
 {
-    let mut line = [0u8; 1027];
+    let mut line = [0u8; lines::LEVEL];
     lines::put_level(&mut line, level, words);
     same_bytes(&line, text)
 }
@@ -103,11 +105,11 @@ fn same_levels(area: &[u64], text: &[u8]) -> bool
 {
     let mut at: usize = 0;
     let mut k: usize = 1;
-    while k < 28 {
+    while k <= Params::LEVELS as usize {
         if held::has_line(area[0], area[4], area[1], k as u64) {
-            let a = 16 + 64 * (k - 1);
-            let b = a + 64;
-            let e = at + 1027;
+            let a = Area::HEAD + Area::LEVEL * (k - 1);
+            let b = a + Area::LEVEL;
+            let e = at + lines::LEVEL;
             if !same_level(k as u64, &area[a..b], &text[at..e]) {
                 return false;
             }
@@ -123,10 +125,10 @@ pub fn same_text(area: &[u64], text: &[u8]) -> bool
     requires { ⌜ (areaWords ≤ length (now area)) × (length (now text) ≡ line1Bytes + line2Bytes + levelBytes * lines (heldOf (now area))) ⌝ }
     ensures { λ r. ⌜ r ≡ same (textOf (now (area .entry))) (now (text .entry)) ⌝ }
 {
-    if !same_head(area, &text[0..174]) {
+    if !same_head(area, &text[0..lines::HEAD]) {
         return false;
     }
-    same_levels(area, &text[174..])
+    same_levels(area, &text[lines::HEAD..])
 }
 
 // Whether a text is what writing some sound area gives. Words that are zero are lent, and hold that area then.
@@ -134,14 +136,14 @@ pub fn is_readable(spelt: &mut [u64], text: &[u8]) -> bool
     requires { ⌜ now spelt ≡ replicate areaWords 0 ⌝ }
     ensures { λ r. ⌜ (r ≡ readable (now (text .entry))) × (r ≡ true → now (spelt .exit) ≡ speltArea (now (text .entry))) ⌝ }
 {
-    if text.len() < 174 {
+    if text.len() < lines::HEAD {
         return false;
     }
     spell_head(spelt, text);
     if text.len() != held::text_bytes(spelt) {
         return false;
     }
-    spell_levels(spelt, &text[174..]);
+    spell_levels(spelt, &text[lines::HEAD..]);
     if !sound::is_sound(spelt) {
         return false;
     }

@@ -33,7 +33,7 @@ loop-less : tie.Need-loop-less Inv-loop μ-loop
 loop-less c = omega arith
 
 loop-again : tie.Need-loop-again Inv-loop μ-loop
-loop-again c = 
+loop-again c =
     let at = c .before in
     let h : at .loop .i < length (at .before .args .part .now) = omega arith in
     (omega arith, simp length-set (omega arith), rw (at .loop .inv .2) (fill-more _ 0 _ h))
@@ -42,7 +42,7 @@ same-length : tie.Need-same-length Inv-loop μ-loop
 same-length c = omega arith
 
 returns : tie.Need-returns Inv-loop μ-loop
-returns c = 
+returns c =
     let part = c .before .before .args .part .now in
     let e : c .before .loop .i ≡ length part = omega arith in
     let d : drop (c .before .loop .i) part ≡ [] = drop-of-length-le part {i = c .before .loop .i} (omega arith) in

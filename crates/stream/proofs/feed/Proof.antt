@@ -34,7 +34,7 @@ same-length : tie.Need-same-length
 same-length c = search needs
 
 returns-2 : tie.Need-returns-2
-returns-2 c = 
+returns-2 c =
     let a = c .before .before .before .before .before .before .before .args in
     feed-unsound (a .area .now) (a .piece .now) (a .log .now) (a .bits) (c .before .before .before .if1 .left) (sym (c .before .is-sound .ensures) ∙ not-true (c .before .is-sound .result) (c .if2 .taken))
 
@@ -54,12 +54,12 @@ same-length-2 : tie.Need-same-length-2
 same-length-2 c = search needs
 
 returns-3 : tie.Need-returns-3
-returns-3 c = 
+returns-3 c =
     let a = c .before .before .before .before .before .before .before .before .before .before .before .before .args in
     feed-refused (a .area .now) (a .piece .now) (a .log .now) (a .bits) (c .before .feed-number .result) (c .before .before .before .before .before .before .before .before .if1 .left) (sym (c .before .before .before .before .before .before .is-sound .ensures) ∙ not-false (c .before .before .before .before .before .before .is-sound .result) (c .before .before .before .before .before .if2 .left)) (c .before .feed-number .ensures) (c .if3 .taken)
 
 feed-piece-requires : tie.Need-feed-piece-requires
-feed-piece-requires c κs = 
+feed-piece-requires c κs =
     let a = c .before .before .before .before .before .before .before .before .before .before .before .before .before .before .args in
     ((c .before .before .before .before .before .before .before .before .before .before .if1 .left, sym (c .before .before .before .before .before .before .before .before .is-sound .ensures) ∙ not-false (c .before .before .before .before .before .before .before .before .is-sound .result) (c .before .before .before .before .before .before .before .if2 .left)), accepted (a .area .now) (a .piece .now) (a .log .now) (a .bits) (c .before .before .before .before .before .before .before .before .before .before .if1 .left) (sym (c .before .before .before .feed-number .ensures) ∙ c .before .before .if3 .left))
 
@@ -70,7 +70,7 @@ same-length-4 : tie.Need-same-length-4
 same-length-4 c = search needs
 
 returns-4 : tie.Need-returns-4
-returns-4 c = 
+returns-4 c =
     let a = c .before .before .before .before .before .before .before .before .before .before .before .before .before .before .before .before .before .before .before .args in
     let F = c .before .before .before .before .feed-piece .ensures in
     feed-accepted (a .area .now) (a .piece .now) (a .log .now) (a .bits) _ _ _ (c .before .before .before .before .before .before .before .before .before .before .before .before .before .before .before .if1 .left) (sym (c .before .before .before .before .before .before .before .before .before .before .before .before .before .is-sound .ensures) ∙ not-false (c .before .before .before .before .before .before .before .before .before .before .before .before .before .is-sound .result) (c .before .before .before .before .before .before .before .before .before .before .before .before .if2 .left)) (sym (c .before .before .before .before .before .before .before .before .feed-number .ensures) ∙ c .before .before .before .before .before .before .before .if3 .left) (F .0) (F .1 .0) (F .1 .1)

@@ -60,7 +60,7 @@ same-length : tie.Need-same-length
 same-length c = c .before .area2 .given .1 ∙ c .before .before .before .before .before .area .given .1 ∙ simp length-set
 
 returns : tie.Need-returns
-returns c = 
+returns c =
     let start = c .before .before .before .before .before .before .before .before .before .before in
     let zs = c .before .before .before .before .before .before .clear .ensures ∙ ap (λ (n : ℕ). replicate n 0) (c .before .before .before .before .before .before .before .clear-arg .given .2) in
     rw (c .before .before .fill .ensures, zs)

@@ -33,7 +33,7 @@ abbrev μ-loop : tie.MeasureT-loop
 μ-loop area₀ params key table total piece bits log₀ done₀ at₀ area log done at = bits - done
 
 loop-holds : tie.Need-loop-holds Inv-loop μ-loop
-loop-holds c = 
+loop-holds c =
     let a = c .before .before .before .before .before .args in
     feeding-none (paramsFrom (a .key .now) (a .params)) (a .total) (a .piece .now) (a .bits) (a .area .now) (a .log .now)
 
@@ -53,7 +53,7 @@ add-feed-chunk : tie.Need-add-feed-chunk Inv-loop μ-loop
 add-feed-chunk c = let n = c .before .before .before .before .before .before .before .before .before .before .pre .1 .0 .2 in fits-sum (c .before .before .before .before .before .before .before .before .before .before .args .total) n (c .before .before .before .loop-test .taken)
 
 feed-chunk-requires : tie.Need-feed-chunk-requires Inv-loop μ-loop
-feed-chunk-requires c κs = 
+feed-chunk-requires c κs =
     let a = c .before .before .before .before .before .before .before .before .before .before .before .args in
     let n = c .before .before .before .before .before .before .before .before .before .before .before .pre .1 .0 in
     let f = c .before .before .before .before .before .loop .inv in
@@ -68,19 +68,19 @@ feed-chunk-requires c κs =
     )
 
 add-done : tie.Need-add-done Inv-loop μ-loop
-add-done c = 
+add-done c =
     let l = c .before .before .before .before .before .before .before .less .ensures in
     let h = below-left (c .before .before .before .before .before .before .before .before .before .loop-test .taken) (l .1) in
     fits-le h (c .before .before .before .before .before .before .before .before .before .before .before .before .before .before .before .before .fits .bits)
 
 loop-less : tie.Need-loop-less Inv-loop μ-loop
-loop-less c = 
+loop-less c =
     let a = c .before .before .before .before .before .before .before .before .before .before .before .before .before .before .before .before .args in
     let l = c .before .before .before .before .before .before .before .less .ensures in
     less-left (c .before .before .before .before .before .before .before .before .before .loop-test .taken) (some-less (l .2) (le-at refl (sym (c .before .before .before .before .before .before .before .before .room-of .ensures)) (room-some (a .params .limit) (a .total + c .before .before .before .before .before .before .before .before .before .before .loop .done))) (c .before .before .before .before .before .before .before .before .before .loop-test .taken))
 
 loop-again : tie.Need-loop-again Inv-loop μ-loop
-loop-again c = 
+loop-again c =
     let a = c .before .before .before .before .before .before .before .before .before .before .before .before .before .before .before .before .args in
     let n = c .before .before .before .before .before .before .before .before .before .before .before .before .before .before .before .before .pre .1 .0 in
     let f = c .before .before .before .before .before .before .before .before .before .before .loop .inv in
@@ -96,7 +96,7 @@ same-length-2 : tie.Need-same-length-2 Inv-loop μ-loop
 same-length-2 c = c .before .loop .inv .log-length
 
 returns : tie.Need-returns Inv-loop μ-loop
-returns c = 
+returns c =
     let a = c .before .before .before .before .before .before .before .args in
     let f = c .before .loop .inv in
     let e : c .before .loop .done ≡ a .bits = all-done (f .within) (c .loop-test .left) in

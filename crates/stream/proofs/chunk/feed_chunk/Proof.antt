@@ -39,7 +39,7 @@ add-fill-level : tie.Need-add-fill-level
 add-fill-level c = omega (arith, size-pos (c .before .before .before .before .before .before .before .before .before .args .params .limit) .1, c .before .before .before .size-of .ensures)
 
 fill-level-requires : tie.Need-fill-level-requires
-fill-level-requires c κs = 
+fill-level-requires c κs =
     let a = c .before .before .before .before .before .before .before .before .before .args in
     let S = c .before .before .before .size-of .ensures in
     let H = c .before .before .held-bits .ensures ∙ ap (λ (s : ℕ). heldBits s (a .total)) S in
@@ -51,7 +51,7 @@ same-length : tie.Need-same-length
 same-length c = search needs
 
 returns : tie.Need-returns
-returns c = 
+returns c =
     let a = c .before .before .before .before .before .before .before .before .before .before .before .before .args in
     let T = a .total in
     let S = c .before .before .before .before .before .before .size-of .ensures in
@@ -63,7 +63,7 @@ returns c =
     (r .0, (r .1, r .2))
 
 flush-requires : tie.Need-flush-requires
-flush-requires c κs = 
+flush-requires c κs =
     let a = c .before .before .before .before .before .before .before .before .before .before .args in
     let S = c .before .before .before .before .size-of .ensures in
     let H = c .before .before .before .held-bits .ensures ∙ ap (λ (s : ℕ). heldBits s (a .total)) S in
@@ -71,7 +71,7 @@ flush-requires c κs =
     (c .before .before .before .before .before .before .before .before .before .before .pre .0, (n .0, chunk-room (paramsFrom (a .key .now) (a .params)) (a .params .limit) (limit-from (a .key .now) (a .params)) (a .total) (a .start) (a .count) (a .area .now) (a .log .now) (a .piece .now) (a .at) (n .0) (words-below (a .area .now) (c .before .before .before .before .before .before .before .before .before .slice-known .given)) (n .3) (le-at S H (c .before .before .if1 .left)) (n .1) (n .2) (length (a .log .now)) (c .before .before .before .before .before .before .before .before .before .before .pre .1 .1)))
 
 fill-level-requires-2 : tie.Need-fill-level-requires-2
-fill-level-requires-2 c κs = 
+fill-level-requires-2 c κs =
     let a = c .before .before .before .before .before .before .before .before .before .before .before .before .before .before .before .before .args in
     let S = c .before .before .before .before .before .before .before .before .before .before .size-of .ensures in
     let H = c .before .before .before .before .before .before .before .before .before .held-bits .ensures ∙ ap (λ (s : ℕ). heldBits s (a .total)) S in
@@ -86,7 +86,7 @@ same-length-3 : tie.Need-same-length-3
 same-length-3 c = search needs
 
 returns-2 : tie.Need-returns-2
-returns-2 c = 
+returns-2 c =
     let a = c .before .before .before .before .before .before .before .before .before .before .before .before .before .before .before .before .before .before .before .args in
     let S = c .before .before .before .before .before .before .before .before .before .before .before .before .before .size-of .ensures in
     let H = c .before .before .before .before .before .before .before .before .before .before .before .before .held-bits .ensures ∙ ap (λ (s : ℕ). heldBits s (a .total)) S in

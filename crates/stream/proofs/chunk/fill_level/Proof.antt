@@ -38,7 +38,7 @@ same-length : tie.Need-same-length
 same-length c = search needs
 
 returns : tie.Need-returns
-returns c = 
+returns c =
     let a = c .before .before .before .before .before .before .args in
     let e : 8 * (a .start / 8) + a .start % 8 ≡ a .start = omega arith in
     rw (c .before .before .fill .ensures) (ap (λ (x : ℕ). withLevel (a .area .now) 1 (filled (levelWords (a .area .now) 1) (a .place) (a .piece .now) x (a .count))) e)

@@ -30,7 +30,7 @@ done-blocks-requires : tie.Need-done-blocks-requires
 done-blocks-requires c κs = search needs
 
 make-level-requires : tie.Need-make-level-requires
-make-level-requires c κs = 
+make-level-requires c κs =
     let a = c .before .before .before .before .before .before .before .before .before .args in
     let d = c .before .before .done-blocks .ensures in (
       c .before .before .before .before .before .before .before .before .before .pre .0,
@@ -50,7 +50,7 @@ chain-level-requires : tie.Need-chain-level-requires
 chain-level-requires c κs = search needs
 
 add-result : tie.Need-add-result
-add-result c = 
+add-result c =
     let a = c .before .before .before .before .before .before .before .before .before .before .before .before .before .before .before .before .before .args in
     let room = flush-room (paramsFrom (a .key .now) (a .params)) (a .params .limit) (a .total) (a .area .now) (a .log .now) (a .at) 0 (c .before .before .before .before .before .before .before .before .before .before .before .before .before .before .before .before .before .pre .1 .0) (length (a .log .now)) (c .before .before .before .before .before .before .before .before .before .before .before .before .before .before .before .before .before .pre .1 .1) in
     omega (arith, room, c .before .before .before .before .before .before .before .before .before .before .before .before .before .before .before .before .before .good)
@@ -62,7 +62,7 @@ same-length-2 : tie.Need-same-length-2
 same-length-2 c = search needs
 
 returns : tie.Need-returns
-returns c = 
+returns c =
     let a = c .before .before .before .before .before .before .before .before .before .before .before .before .before .before .before .before .before .args in
     let r = flush-chained (paramsFrom (a .key .now) (a .params)) (a .params .limit) (a .total) (a .area .now) (a .log .now) (a .at) (c .before .before .before .before .before .before .before .before .before .before .done-blocks .result) (c .before .before .before .before .before .before .before .before .before .before .before .before .before .before .before .before .before .pre .1 .0) _ _ _ (c .before .before .before .before .before .before .before .before .before .before .before .if1 .taken) (c .before .before .before .before .before .before .before .before .before .before .done-blocks .ensures) (c .before .before .before .before .before .before .before .make-level .ensures .0) (c .before .before .before .before .before .before .before .make-level .ensures .1) (c .before .before .chain-level .ensures) in
     (r .0, (r .1, r .2))
@@ -71,7 +71,7 @@ done-blocks-requires-2 : tie.Need-done-blocks-requires-2
 done-blocks-requires-2 c κs = search needs
 
 make-level-requires-2 : tie.Need-make-level-requires-2
-make-level-requires-2 c κs = 
+make-level-requires-2 c κs =
     let a = c .before .before .before .before .before .before .before .before .before .args in
     let d = c .before .before .done-blocks2 .ensures in (
       c .before .before .before .before .before .before .before .before .before .pre .0,
@@ -88,14 +88,14 @@ clear-level-requires : tie.Need-clear-level-requires
 clear-level-requires c κs = search needs
 
 add-receive : tie.Need-add-receive
-add-receive c = 
+add-receive c =
     let a = c .before .before .before .before .before .before .before .before .before .before .before .before .before .before .before .before .before .before .before .args in
     let room = flush-room (paramsFrom (a .key .now) (a .params)) (a .params .limit) (a .total) (a .area .now) (a .log .now) (a .at) 0 (c .before .before .before .before .before .before .before .before .before .before .before .before .before .before .before .before .before .before .before .pre .1 .0) (length (a .log .now)) (c .before .before .before .before .before .before .before .before .before .before .before .before .before .before .before .before .before .before .before .pre .1 .1) in
     omega (arith, room, c .before .before .before .before .before .before .before .before .before .before .before .before .before .before .before .before .before .before .before .good)
 
 receive-requires : tie.Need-receive-requires
 unfolding Rattle.area.specs.Calls.receive Rattle.area.specs.Calls.feedBit Rattle.area.specs.Calls.feedBits Rattle.area.specs.Calls.closing Rattle.area.specs.Calls.closeAbove Rattle.area.specs.Area.emptyLevel Rattle.area.specs.Area.emptyLevels
-receive-requires c κs = 
+receive-requires c κs =
     let a = c .before .before .before .before .before .before .before .before .before .before .before .before .before .before .before .before .before .before .before .args in
     let P = paramsFrom (a .key .now) (a .params) in
     let d = c .before .before .before .before .before .before .before .before .before .before .before .before .done-blocks2 .ensures in
@@ -115,19 +115,19 @@ receive-requires c κs =
     )
 
 same-length-3 : tie.Need-same-length-3
-same-length-3 c = 
+same-length-3 c =
     let a = c .before .before .before .before .before .before .before .before .before .before .before .before .before .before .before .before .before .before .before .before .before .before .before .before .args in
     let r = flush-up (paramsFrom (a .key .now) (a .params)) (a .params .limit) (a .total) (a .area .now) (a .log .now) (a .at) (c .before .before .before .before .before .before .before .before .before .before .before .before .before .before .before .before .before .done-blocks2 .result) (c .before .before .before .before .before .before .before .before .before .before .before .before .before .before .before .before .before .before .before .before .before .before .before .before .pre .1 .0) (c .before .before .before .before .before .before .before .before .before .before .before .before .before .before .make-level2 .result) _ (c .before .before .before .before .before .before .before .before .before .before .before .before .before .before .before .before .before .before .if1 .left) (c .before .before .before .before .before .before .before .before .before .before .before .before .before .before .before .before .before .done-blocks2 .ensures) (c .before .before .before .before .before .before .before .before .before .before .before .before .before .before .make-level2 .ensures .0) (c .before .before .before .before .before .before .before .before .before .before .clear-level .ensures) _ _ _ _ (c .before .before .before .before .before .before .before .before .before .before .before .before .before .before .make-level2 .ensures .1) (c .before .before .before .before .receive .ensures .0) (c .before .before .before .before .receive .ensures .1 .0) (c .before .before .before .before .receive .ensures .1 .1) in
     ap length (r .0) ∙ length-flushed (paramsFrom (a .key .now) (a .params)) (a .params .limit) (a .total) (a .area .now) (c .before .before .before .before .before .before .before .before .before .before .before .before .before .before .before .before .before .before .before .before .before .before .before .before .pre .1 .0)
 
 same-length-4 : tie.Need-same-length-4
-same-length-4 c = 
+same-length-4 c =
     let a = c .before .before .before .before .before .before .before .before .before .before .before .before .before .before .before .before .before .before .before .before .before .before .before .before .args in
     let r = flush-up (paramsFrom (a .key .now) (a .params)) (a .params .limit) (a .total) (a .area .now) (a .log .now) (a .at) (c .before .before .before .before .before .before .before .before .before .before .before .before .before .before .before .before .before .done-blocks2 .result) (c .before .before .before .before .before .before .before .before .before .before .before .before .before .before .before .before .before .before .before .before .before .before .before .before .pre .1 .0) (c .before .before .before .before .before .before .before .before .before .before .before .before .before .before .make-level2 .result) _ (c .before .before .before .before .before .before .before .before .before .before .before .before .before .before .before .before .before .before .if1 .left) (c .before .before .before .before .before .before .before .before .before .before .before .before .before .before .before .before .before .done-blocks2 .ensures) (c .before .before .before .before .before .before .before .before .before .before .before .before .before .before .make-level2 .ensures .0) (c .before .before .before .before .before .before .before .before .before .before .clear-level .ensures) _ _ _ _ (c .before .before .before .before .before .before .before .before .before .before .before .before .before .before .make-level2 .ensures .1) (c .before .before .before .before .receive .ensures .0) (c .before .before .before .before .receive .ensures .1 .0) (c .before .before .before .before .receive .ensures .1 .1) in
     ap length (r .1) ∙ length-sets (a .log .now) (a .at) (logOf (flushed (paramsFrom (a .key .now) (a .params)) (a .params .limit) (a .total) (levelsOf (a .area .now)) .nodes))
 
 returns-2 : tie.Need-returns-2
-returns-2 c = 
+returns-2 c =
     let a = c .before .before .before .before .before .before .before .before .before .before .before .before .before .before .before .before .before .before .before .before .before .before .before .before .args in
     let r = flush-up (paramsFrom (a .key .now) (a .params)) (a .params .limit) (a .total) (a .area .now) (a .log .now) (a .at) (c .before .before .before .before .before .before .before .before .before .before .before .before .before .before .before .before .before .done-blocks2 .result) (c .before .before .before .before .before .before .before .before .before .before .before .before .before .before .before .before .before .before .before .before .before .before .before .before .pre .1 .0) (c .before .before .before .before .before .before .before .before .before .before .before .before .before .before .make-level2 .result) _ (c .before .before .before .before .before .before .before .before .before .before .before .before .before .before .before .before .before .before .if1 .left) (c .before .before .before .before .before .before .before .before .before .before .before .before .before .before .before .before .before .done-blocks2 .ensures) (c .before .before .before .before .before .before .before .before .before .before .before .before .before .before .make-level2 .ensures .0) (c .before .before .before .before .before .before .before .before .before .before .clear-level .ensures) _ _ _ _ (c .before .before .before .before .before .before .before .before .before .before .before .before .before .before .make-level2 .ensures .1) (c .before .before .before .before .receive .ensures .0) (c .before .before .before .before .receive .ensures .1 .0) (c .before .before .before .before .receive .ensures .1 .1) in
     (r .0, (r .1, r .2))

@@ -33,7 +33,7 @@ sub-result : tie.Need-sub-result
 sub-result c = omega arith
 
 returns : tie.Need-returns
-returns c = 
+returns c =
     let limit = c .before .before .before .args .limit in
     let T = c .before .before .before .args .total in
     let S = c .before .before .size-of .ensures in
@@ -41,7 +41,7 @@ returns c =
     ap (λ (x : ℕ). x - c .before .held-bits .result) S ∙ ap (λ (x : ℕ). sizeOf limit - x) H ∙ sym (room-free limit T (lt-at H S (c .if1 .taken)))
 
 returns-2 : tie.Need-returns-2
-returns-2 c = 
+returns-2 c =
     let limit = c .before .before .before .args .limit in
     let T = c .before .before .before .args .total in
     let S = c .before .before .size-of .ensures in

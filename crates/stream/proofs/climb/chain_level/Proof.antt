@@ -31,7 +31,7 @@ same-length : tie.Need-same-length
 same-length c = search needs
 
 returns : tie.Need-returns
-returns c = 
+returns c =
     let a = c .before .before .before .before .before .before .before .before .before .before .args in
     let n = c .before .before .before .before .before .before .before .before .before .before .pre in
     c .before .before .join .ensures ∙ rw (c .before .before .before .before .before .before .clear-level .ensures) (chain-made (a .area .now) (a .level) (a .out .now) (n .0) (n .1) (n .2))

@@ -52,7 +52,7 @@ same-length c = search needs
 
 returns : tie.Need-returns
 unfolding Rattle.area.specs.Calls.receive Rattle.area.specs.Calls.feedBit Rattle.area.specs.Calls.feedBits Rattle.area.specs.Area.emptyLevel Rattle.area.specs.Area.emptyLevels
-returns c = 
+returns c =
     let area = c .before .before .before .before .before .args .area .now in
     let k = c .before .before .before .before .before .args .level in
     let zs = c .before .before .clear .ensures ∙ ap (λ (n : ℕ). replicate n 0) (c .before .before .before .clear-arg .given .2 ∙ lent-size k) in

@@ -51,7 +51,7 @@ same-length : tie.Need-same-length
 same-length c = search needs
 
 returns : tie.Need-returns
-returns c = 
+returns c =
     let area = c .before .before .before .before .before .before .args .area .now in
     let k = c .before .before .before .before .before .before .args .level in
     let out = c .before .before .before .before .before .before .args .out .now in

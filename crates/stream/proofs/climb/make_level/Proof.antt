@@ -51,7 +51,7 @@ same-length : tie.Need-same-length
 same-length c = search needs
 
 returns : tie.Need-returns
-returns c = 
+returns c =
     let a = c .before .before .before .before .before .before .before .before .before .args in
     let P = paramsFrom (a .key .now) (a .params) in
     let e = lent-level (a .area .now) (a .level) in (

@@ -50,7 +50,7 @@ same-length : tie.Need-same-length
 same-length c = search needs
 
 returns : tie.Need-returns
-returns c = 
+returns c =
     let a = c .before .before .before .before .before .before .before .args in
     let k = a .key .now in
     let P = paramsFrom k (a .params) in
@@ -59,7 +59,7 @@ returns c =
     let block = a .block .now in
     let v = c .before .node-v .ensures ∙ v-made k (a .params) (a .table .now) ready (a .z) (a .p) in (
       c .compress-node .ensures
-      ∙ rw (c .before .before .node-u .ensures, v) (node-made k (a .params) (a .table .now) ready (a .level) (a .index) (a .z) (a .p) block (n .0) (n .1) (n .2) (n .3) (n .4) (words-below block (c .before .before .before .before .shared-slice-known3 .given))),
+          ∙ rw (c .before .before .node-u .ensures, v) (node-made k (a .params) (a .table .now) ready (a .level) (a .index) (a .z) (a .p) block (n .0) (n .1) (n .2) (n .3) (n .4) (words-below block (c .before .before .before .before .shared-slice-known3 .given))),
       rw (add-one, c .before .before .node-u .ensures, v),
     )
 

@@ -38,7 +38,7 @@ same-length-2 : tie.Need-same-length-2
 same-length-2 c = search needs
 
 returns : tie.Need-returns
-returns c = 
+returns c =
     let a = c .before .before .before .before .before .before .before .before .before .before .before .before .before .before .before .before .before .before .args in
     let area = a .area .now in
     let k = a .level in
@@ -53,8 +53,10 @@ returns c =
     let b : levelWords (withLevel area k block) k ≡ joinParallel (a .i) out ws = level-with area k block (n .0) (n .1) (n .2) lb ∙ ap (λ (j : ℕ). put j 16 ws out) i4 in
     let e = ap (λ (x : List ℕ). levelWords x k) (c .before .before .before .before .before .before .before .before .before .before .before .join .ensures) ∙ b in (
       c .before .before .clear-level .ensures ∙ rw (c .before .before .before .before .before .before .before .before .before .before .before .join .ensures) (with-with area k block (n .0) (n .1) (n .2) lb emptyLevel),
-      (c .before .before .before .before .before .before .make-level .ensures .0 ∙ ap (λ (x : List ℕ). outWords P (node P k (a .i / 4) 0 0 x)) e,
-      c .before .before .before .before .before .before .make-level .ensures .1 ∙ ap (λ (x : List ℕ). sets (a .log .now) (a .at) (logOf (node P k (a .i / 4) 0 0 x ∷ []))) e),
+      (
+        c .before .before .before .before .before .before .make-level .ensures .0 ∙ ap (λ (x : List ℕ). outWords P (node P k (a .i / 4) 0 0 x)) e,
+        c .before .before .before .before .before .before .make-level .ensures .1 ∙ ap (λ (x : List ℕ). sets (a .log .now) (a .at) (logOf (node P k (a .i / 4) 0 0 x ∷ []))) e,
+      ),
     )
 
 pub pass-up-spec : {M : Type 1} → statement M

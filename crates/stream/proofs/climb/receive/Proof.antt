@@ -34,7 +34,7 @@ abbrev μ-loop : tie.MeasureT-loop
 μ-loop area₀ params key table levels outputs log₀ start n₀ i₀ out₀ at₀ k₀ area log n i out at k = 28 - k
 
 loop-holds : tie.Need-loop-holds Inv-loop μ-loop
-loop-holds c = 
+loop-holds c =
     let a = c .before .before .before .before .args in
     let n = c .before .before .before .before .pre .1 .0 in
     climb-start (paramsFrom (a .key .now) (a .params)) (a .levels) (a .outputs) (a .first) (a .area .now) (a .log .now) (a .start) (n .1) (n .2) (n .0)
@@ -43,7 +43,7 @@ slice-aggregate-receive-last : tie.Need-slice-aggregate-receive-last Inv-loop μ
 slice-aggregate-receive-last c = search needs
 
 receive-last-requires : tie.Need-receive-last-requires Inv-loop μ-loop
-receive-last-requires c κs = 
+receive-last-requires c κs =
     let inv = c .before .before .before .before .before .loop .inv in
     (c .before .before .before .before .before .before .before .before .before .before .pre .0, ((inv .long, omega (arith, inv .low), omega arith, inv .small, inv .words), climb-last-room inv (c .before .before .before .before .before .before .before .before .before .before .pre .1 .1) (c .before .before .before .if1 .taken)))
 
@@ -54,7 +54,7 @@ same-length-2 : tie.Need-same-length-2 Inv-loop μ-loop
 same-length-2 c = search needs
 
 returns : tie.Need-returns Inv-loop μ-loop
-returns c = 
+returns c =
     let r = climb-last (c .before .before .before .before .before .before .before .before .before .before .loop .inv) _ _ _ (c .before .before .before .before .before .before .before .before .if1 .taken) (c .before .before .before .before .receive-last .ensures .0) (c .before .before .before .before .receive-last .ensures .1 .0) (c .before .before .before .before .receive-last .ensures .1 .1) in
     (r .0, (r .1, r .2))
 
@@ -74,7 +74,7 @@ same-length-4 : tie.Need-same-length-4 Inv-loop μ-loop
 same-length-4 c = search needs
 
 returns-2 : tie.Need-returns-2 Inv-loop μ-loop
-returns-2 c = 
+returns-2 c =
     let r = climb-part (c .before .before .before .before .before .before .before .before .loop .inv) _ (c .before .before .before .before .before .before .if1 .left) (c .before .before .before .before .before .before .before .loop-test .taken) (c .before .before .before .before .before .if2 .taken) (c .before .before .join .ensures) in
     (r .0, (r .1, r .2))
 
@@ -82,7 +82,7 @@ slice-aggregate-pass-up : tie.Need-slice-aggregate-pass-up Inv-loop μ-loop
 slice-aggregate-pass-up c = search needs
 
 pass-up-requires : tie.Need-pass-up-requires Inv-loop μ-loop
-pass-up-requires c κs = 
+pass-up-requires c κs =
     let inv = c .before .before .before .before .before .before .loop .inv in
     (c .before .before .before .before .before .before .before .before .before .before .before .pre .0, (inv .long, omega (arith, inv .low), omega arith, inv .small, c .before .before .before .if2 .left, inv .words, climb-room inv (c .before .before .before .before .before .before .before .before .before .before .before .pre .1 .1) (c .before .before .before .before .if1 .left) (c .before .before .before .before .before .loop-test .taken) (c .before .before .before .if2 .left)))
 
@@ -96,7 +96,7 @@ loop-less : tie.Need-loop-less Inv-loop μ-loop
 loop-less c = search needs
 
 loop-again : tie.Need-loop-again Inv-loop μ-loop
-loop-again c = 
+loop-again c =
     climb-more (c .before .before .before .before .before .before .before .before .before .before .before .loop .inv) _ _ _ (c .before .before .before .before .before .before .before .before .before .if1 .left) (c .before .before .before .before .before .before .before .before .before .before .loop-test .taken) (c .before .before .before .before .before .before .before .before .if2 .left) (c .before .before .before .before .pass-up .ensures .0) (c .before .before .before .before .pass-up .ensures .1 .0) (c .before .before .before .before .pass-up .ensures .1 .1)
 
 same-length-5 : tie.Need-same-length-5 Inv-loop μ-loop
@@ -106,7 +106,7 @@ same-length-6 : tie.Need-same-length-6 Inv-loop μ-loop
 same-length-6 c = search needs
 
 returns-3 : tie.Need-returns-3 Inv-loop μ-loop
-returns-3 c = 
+returns-3 c =
     let r = climb-none (c .before .loop .inv) (c .loop-test .left) in
     (r .0, (r .1, r .2))
 

@@ -39,14 +39,14 @@ same-length : tie.Need-same-length
 same-length c = search needs
 
 returns : tie.Need-returns
-returns c = 
+returns c =
     let a = c .before .before .before .before .before .before .before .before .before .before .args in
     let n = c .before .before .before .before .before .before .before .before .before .before .pre .1 .0 in
     let r = last-held (paramsFrom (a .key .now) (a .params)) (a .level) (a .i) (a .out .now) (a .area .now) (a .log .now) (a .at) (n .0) (n .1) (n .2) (n .4) _ (c .if1 .taken) (c .before .before .before .join .ensures) in
     (r .0, (r .1, r .2))
 
 make-level-requires : tie.Need-make-level-requires
-make-level-requires c κs = 
+make-level-requires c κs =
     let a = c .before .before .before .before .before .before .before .before .before .before .before .before .args in
     let n = c .before .before .before .before .before .before .before .before .before .before .before .before .pre .1 .0 in
     let room = last-room (paramsFrom (a .key .now) (a .params)) (a .level) (a .i) (a .out .now) (a .area .now) (a .log .now) (a .at) (n .0) (n .1) (n .2) (n .4) (length (a .log .now)) (c .before .before .if1 .left) (c .before .before .before .before .before .before .before .before .before .before .before .before .pre .1 .1) in
@@ -59,7 +59,7 @@ chain-level-requires : tie.Need-chain-level-requires
 chain-level-requires c κs = search needs
 
 add-result : tie.Need-add-result
-add-result c = 
+add-result c =
     let a = c .before .before .before .before .before .before .before .before .before .before .before .before .before .before .before .before .before .before .before .before .args in
     let n = c .before .before .before .before .before .before .before .before .before .before .before .before .before .before .before .before .before .before .before .before .pre .1 .0 in
     let room = last-room (paramsFrom (a .key .now) (a .params)) (a .level) (a .i) (a .out .now) (a .area .now) (a .log .now) (a .at) (n .0) (n .1) (n .2) (n .4) (length (a .log .now)) (c .before .before .before .before .before .before .before .before .before .before .if1 .left) (c .before .before .before .before .before .before .before .before .before .before .before .before .before .before .before .before .before .before .before .before .pre .1 .1) in
@@ -72,7 +72,7 @@ same-length-3 : tie.Need-same-length-3
 same-length-3 c = search needs
 
 returns-2 : tie.Need-returns-2
-returns-2 c = 
+returns-2 c =
     let a = c .before .before .before .before .before .before .before .before .before .before .before .before .before .before .before .before .before .before .before .before .args in
     let n = c .before .before .before .before .before .before .before .before .before .before .before .before .before .before .before .before .before .before .before .before .pre .1 .0 in
     let r = last-chained (paramsFrom (a .key .now) (a .params)) (a .level) (a .i) (a .out .now) (a .area .now) (a .log .now) (a .at) (n .0) (n .1) (n .2) (n .4) _ _ _ _ (c .before .before .before .before .before .before .before .before .before .before .if1 .left) (c .before .before .before .before .before .before .before .before .before .before .before .before .before .join .ensures) (c .before .before .before .before .before .before .before .make-level .ensures .0) (c .before .before .before .before .before .before .before .make-level .ensures .1) (c .before .before .chain-level .ensures) in

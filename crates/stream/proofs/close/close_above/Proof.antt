@@ -17,7 +17,7 @@ abbrev μ-loop : tie.MeasureT-loop
 μ-loop area params key table levels outputs log₀ start n₀ i₀ out₀ at₀ k₀ log n i out at k = 28 - k
 
 loop-holds : tie.Need-loop-holds Inv-loop μ-loop
-loop-holds c = 
+loop-holds c =
     let a = c .before .before .before .before .args in
     let n = c .before .before .before .before .pre .1 .0 in
     close-start (paramsFrom (a .key .now) (a .params)) (a .levels) (a .outputs) (a .first) (a .area .now) (a .log .now) (a .start) (n .1) (n .2) (n .3)
@@ -38,7 +38,7 @@ slice-aggregate-close-level : tie.Need-slice-aggregate-close-level Inv-loop μ-l
 slice-aggregate-close-level c = search needs
 
 close-level-requires : tie.Need-close-level-requires Inv-loop μ-loop
-close-level-requires c κs = 
+close-level-requires c κs =
     let inv = c .before .before .before .before .loop .inv in
     let a = c .before .before .before .before .before .before .before .before .before .args in
     let e = closed-last (paramsFrom (a .key .now) (a .params)) (c .before .before .before .before .loop .n) (c .before .before .before .before .loop .k) (c .before .before .before .before .loop .i) (c .before .before .before .before .loop .out) (a .area .now) (omega arith) (c .before .before .if1 .taken) in
@@ -48,7 +48,7 @@ same-length : tie.Need-same-length Inv-loop μ-loop
 same-length c = search needs
 
 returns : tie.Need-returns Inv-loop μ-loop
-returns c = 
+returns c =
     let inv = c .before .before .before .before .before .before .before .loop .inv in
     let a = c .before .before .before .before .before .before .before .before .before .before .before .before .args in
     let P = paramsFrom (a .key .now) (a .params) in
@@ -69,7 +69,7 @@ slice-aggregate-close-level-2 : tie.Need-slice-aggregate-close-level-2 Inv-loop 
 slice-aggregate-close-level-2 c = search needs
 
 close-level-requires-2 : tie.Need-close-level-requires-2 Inv-loop μ-loop
-close-level-requires-2 c κs = 
+close-level-requires-2 c κs =
     let inv = c .before .before .before .before .before .loop .inv in
     let a = c .before .before .before .before .before .before .before .before .before .before .args in
     let e = closed-root (paramsFrom (a .key .now) (a .params)) (c .before .before .before .before .before .loop .n) (c .before .before .before .before .before .loop .k) (c .before .before .before .before .before .loop .i) (c .before .before .before .before .before .loop .out) (a .area .now) (omega arith) (c .before .before .before .if1 .left) (c .before .before .if2 .taken) in
@@ -79,7 +79,7 @@ same-length-2 : tie.Need-same-length-2 Inv-loop μ-loop
 same-length-2 c = search needs
 
 returns-2 : tie.Need-returns-2 Inv-loop μ-loop
-returns-2 c = 
+returns-2 c =
     let inv = c .before .before .before .before .before .before .before .before .loop .inv in
     let a = c .before .before .before .before .before .before .before .before .before .before .before .before .before .args in
     let P = paramsFrom (a .key .now) (a .params) in
@@ -91,14 +91,14 @@ slice-aggregate-close-level-3 : tie.Need-slice-aggregate-close-level-3 Inv-loop 
 slice-aggregate-close-level-3 c = search needs
 
 close-level-requires-3 : tie.Need-close-level-requires-3 Inv-loop μ-loop
-close-level-requires-3 c κs = 
+close-level-requires-3 c κs =
     let inv = c .before .before .before .before .before .loop .inv in
     let a = c .before .before .before .before .before .before .before .before .before .before .args in
     let e = closed-more (paramsFrom (a .key .now) (a .params)) (c .before .before .before .before .before .loop .n) (c .before .before .before .before .before .loop .k) (c .before .before .before .before .before .loop .i) (c .before .before .before .before .before .loop .out) (a .area .now) (omega arith) (c .before .before .before .if1 .left) (c .before .before .if2 .left) in
     (c .before .before .before .before .before .before .before .before .before .before .pre .0, (c .before .before .before .before .before .before .before .before .before .before .pre .1 .0 .0, omega (arith, inv .low), omega arith, omega (arith, inv .fits), omega arith, omega arith, omega arith, inv .words, close-room inv _ _ e (c .before .before .before .before .before .before .before .before .before .before .pre .1 .1)))
 
 add-at : tie.Need-add-at Inv-loop μ-loop
-add-at c = 
+add-at c =
     let inv = c .before .before .before .before .before .before .before .before .loop .inv in
     let a = c .before .before .before .before .before .before .before .before .before .before .before .before .before .args in
     let e = closed-more (paramsFrom (a .key .now) (a .params)) (c .before .before .before .before .before .before .before .before .loop .n) (c .before .before .before .before .before .before .before .before .loop .k) (c .before .before .before .before .before .before .before .before .loop .i) (c .before .before .before .before .before .before .before .before .loop .out) (a .area .now) (omega arith) (c .before .before .before .before .before .before .if1 .left) (c .before .before .before .before .before .if2 .left) in

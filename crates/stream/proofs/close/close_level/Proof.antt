@@ -54,7 +54,7 @@ slice-aggregate-make-node : tie.Need-slice-aggregate-make-node
 slice-aggregate-make-node c = search needs
 
 make-node-requires : tie.Need-make-node-requires
-make-node-requires c κs = 
+make-node-requires c κs =
     let a = c .before .before .before .before .before .before .before .before .before .before .before .before .before .before .args in
     let n = c .before .before .before .before .before .before .before .before .before .before .before .before .before .before .pre .1 in
     let b = c .before .before .before .put-words2 .ensures ∙ ap (λ (w : List ℕ). paste w (a .place) (a .out .now) (length (a .out .now))) (c .before .before .before .before .before .before .put-words .ensures) ∙ block-made (a .area .now) (a .level) (a .place) (a .out .now) (n .7) (n .0) (n .1) (n .2) in
@@ -65,7 +65,7 @@ same-length : tie.Need-same-length
 same-length c = search needs
 
 returns : tie.Need-returns
-returns c = 
+returns c =
     let a = c .before .before .before .before .before .before .before .before .before .before .before .before .before .before .before .before .before .args in
     let n = c .before .before .before .before .before .before .before .before .before .before .before .before .before .before .before .before .before .pre .1 in
     let P = paramsFrom (a .key .now) (a .params) in

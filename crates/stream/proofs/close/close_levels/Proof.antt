@@ -31,7 +31,7 @@ part-make-node-end : tie.Need-part-make-node-end
 part-make-node-end c = search needs
 
 make-node-requires : tie.Need-make-node-requires
-make-node-requires c κs = 
+make-node-requires c κs =
     let a = c .before .before .before .before .before .before .before .before .before .args in
     let P = paramsFrom (a .key .now) (a .params) in
     let e = closing-sequential P (a .params .limit) (a .total) (a .area .now) (c .before .before .before .before .if1 .taken) in
@@ -41,7 +41,7 @@ same-length : tie.Need-same-length
 same-length c = search needs
 
 returns : tie.Need-returns
-returns c = 
+returns c =
     let a = c .before .before .before .before .before .before .before .before .before .before .before .before .args in
     let P = paramsFrom (a .key .now) (a .params) in
     let e = closing-sequential P (a .params .limit) (a .total) (a .area .now) (c .before .before .before .before .before .before .before .if1 .taken) in
@@ -67,7 +67,7 @@ part-make-node-end-2 : tie.Need-part-make-node-end-2
 part-make-node-end-2 c = search needs
 
 make-node-requires-2 : tie.Need-make-node-requires-2
-make-node-requires-2 c κs = 
+make-node-requires-2 c κs =
     let a = c .before .before .before .before .before .before .before .before .before .before .args in
     let P = paramsFrom (a .key .now) (a .params) in
     let d : doneBlocks 4096 (a .total) < 1 = rw (c .before .before .before .before .done-blocks2 .ensures) at (c .before .before .if2 .taken) in
@@ -78,7 +78,7 @@ same-length-2 : tie.Need-same-length-2
 same-length-2 c = search needs
 
 returns-2 : tie.Need-returns-2
-returns-2 c = 
+returns-2 c =
     let a = c .before .before .before .before .before .before .before .before .before .before .before .before .before .args in
     let P = paramsFrom (a .key .now) (a .params) in
     let d : doneBlocks 4096 (a .total) < 1 = rw (c .before .before .before .before .before .before .before .done-blocks2 .ensures) at (c .before .before .before .before .before .if2 .taken) in
@@ -96,7 +96,7 @@ part-make-node-end-3 : tie.Need-part-make-node-end-3
 part-make-node-end-3 c = search needs
 
 make-node-requires-3 : tie.Need-make-node-requires-3
-make-node-requires-3 c κs = 
+make-node-requires-3 c κs =
     let a = c .before .before .before .before .before .before .before .before .before .before .args in
     let P = paramsFrom (a .key .now) (a .params) in
     let d : 1 ≤ doneBlocks 4096 (a .total) = rw (c .before .before .before .before .done-blocks2 .ensures) at (c .before .before .if2 .left) in
@@ -104,7 +104,7 @@ make-node-requires-3 c κs =
     (c .before .before .before .before .before .before .before .before .before .before .pre .0, (omega arith, omega (arith, c .before .before .before .before .done-blocks2 .ensures, c .before .before .before .before .before .before .before .before .before .before .fits), omega arith, omega arith, search needs, room-one _ _ _ (length (a .log .now)) e (c .before .before .before .before .before .before .before .before .before .before .pre .1 .1)))
 
 close-above-requires : tie.Need-close-above-requires
-close-above-requires c κs = 
+close-above-requires c κs =
     let a = c .before .before .before .before .before .before .before .before .before .before .before .before .before .before .args in
     let P = paramsFrom (a .key .now) (a .params) in
     let i = c .before .before .before .before .before .before .before .before .done-blocks2 .ensures in
@@ -120,7 +120,7 @@ same-length-3 : tie.Need-same-length-3
 same-length-3 c = search needs
 
 returns-3 : tie.Need-returns-3
-returns-3 c = 
+returns-3 c =
     let a = c .before .before .before .before .before .before .before .before .before .before .before .before .before .before .before .before .before .args in
     let P = paramsFrom (a .key .now) (a .params) in
     let i = c .before .before .before .before .before .before .before .before .before .before .before .done-blocks2 .ensures in

@@ -47,7 +47,7 @@ shared-slice-read-close-levels : tie.Need-shared-slice-read-close-levels
 shared-slice-read-close-levels c = search needs
 
 close-levels-requires : tie.Need-close-levels-requires
-close-levels-requires c κs = 
+close-levels-requires c κs =
     let a = c .before .before .before .before .before .before .before .before .before .before .before .before .args in
     let area = a .area .now in
     let ready = open-ready (c .before .before .before .before .before .before .before .before .before .before .before .before .pre .0) (c .before .before .before .before .round-constants .result) (words-below area (c .before .before .before .before .before .before .before .before .before .before .before .shared-slice-known .given)) (c .before .before .before .before .round-constants .ensures) (omega (arith, c .before .before .before .before .round-constants .ok)) in
@@ -57,7 +57,7 @@ same-length : tie.Need-same-length
 same-length c = search needs
 
 returns : tie.Need-returns
-returns c = 
+returns c =
     let a = c .before .before .before .before .before .before .before .before .before .before .before .before .before .before .before .args in
     let area = a .area .now in
     let r = rw (c .before .before .before .before .before .before .before .before .new .ensures, closed-read area, params-read area) at (c .before .before .close-levels .ensures .0) in

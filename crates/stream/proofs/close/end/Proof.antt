@@ -22,19 +22,19 @@ same-length-3 : tie.Need-same-length-3
 same-length-3 c = search needs
 
 returns : tie.Need-returns
-returns c = 
+returns c =
     let a = c .before .before .before .before .before .before .before .before .args in
     end-refused (a .area .now) (a .digest .now) (a .log .now) (c .before .end-number .result) (c .before .end-number .ensures) (c .if1 .taken)
 
 nodes-left-requires : tie.Need-nodes-left-requires
-nodes-left-requires c κs = 
+nodes-left-requires c κs =
     let a = c .before .before .before .before .before .before .before .before .before .args in
     let e = sym (c .before .before .end-number .ensures) ∙ c .before .if1 .left in
     let ok = end-shown (a .area .now) (a .digest .now) (a .log .now) e in
     ok .opened
 
 closing-requires : tie.Need-closing-requires
-closing-requires c κs = 
+closing-requires c κs =
     let a = c .before .before .before .before .before .before .before .before .before .before .before .before .args in
     let e = sym (c .before .before .before .before .before .end-number .ensures) ∙ c .before .before .before .before .if1 .left in
     let ok = end-shown (a .area .now) (a .digest .now) (a .log .now) e in
@@ -44,14 +44,14 @@ slice-aggregate-write-digest : tie.Need-slice-aggregate-write-digest
 slice-aggregate-write-digest c = search needs
 
 slice-read-write-digest : tie.Need-slice-read-write-digest
-slice-read-write-digest c = 
+slice-read-write-digest c =
     let a = c .before .before .before .before .before .before .before .before .before .before .before .before .before .before .before .before .before .args in
     let e = sym (c .before .before .before .before .before .before .before .before .before .before .end-number .ensures) ∙ c .before .before .before .before .before .before .before .before .before .if1 .left in
     let ok = end-shown (a .area .now) (a .digest .now) (a .log .now) e in
     omega (arith, ok .opened .long)
 
 write-digest-requires : tie.Need-write-digest-requires
-write-digest-requires c κs = 
+write-digest-requires c κs =
     let a = c .before .before .before .before .before .before .before .before .before .before .before .before .before .before .before .before .before .before .args in
     let e = sym (c .before .before .before .before .before .before .before .before .before .before .before .end-number .ensures) ∙ c .before .before .before .before .before .before .before .before .before .before .if1 .left in
     let ok = end-shown (a .area .now) (a .digest .now) (a .log .now) e in
@@ -59,7 +59,7 @@ write-digest-requires c κs =
     (search needs, r .dLow, r .dHigh, ok .digest-room)
 
 wipe-requires : tie.Need-wipe-requires
-wipe-requires c κs = 
+wipe-requires c κs =
     let a = c .before .before .before .before .before .before .before .before .before .before .before .before .before .before .before .before .before .before .before .before .before .before .args in
     let e = sym (c .before .before .before .before .before .before .before .before .before .before .before .before .before .before .before .end-number .ensures) ∙ c .before .before .before .before .before .before .before .before .before .before .before .before .before .before .if1 .left in
     let ok = end-shown (a .area .now) (a .digest .now) (a .log .now) e in
@@ -75,7 +75,7 @@ same-length-6 : tie.Need-same-length-6
 same-length-6 c = search needs
 
 returns-2 : tie.Need-returns-2
-returns-2 c = 
+returns-2 c =
     let a = c .before .before .before .before .before .before .before .before .before .before .before .before .before .before .before .before .before .before .before .before .before .before .before .before .before .args in
     let e = sym (c .before .before .before .before .before .before .before .before .before .before .before .before .before .before .before .before .before .before .end-number .ensures) ∙ c .before .before .before .before .before .before .before .before .before .before .before .before .before .before .before .before .before .if1 .left in
     let ok = end-shown (a .area .now) (a .digest .now) (a .log .now) e in

@@ -11,7 +11,7 @@ use Rattle.stream.proofs.close.end_number.Statement.{statement}
 use Rattle.stream.proofs.close.end_number.Tie as tie
 
 returns : tie.Need-returns
-returns c = 
+returns c =
     let a = c .before .before .before .before .args in
     end-short (a .area .now) (a .digest .now) (a .log .now) (c .if1 .taken)
 
@@ -19,7 +19,7 @@ is-sound-requires : tie.Need-is-sound-requires
 is-sound-requires c κs = search needs
 
 returns-2 : tie.Need-returns-2
-returns-2 c = 
+returns-2 c =
     let a = c .before .before .before .before .before .before .args in
     end-unsound (a .area .now) (a .digest .now) (a .log .now) (c .before .before .if1 .left) (sym (c .before .is-sound .ensures) ∙ not-true (c .before .is-sound .result) (c .if2 .taken))
 
@@ -27,7 +27,7 @@ shared-slice-read-if3 : tie.Need-shared-slice-read-if3
 shared-slice-read-if3 c = search needs
 
 returns-3 : tie.Need-returns-3
-returns-3 c = 
+returns-3 c =
     let a = c .before .before .before .before .before .before .before .before .args in
     end-ended (a .area .now) (a .digest .now) (a .log .now) (c .before .before .before .before .if1 .left) (sym (c .before .before .before .is-sound .ensures) ∙ not-false (c .before .before .before .is-sound .result) (c .before .before .if2 .left)) (c .if3 .taken)
 
@@ -35,26 +35,26 @@ shared-slice-read-if4 : tie.Need-shared-slice-read-if4
 shared-slice-read-if4 c = search needs
 
 add-if4 : tie.Need-add-if4
-add-if4 c = 
+add-if4 c =
     let a = c .before .before .before .before .before .before .before .before .before .args in
     let s = sym (c .before .before .before .before .is-sound .ensures) ∙ not-false (c .before .before .before .before .is-sound .result) (c .before .before .before .if2 .left) in
     let o : OpenArea (a .area .now) = record { long = c .before .before .before .before .before .if1 .left; sound = s; phase = c .before .if3 .left } in
     omega (arith, open-range o .dHigh)
 
 returns-4 : tie.Need-returns-4
-returns-4 c = 
+returns-4 c =
     let a = c .before .before .before .before .before .before .before .before .before .before .args in
     let s = sym (c .before .before .before .before .before .is-sound .ensures) ∙ not-false (c .before .before .before .before .before .is-sound .result) (c .before .before .before .before .if2 .left) in
     let o : OpenArea (a .area .now) = record { long = c .before .before .before .before .before .before .if1 .left; sound = s; phase = c .before .before .if3 .left } in
     end-small (a .area .now) (a .digest .now) (a .log .now) o (c .if4 .taken)
 
 nodes-left-requires : tie.Need-nodes-left-requires
-nodes-left-requires c κs = 
+nodes-left-requires c κs =
     let a = c .before .before .before .before .before .before .before .before .before .before .args in
     record { long = c .before .before .before .before .before .before .if1 .left; sound = sym (c .before .before .before .before .before .is-sound .ensures) ∙ not-false (c .before .before .before .before .before .is-sound .result) (c .before .before .before .before .if2 .left); phase = c .before .before .if3 .left }
 
 returns-5 : tie.Need-returns-5
-returns-5 c = 
+returns-5 c =
     let a = c .before .before .before .before .before .before .before .before .before .before .before .before .args in
     let s = sym (c .before .before .before .before .before .before .before .is-sound .ensures) ∙ not-false (c .before .before .before .before .before .before .before .is-sound .result) (c .before .before .before .before .before .before .if2 .left) in
     let o : OpenArea (a .area .now) = record { long = c .before .before .before .before .before .before .before .before .if1 .left; sound = s; phase = c .before .before .before .before .if3 .left } in
@@ -62,7 +62,7 @@ returns-5 c =
     end-log (a .area .now) (a .digest .now) (a .log .now) o (c .before .before .if4 .left) l
 
 returns-6 : tie.Need-returns-6
-returns-6 c = 
+returns-6 c =
     let a = c .before .before .before .before .before .before .before .before .before .before .before .before .args in
     let s = sym (c .before .before .before .before .before .before .before .is-sound .ensures) ∙ not-false (c .before .before .before .before .before .before .before .is-sound .result) (c .before .before .before .before .before .before .if2 .left) in
     let o : OpenArea (a .area .now) = record { long = c .before .before .before .before .before .before .before .before .if1 .left; sound = s; phase = c .before .before .before .before .if3 .left } in

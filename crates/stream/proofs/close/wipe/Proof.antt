@@ -39,7 +39,7 @@ same-length : tie.Need-same-length
 same-length c = c .before .area .given .1 ∙ simp length-set
 
 returns : tie.Need-returns
-returns c = 
+returns c =
     let area = c .before .before .before .before .before .before .before .before .args .area .now in
     let zs = c .before .before .clear .ensures ∙ ap (λ (n : ℕ). replicate n 0) (c .before .before .before .clear-arg .given .2) in
     rw (zs, c .before .before .before .before .tree-count .ensures) (wiped (set (set area 0 2) 14 (treeCount (getD area 4 0) (getD area 1 0))))

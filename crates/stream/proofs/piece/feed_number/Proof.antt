@@ -50,17 +50,17 @@ open-count-requires-2 : tie.Need-open-count-requires-2
 open-count-requires-2 c κs = search needs
 
 sub-if4 : tie.Need-sub-if4
-sub-if4 c = 
+sub-if4 c =
     let a = c .before .before .before .before .before .args in
     le-at (sym (c .open-count2 .ensures)) (sym (c .before .open-count .ensures)) (openCount-mono (a .limit) (a .total) (a .bits))
 
 returns-4 : tie.Need-returns-4
-returns-4 c = 
+returns-4 c =
     let a = c .before .before .before .before .before .before .args in
     number-log (a .phase) (a .limit) (a .total) (a .bytes) (a .bits) (a .words) (c .before .before .before .before .before .if1 .left) (c .before .before .before .before .if2 .left) (c .before .before .before .if3 .left) (c .before .before .before .before .before .before .fits .total .fits) (lt-at refl (ap (λ (x : ℕ). x - c .before .open-count2 .result) (c .before .before .open-count .ensures) ∙ ap (λ (x : ℕ). openCount (a .limit) (a .total + a .bits) - x) (c .before .open-count2 .ensures)) (c .if4 .taken))
 
 returns-5 : tie.Need-returns-5
-returns-5 c = 
+returns-5 c =
     let a = c .before .before .before .before .before .before .args in
     number-none (a .phase) (a .limit) (a .total) (a .bytes) (a .bits) (a .words) (c .before .before .before .before .before .if1 .left) (c .before .before .before .before .if2 .left) (c .before .before .before .if3 .left) (c .before .before .before .before .before .before .fits .total .fits) (le-at (ap (λ (x : ℕ). x - c .before .open-count2 .result) (c .before .before .open-count .ensures) ∙ ap (λ (x : ℕ). openCount (a .limit) (a .total + a .bits) - x) (c .before .open-count2 .ensures)) refl (c .if4 .left))
 

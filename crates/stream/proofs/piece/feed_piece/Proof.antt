@@ -72,7 +72,7 @@ slice-aggregate-feed-bits-2 : tie.Need-slice-aggregate-feed-bits-2
 slice-aggregate-feed-bits-2 c = search needs
 
 feed-bits-requires : tie.Need-feed-bits-requires
-feed-bits-requires c κs = 
+feed-bits-requires c κs =
     let a = c .before .before .before .before .before .before .before .before .before .before .before .before .before .before .before .before .before .before .before .before .args in
     let area = a .area .now in
     let long = c .before .before .before .before .before .before .before .before .before .before .before .before .before .before .before .before .before .before .before .before .pre .0 .0 in
@@ -82,7 +82,6 @@ feed-bits-requires c κs =
     let k = c .before .before .before .before .before .before .copy .ensures ∙ key-copied area long in
     let P = ap (λ (x : List ℕ). paramsFrom x (c .before .before .before .before .before .before .before .before .before .before .new .result)) k ∙ params-read area (c .before .before .before .before .before .before .before .before .before .before .new .result) (ap (λ (x : declared.Params). x .key) p) (ap (λ (x : declared.Params). x .d) p) (ap (λ (x : declared.Params). x .limit) p) (ap (λ (x : declared.Params). x .rounds) p) in
     let F = fed-is area (a .piece .now) (a .bits) _ P in
-
     let rows : 255 ≤ length (c .before .before .before .before .round-constants .result) = omega arith in
     let ready = ready-read area (c .before .before .before .before .round-constants .result) (c .before .before .before .before .before .before .before .before .before .before .new .result) long (words-below area (c .before .before .before .before .before .before .before .before .before .before .before .before .before .before .before .before .before .before .before .slice-known .given)) s (ap (λ (x : declared.Params). x .key) p) (ap (λ (x : declared.Params). x .d) p) (ap (λ (x : declared.Params). x .limit) p) (ap (λ (x : declared.Params). x .rounds) p) (c .before .before .before .before .round-constants .ensures) rows in (
       rw k ready,
@@ -96,7 +95,7 @@ slice-write-area : tie.Need-slice-write-area
 slice-write-area c = search needs
 
 add-area-2 : tie.Need-add-area-2
-add-area-2 c = 
+add-area-2 c =
     let a = c .before .before .before .before .before .before .before .before .before .before .before .before .before .before .before .before .before .before .before .before .before .before .before .before .before .args in
     let area = a .area .now in
     let long = c .before .before .before .before .before .before .before .before .before .before .before .before .before .before .before .before .before .before .before .before .before .before .before .before .before .pre .0 .0 in
@@ -106,7 +105,6 @@ add-area-2 c =
     let k = c .before .before .before .before .before .before .before .before .before .before .before .copy .ensures ∙ key-copied area long in
     let P = ap (λ (x : List ℕ). paramsFrom x (c .before .before .before .before .before .before .before .before .before .before .before .before .before .before .before .new .result)) k ∙ params-read area (c .before .before .before .before .before .before .before .before .before .before .before .before .before .before .before .new .result) (ap (λ (x : declared.Params). x .key) p) (ap (λ (x : declared.Params). x .d) p) (ap (λ (x : declared.Params). x .limit) p) (ap (λ (x : declared.Params). x .rounds) p) in
     let F = fed-is area (a .piece .now) (a .bits) _ P in
-
     let m = ap (λ (x : ℕ). x / 2) (c .before .before .before .before .feed-bits .ensures .1 .1 ∙ ap (λ (x : Made). 2 * length (x .nodes)) F) ∙ half-double (length (fedBits area (pieceBits (a .piece .now) (a .bits)) .nodes)) in
     record { fits = count-fits area (a .piece .now) (a .bits) _ long s (acc .unended) (acc .inside) (acc .total) m }
 
@@ -120,7 +118,7 @@ same-length-2 : tie.Need-same-length-2
 same-length-2 c = search needs
 
 returns : tie.Need-returns
-returns c = 
+returns c =
     let a = c .before .before .before .before .before .before .before .before .before .before .before .before .before .before .before .before .before .before .before .before .before .before .before .before .before .args in
     let area = a .area .now in
     let long = c .before .before .before .before .before .before .before .before .before .before .before .before .before .before .before .before .before .before .before .before .before .before .before .before .before .pre .0 .0 in
@@ -130,7 +128,6 @@ returns c =
     let k = c .before .before .before .before .before .before .before .before .before .before .before .copy .ensures ∙ key-copied area long in
     let P = ap (λ (x : List ℕ). paramsFrom x (c .before .before .before .before .before .before .before .before .before .before .before .before .before .before .before .new .result)) k ∙ params-read area (c .before .before .before .before .before .before .before .before .before .before .before .before .before .before .before .new .result) (ap (λ (x : declared.Params). x .key) p) (ap (λ (x : declared.Params). x .d) p) (ap (λ (x : declared.Params). x .limit) p) (ap (λ (x : declared.Params). x .rounds) p) in
     let F = fed-is area (a .piece .now) (a .bits) _ P in
-
     let m = ap (λ (x : ℕ). x / 2) (c .before .before .before .before .feed-bits .ensures .1 .1 ∙ ap (λ (x : Made). 2 * length (x .nodes)) F) ∙ half-double (length (fedBits area (pieceBits (a .piece .now) (a .bits)) .nodes)) in
     let e = c .before .before .before .before .feed-bits .ensures .0 ∙ ap (λ (x : Made). withLevels area (x .levels)) F in (
       ap (λ (x : List ℕ). set (set x 1 (getD area 1 0 + a .bits)) 14 (getD area 14 0 + c .before .before .before .before .feed-bits .result / 2)) e ∙ fed-written area (a .piece .now) (a .bits) (c .before .before .before .before .feed-bits .result / 2) long m,

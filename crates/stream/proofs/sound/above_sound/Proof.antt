@@ -34,7 +34,7 @@ last-sound-requires : tie.Need-last-sound-requires Inv-loop μ-loop
 last-sound-requires c κs = omega arith
 
 returns : tie.Need-returns Inv-loop μ-loop
-returns c = 
+returns c =
     let at = c .before .before .before .loop in
     c .last-sound .ensures ∙ sym (above-last (c .before .before .before .before .before .args .area .now) (at .n) (at .i) (at .k) (c .before .if1 .taken) (omega arith)) ∙ at .inv .2
 
@@ -69,7 +69,7 @@ empty-from-requires : tie.Need-empty-from-requires Inv-loop μ-loop
 empty-from-requires c κs = search needs
 
 returns-2 : tie.Need-returns-2 Inv-loop μ-loop
-returns-2 c = 
+returns-2 c =
     let at = c .before .before .before .before .before .loop in
     let area = c .before .before .before .before .before .before .before .args .area .now in
     let f = ap (emptyFrom (1024 * (at .i % 4))) (lent-level area (at .k)) in
@@ -84,7 +84,7 @@ loop-less : tie.Need-loop-less Inv-loop μ-loop
 loop-less c = omega arith
 
 loop-again : tie.Need-loop-again Inv-loop μ-loop
-loop-again c = 
+loop-again c =
     let at = c .before .before .before .before .before .loop in
     let area = c .before .before .before .before .before .before .before .args .area .now in
     let f = ap (emptyFrom (1024 * (at .i % 4))) (lent-level area (at .k)) in
@@ -92,11 +92,11 @@ loop-again c =
       omega arith,
       omega arith,
       sym (both-second (emptyFrom (1024 * (at .i % 4)) (levelWords area (at .k))) (soundAbove (at .n - 1) (at .i / 4) (levelsFrom area (28 - (at .k + 1)) (at .k + 1))) e)
-      ∙ sym (above-more area (at .n) (at .i) (at .k) (c .before .before .before .if1 .left) (omega arith)) ∙ at .inv .2,
+          ∙ sym (above-more area (at .n) (at .i) (at .k) (c .before .before .before .if1 .left) (omega arith)) ∙ at .inv .2,
     )
 
 returns-3 : tie.Need-returns-3 Inv-loop μ-loop
-returns-3 c = 
+returns-3 c =
     let at = c .before .loop in
     sym (above-none (c .before .before .before .args .area .now) (at .n) (at .i) (at .k) (omega arith)) ∙ at .inv .2
 

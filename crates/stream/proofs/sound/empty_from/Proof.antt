@@ -30,7 +30,7 @@ shl-low : tie.Need-shl-low
 shl-low c = search needs
 
 returns-2 : tie.Need-returns-2
-returns-2 c = 
+returns-2 c =
     let from = c .before .before .before .before .args .from in
     sym (empty-not from (c .before .before .before .before .args .part .now) (c .before .before .if1 .left) (omega (arith, c .before .shared-slice-known2 .given (from / 64))) (c .if2 .taken))
 
@@ -41,7 +41,7 @@ or-from-requires : tie.Need-or-from-requires
 or-from-requires c κs = search needs
 
 returns-3 : tie.Need-returns-3
-returns-3 c = 
+returns-3 c =
     let from = c .before .before .before .before .before .args .from in
     c .or-from .ensures ∙ sym (empty-rest from (c .before .before .before .before .before .args .part .now) (c .before .before .before .if1 .left) (omega (arith, c .before .before .shared-slice-known2 .given (from / 64))) (c .before .if2 .left))
 

@@ -26,7 +26,7 @@ is-phase-requires : tie.Need-is-phase-requires
 is-phase-requires c κs = search needs
 
 returns : tie.Need-returns
-returns c = 
+returns c =
     let area = c .before .before .before .before .args .area .now in
     sym (head-phase area (sym (c .before .is-phase .ensures) ∙ not-true (c .before .is-phase .result) (c .if1 .taken)))
 
@@ -46,20 +46,20 @@ params-number-requires : tie.Need-params-number-requires
 params-number-requires c κs = search needs
 
 returns-2 : tie.Need-returns-2
-returns-2 c = 
+returns-2 c =
     let area = c .before .before .before .before .before .before .before .before .before .before .args .area .now in
     let p = sym (c .before .before .before .before .before .before .before .is-phase .ensures) ∙ not-false (c .before .before .before .before .before .before .before .is-phase .result) (c .before .before .before .before .before .before .if1 .left) in
     let q = refused-words area 0 ∙ sym (c .before .params-number .ensures) in
     sym (head-params area p (ne-eqb _ 0 (λ z. c .if2 .taken (sym q ∙ z))))
 
 rest-sound-requires : tie.Need-rest-sound-requires
-rest-sound-requires c κs = 
+rest-sound-requires c κs =
     let area = c .before .before .before .before .before .before .before .before .before .before .args .area .now in
     let r = in-range-words (getD area 2 0) (getD area 3 0) (getD area 4 0) (getD area 5 0) (sym (c .before .params-number .ensures) ∙ c .if2 .left) in
     (c .before .before .before .before .before .before .before .before .before .before .pre, r .keyHigh)
 
 returns-3 : tie.Need-returns-3
-returns-3 c = 
+returns-3 c =
     let area = c .before .before .before .before .before .before .before .before .before .before .before .args .area .now in
     let p = sym (c .before .before .before .before .before .before .before .before .is-phase .ensures) ∙ not-false (c .before .before .before .before .before .before .before .before .is-phase .result) (c .before .before .before .before .before .before .before .if1 .left) in
     let q = refused-words area 0 ∙ sym (c .before .before .params-number .ensures) ∙ c .before .if2 .left in

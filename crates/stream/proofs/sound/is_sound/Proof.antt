@@ -22,7 +22,7 @@ head-sound-requires : tie.Need-head-sound-requires
 head-sound-requires c κs = search needs
 
 returns : tie.Need-returns
-returns c = 
+returns c =
     let area = c .before .before .before .args .area .now in
     let e = sym (c .before .head-sound .ensures) ∙ not-true (c .before .head-sound .result) (c .if1 .taken) in
     sym (sound-parts area ∙ both-first (soundHead area) (soundLevels area) e)
@@ -31,7 +31,7 @@ levels-sound-requires : tie.Need-levels-sound-requires
 levels-sound-requires c κs = search needs
 
 returns-2 : tie.Need-returns-2
-returns-2 c = 
+returns-2 c =
     let area = c .before .before .before .before .args .area .now in
     let e = sym (c .before .before .head-sound .ensures) ∙ not-false (c .before .before .head-sound .result) (c .before .if1 .left) in
     c .levels-sound .ensures ∙ sym (sound-parts area ∙ both-second (soundHead area) (soundLevels area) e)

@@ -46,7 +46,7 @@ sequential-sound-requires : tie.Need-sequential-sound-requires
 sequential-sound-requires c κs = search needs
 
 returns : tie.Need-returns
-returns c = 
+returns c =
     let k = c .before .before .before .before .args .level in
     let area = c .before .before .before .before .args .area .now in
     let f = ap (soundSequential (c .before .before .before .before .args .done) (c .before .before .before .before .args .held)) (lent-level area k) in
@@ -60,7 +60,7 @@ levels-empty-requires : tie.Need-levels-empty-requires
 levels-empty-requires c κs = search needs
 
 returns-2 : tie.Need-returns-2
-returns-2 c = 
+returns-2 c =
     let k = c .before .before .before .before .before .args .level in
     let area = c .before .before .before .before .before .args .area .now in
     let f = ap (soundSequential (c .before .before .before .before .before .args .done) (c .before .before .before .before .before .args .held)) (lent-level area k) in

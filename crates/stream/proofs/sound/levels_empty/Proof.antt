@@ -42,7 +42,7 @@ empty-from-requires : tie.Need-empty-from-requires
 empty-from-requires c κs = search needs
 
 returns : tie.Need-returns
-returns c = 
+returns c =
     let k = c .before .before .before .args .level in
     let area = c .before .before .before .args .area .now in
     let e : 1744 - (16 + 64 * (k - 1)) ≡ 64 * (28 - k) = omega arith in

@@ -31,7 +31,7 @@ last-sound-requires : tie.Need-last-sound-requires
 last-sound-requires c κs = search needs
 
 returns : tie.Need-returns
-returns c = 
+returns c =
     let area = c .before .before .before .before .before .args .area .now in
     let T = c .before .before .before .before .before .args .total in
     c .last-sound .ensures
@@ -54,7 +54,7 @@ empty-from-requires : tie.Need-empty-from-requires
 empty-from-requires c κs = search needs
 
 returns-2 : tie.Need-returns-2
-returns-2 c = 
+returns-2 c =
     let area = c .before .before .before .before .before .before .args .area .now in
     let T = c .before .before .before .before .before .before .args .total in
     let h = heldBits 4096 T in
@@ -68,7 +68,7 @@ above-sound-requires : tie.Need-above-sound-requires
 above-sound-requires c κs = search needs
 
 returns-3 : tie.Need-returns-3
-returns-3 c = 
+returns-3 c =
     let area = c .before .before .before .before .before .before .before .before .args .area .now in
     let T = c .before .before .before .before .before .before .before .before .args .total in
     let h = heldBits 4096 T in

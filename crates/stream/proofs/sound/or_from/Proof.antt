@@ -39,12 +39,12 @@ loop-less : tie.Need-loop-less Inv-loop μ-loop
 loop-less c = omega arith
 
 loop-again : tie.Need-loop-again Inv-loop μ-loop
-loop-again c = 
+loop-again c =
     let i = c .before .before .loop .i in
     or-more (c .before .before .loop .all) i (c .before .before .before .args .part .now) (c .before .loop-test .taken) (omega (arith, c .shared-slice-known .given i)) ∙ c .before .before .loop .inv
 
 returns : tie.Need-returns Inv-loop μ-loop
-returns c = 
+returns c =
     let part = c .before .before .args .part .now in
     sym (both-true (eqb (c .before .loop .all) 0)) ∙ rw (drop-of-length-le part (c .loop-test .left)) at (c .before .loop .inv)
 

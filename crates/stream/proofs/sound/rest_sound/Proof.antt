@@ -37,7 +37,7 @@ empty-from-requires : tie.Need-empty-from-requires
 empty-from-requires c κs = search needs
 
 returns : tie.Need-returns
-returns c = 
+returns c =
     let area = c .before .before .before .before .before .args .area .now in
     let e = sym (c .before .empty-from .ensures) ∙ not-true (c .before .empty-from .result) (c .if1 .taken) in
     sym (both-first (soundKey area) (both (soundCount area) (soundLast area)) e)
@@ -58,7 +58,7 @@ shared-slice-read-if2 : tie.Need-shared-slice-read-if2
 shared-slice-read-if2 c = search needs
 
 returns-2 : tie.Need-returns-2
-returns-2 c = 
+returns-2 c =
     let area = c .before .before .before .before .before .before .before .before .before .before .before .args .area .now in
     let e = sym (c .before .before .before .before .before .before .before .empty-from .ensures) ∙ not-false (c .before .before .before .before .before .before .before .empty-from .result) (c .before .before .before .before .before .before .if1 .left) in
     let f = ne-eqb (getD area 14 0) (countFor (getD area 0 0) (getD area 4 0) (getD area 1 0)) (λ q. c .if2 .taken (q ∙ sym (c .before .before .count-for .ensures))) in
@@ -68,7 +68,7 @@ shared-slice-read-result : tie.Need-shared-slice-read-result
 shared-slice-read-result c = search needs
 
 returns-3 : tie.Need-returns-3
-returns-3 c = 
+returns-3 c =
     let area = c .before .before .before .before .before .before .before .before .before .before .before .before .args .area .now in
     let e = sym (c .before .before .before .before .before .before .before .before .empty-from .ensures) ∙ not-false (c .before .before .before .before .before .before .before .before .empty-from .result) (c .before .before .before .before .before .before .before .if1 .left) in
     let f = eq-eqb (getD area 14 0) (countFor (getD area 0 0) (getD area 4 0) (getD area 1 0)) (c .before .if2 .left ∙ c .before .before .before .count-for .ensures) in

@@ -39,7 +39,7 @@ empty-from-requires-2 : tie.Need-empty-from-requires-2
 empty-from-requires-2 c κs = search needs
 
 returns-2 : tie.Need-returns-2
-returns-2 c = 
+returns-2 c =
     let part = c .before .before .before .before .before .args .part .now in
     let e = sym (c .before .empty-from2 .ensures) ∙ not-true (c .before .empty-from2 .result) (c .if2 .taken) in
     sym (sequential-none (c .before .before .before .before .before .args .done) (c .before .before .before .before .before .args .held) part (c .before .before .before .if1 .left) (c .before .before .before .before .before .pre .0) ∙ both-first (emptyFrom 0 (take 16 part)) (emptyFrom (1024 + c .before .before .before .before .before .args .held) part) e)
@@ -51,7 +51,7 @@ empty-from-requires-3 : tie.Need-empty-from-requires-3
 empty-from-requires-3 c κs = search needs
 
 returns-3 : tie.Need-returns-3
-returns-3 c = 
+returns-3 c =
     let part = c .before .before .before .before .before .before .args .part .now in
     let e = sym (c .before .before .empty-from2 .ensures) ∙ not-false (c .before .before .empty-from2 .result) (c .before .if2 .left) in
     c .empty-from3 .ensures

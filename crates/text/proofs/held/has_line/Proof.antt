@@ -10,7 +10,7 @@ use Rattle.stream.proofs.count.done_blocks.Reads as done-blocks-reads
 returns : tie.Need-returns
 returns c =
     let a = c .before .args in
-    held-ended (a .phase) (a .limit) (a .total) (a .level) (omega arith) (omega arith) (c .if1 .taken)
+    held-ended (a .phase) (a .limit) (a .total) (a .level) (c .if1 .taken)
 
 returns-2 : tie.Need-returns-2
 returns-2 c =

@@ -58,14 +58,13 @@ loop-again c =
     let l = z .before .before .args .area .now in
     let p = getD l 0 0 in
     let m = getD l 4 0 in
-    let t = getD l 1 0 in
-    (
+    let t = getD l 1 0 in (
       omega arith,
       omega arith,
       ⊎-elim
-      (λ w. omega (arith, w .1, z .loop .inv .2, level-yes p m t (z .loop .k) (omega arith) (omega arith) (sym (c .before .has-line .ensures) ∙ w .0 .taken)))
-      (λ w. omega (arith, w .1, z .loop .inv .2, level-no p m t (z .loop .k) (omega arith) (omega arith) (sym (c .before .has-line .ensures) ∙ w .0 .left)))
-      (c .if1 .came),
+          (λ w. omega (arith, w .1, z .loop .inv .2, level-yes p m t (z .loop .k) (omega arith) (omega arith) (sym (c .before .has-line .ensures) ∙ w .0 .taken)))
+          (λ w. omega (arith, w .1, z .loop .inv .2, level-no p m t (z .loop .k) (omega arith) (omega arith) (sym (c .before .has-line .ensures) ∙ w .0 .left)))
+          (c .if1 .came),
     )
 
 returns : tie.Need-returns Inv-loop μ-loop

@@ -103,22 +103,22 @@ loop-again c =
     let n : length p ≡ 1027 * lines (heldOf l) = omega arith in
     ⊎-elim
     (λ w.
-      let e = sym (c .before .has-line .ensures) ∙ w .0 .taken in
-      let m = level-yes (getD l 0 0) (getD l 4 0) (getD l 1 0) k (omega arith) (omega arith) e in
-      let r = level-room (getD l 0 0) (getD l 4 0) (getD l 1 0) k (omega arith) (omega arith) e in
-      let a : c .if1 .at ≡ 1027 * lines (take (k + 1 - 1) (heldOf l)) = omega (arith, w .7, z .loop .inv .2, m) in
-      let s =
-          w .6 ∙ put-yes l k long (omega arith) (omega arith) p (z .loop .part) (w .3 .last .0) at e n (z .loop .inv .2) (z .loop .inv .3) (w .3 .ensures)
-          ∙ ap (λ (x : ℕ). upTo l (k + 1 - 1) ++ drop x p) (sym (w .7)) in
-      (omega arith, omega arith, a, s, ap length s ∙ put-length l k long (omega arith) (omega arith) p (c .if1 .at) n a (omega (arith, a, m, r))))
+    let e = sym (c .before .has-line .ensures) ∙ w .0 .taken in
+    let m = level-yes (getD l 0 0) (getD l 4 0) (getD l 1 0) k (omega arith) (omega arith) e in
+    let r = level-room (getD l 0 0) (getD l 4 0) (getD l 1 0) k (omega arith) (omega arith) e in
+    let a : c .if1 .at ≡ 1027 * lines (take (k + 1 - 1) (heldOf l)) = omega (arith, w .7, z .loop .inv .2, m) in
+    let s =
+    w .6 ∙ put-yes l k long (omega arith) (omega arith) p (z .loop .part) (w .3 .last .0) at e n (z .loop .inv .2) (z .loop .inv .3) (w .3 .ensures)
+    ∙ ap (λ (x : ℕ). upTo l (k + 1 - 1) ++ drop x p) (sym (w .7)) in
+    (omega arith, omega arith, a, s, ap length s ∙ put-length l k long (omega arith) (omega arith) p (c .if1 .at) n a (omega (arith, a, m, r))))
     (λ w.
-      let e = sym (c .before .has-line .ensures) ∙ w .0 .left in
-      let m = level-no (getD l 0 0) (getD l 4 0) (getD l 1 0) k (omega arith) (omega arith) e in
-      let a : c .if1 .at ≡ 1027 * lines (take (k + 1 - 1) (heldOf l)) = omega (arith, w .2, z .loop .inv .2, m) in
-      let s =
-          w .1 ∙ z .loop .inv .3 ∙ ap (λ (x : List ℕ). x ++ drop at p) (put-no l k long (omega arith) (omega arith) e)
-          ∙ ap (λ (x : ℕ). upTo l (k + 1 - 1) ++ drop x p) (sym (w .2)) in
-      (omega arith, omega arith, a, s, ap length (w .1) ∙ z .loop .inv .4))
+    let e = sym (c .before .has-line .ensures) ∙ w .0 .left in
+    let m = level-no (getD l 0 0) (getD l 4 0) (getD l 1 0) k (omega arith) (omega arith) e in
+    let a : c .if1 .at ≡ 1027 * lines (take (k + 1 - 1) (heldOf l)) = omega (arith, w .2, z .loop .inv .2, m) in
+    let s =
+    w .1 ∙ z .loop .inv .3 ∙ ap (λ (x : List ℕ). x ++ drop at p) (put-no l k long (omega arith) (omega arith) e)
+    ∙ ap (λ (x : ℕ). upTo l (k + 1 - 1) ++ drop x p) (sym (w .2)) in
+    (omega arith, omega arith, a, s, ap length (w .1) ∙ z .loop .inv .4))
     (c .if1 .came)
 
 same-length : tie.Need-same-length Inv-loop μ-loop

@@ -117,28 +117,26 @@ loop-again c =
     let k = z .loop .k in
     ⊎-elim
     (λ w.
-      let e = sym (c .before .has-line .ensures) ∙ w .0 .taken in
-      let m = level-room (getD l 0 0) (getD l 4 0) (getD l 1 0) k (omega arith) (omega arith) e in
-      let n = level-yes (getD l 0 0) (getD l 4 0) (getD l 1 0) k (omega arith) (omega arith) e in
-      let s =
-          same-line-yes l k (omega arith) (omega arith) (omega arith) t (z .loop .at) (w .3 .result) e (omega (arith, m, z .loop .inv .2)) (w .3 .ensures)
-          (not-false (w .3 .result) (w .4 .left)) in
-      (
-        omega arith,
-        omega arith,
-        omega (arith, w .5, z .loop .inv .2, n),
-        ap (λ (x : ℕ). same (from l (k + 1 - 1)) (drop x t)) (w .5) ∙ sym s ∙ z .loop .inv .3,
-      ))
+    let e = sym (c .before .has-line .ensures) ∙ w .0 .taken in
+    let m = level-room (getD l 0 0) (getD l 4 0) (getD l 1 0) k (omega arith) (omega arith) e in
+    let n = level-yes (getD l 0 0) (getD l 4 0) (getD l 1 0) k (omega arith) (omega arith) e in
+    let s =
+    same-line-yes l k (omega arith) (omega arith) (omega arith) t (z .loop .at) (w .3 .result) e (omega (arith, m, z .loop .inv .2)) (w .3 .ensures)
+    (not-false (w .3 .result) (w .4 .left)) in (
+      omega arith,
+      omega arith,
+      omega (arith, w .5, z .loop .inv .2, n),
+      ap (λ (x : ℕ). same (from l (k + 1 - 1)) (drop x t)) (w .5) ∙ sym s ∙ z .loop .inv .3,
+    ))
     (λ w.
-      let e = sym (c .before .has-line .ensures) ∙ w .0 .left in
-      let n = level-no (getD l 0 0) (getD l 4 0) (getD l 1 0) k (omega arith) (omega arith) e in
-      (
-        omega arith,
-        omega arith,
-        omega (arith, w .1, z .loop .inv .2, n),
-        ap (λ (x : ℕ). same (from l (k + 1 - 1)) (drop x t)) (w .1)
-        ∙ ap (λ (x : List ℕ). same x (drop (z .loop .at) t)) (sym (from-no l k (omega arith) (omega arith) (omega arith) e)) ∙ z .loop .inv .3,
-      ))
+    let e = sym (c .before .has-line .ensures) ∙ w .0 .left in
+    let n = level-no (getD l 0 0) (getD l 4 0) (getD l 1 0) k (omega arith) (omega arith) e in (
+      omega arith,
+      omega arith,
+      omega (arith, w .1, z .loop .inv .2, n),
+      ap (λ (x : ℕ). same (from l (k + 1 - 1)) (drop x t)) (w .1)
+          ∙ ap (λ (x : List ℕ). same x (drop (z .loop .at) t)) (sym (from-no l k (omega arith) (omega arith) (omega arith) e)) ∙ z .loop .inv .3,
+    ))
     (c .if1 .came)
 
 returns-2 : tie.Need-returns-2 Inv-loop μ-loop

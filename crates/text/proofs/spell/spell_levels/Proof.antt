@@ -124,17 +124,17 @@ loop-again c =
     let k = z .loop .k in
     ⊎-elim
     (λ w.
-      let e = sym (c .before .has-line .ensures) ∙ w .0 .taken in
-      let n = level-yes (getD l 0 0) (getD l 4 0) (getD l 1 0) k (omega arith) (omega arith) e in
-      let s =
-          w .6 ∙ level-line l t (p .0) (p .1) k (omega arith) (omega arith) (z .loop .area) (w .3 .last .0) (z .loop .at) e (z .loop .inv .3) (z .loop .inv .2)
-          (w .3 .ensures) in
-      (omega arith, omega arith, omega (arith, w .7, z .loop .inv .2, n), s, ap length s ∙ after-length l t (p .0) (p .1) (k + 1 - 1) (omega arith)))
+    let e = sym (c .before .has-line .ensures) ∙ w .0 .taken in
+    let n = level-yes (getD l 0 0) (getD l 4 0) (getD l 1 0) k (omega arith) (omega arith) e in
+    let s =
+    w .6 ∙ level-line l t (p .0) (p .1) k (omega arith) (omega arith) (z .loop .area) (w .3 .last .0) (z .loop .at) e (z .loop .inv .3) (z .loop .inv .2)
+    (w .3 .ensures) in
+    (omega arith, omega arith, omega (arith, w .7, z .loop .inv .2, n), s, ap length s ∙ after-length l t (p .0) (p .1) (k + 1 - 1) (omega arith)))
     (λ w.
-      let e = sym (c .before .has-line .ensures) ∙ w .0 .left in
-      let n = level-no (getD l 0 0) (getD l 4 0) (getD l 1 0) k (omega arith) (omega arith) e in
-      let s = w .1 ∙ z .loop .inv .3 ∙ level-no-line l t (p .0) (p .1) k (omega arith) (omega arith) e in
-      (omega arith, omega arith, omega (arith, w .2, z .loop .inv .2, n), s, ap length (w .1) ∙ z .loop .inv .4))
+    let e = sym (c .before .has-line .ensures) ∙ w .0 .left in
+    let n = level-no (getD l 0 0) (getD l 4 0) (getD l 1 0) k (omega arith) (omega arith) e in
+    let s = w .1 ∙ z .loop .inv .3 ∙ level-no-line l t (p .0) (p .1) k (omega arith) (omega arith) e in
+    (omega arith, omega arith, omega (arith, w .2, z .loop .inv .2, n), s, ap length (w .1) ∙ z .loop .inv .4))
     (c .if1 .came)
 
 same-length : tie.Need-same-length Inv-loop μ-loop

@@ -1,0 +1,109 @@
+// The program of document 01: the first line of standard input says d, L, r and the key, and the rest is the message. It goes
+// through the stream's calls a read at a time, so that a message of any length needs fixed memory.
+ghost use Prim.Native.Nat.{_*_, _≤_};
+ghost use lib.ListN.{length};
+use libc::STDIN_FILENO;
+use libc::STDOUT_FILENO;
+use stream::Area;
+
+mod first; // first.rt: the first line, and the stream that it opens
+mod text; // text.rt: what is printed
+
+// What a read of the message came to.
+enum Input {
+    More,
+    End,
+    Failed,
+}
+
+// Feeds the bytes of a piece and prints the nodes that are made. Answers whether all went well.
+fn feed_piece(area: &mut [u64], piece: &[u8], log: &mut [u64]) -> bool
+    requires { ⌜ (length (now piece) ≤ 65536) × (length (now log) ≤ 566) ⌝ }
+{
+    let answer = stream::feed(area, piece, 8 * piece.len() as u64, log);
+    if answer.number != 0 {
+        return false;
+    }
+    text::print_nodes(log, answer.count)
+}
+
+// Reads once and feeds what came.
+fn feed_some(area: &mut [u64], buf: &mut [u8], log: &mut [u64]) -> Input
+    requires { ⌜ (length (now buf) ≤ 65536) × (length (now log) ≤ 566) ⌝ }
+{
+    let got = libc::read(STDIN_FILENO, buf);
+    if got < 0 {
+        return Input::Failed;
+    }
+    if got == 0 {
+        return Input::End;
+    }
+    let n = io::count(got, buf);
+    if feed_piece(area, &buf[..n], log) {
+        return Input::More;
+    }
+    Input::Failed
+}
+
+// Feeds all that is left of the input, and answers whether all went well. The turns are counted down because a loop has to
+// end; no input uses them up.
+fn feed_rest(area: &mut [u64], buf: &mut [u8], log: &mut [u64]) -> bool
+    requires { ⌜ (length (now buf) ≤ 65536) × (length (now log) ≤ 566) ⌝ }
+{
+    let mut turns = u64::MAX;
+    while turns > 0 {
+        match feed_some(area, buf, log) {
+            Input::End => {
+                return true;
+            }
+            Input::Failed => {
+                return false;
+            }
+            Input::More => {
+                turns -= 1;
+            }
+        }
+    }
+    false
+}
+
+// Ends the stream, and prints the last nodes and the digest.
+fn end_stream(area: &mut [u64], d: u64, log: &mut [u64])
+    requires { ⌜ length (now log) ≤ 566 ⌝ }
+{
+    let mut digest = [0u8; 64];
+    let answer = stream::close::end(area, &mut digest, log);
+    if answer.number != 0 {
+        return;
+    }
+    if text::print_nodes(log, answer.count) {
+        text::print_digest(&digest, d);
+    }
+}
+
+// Hashes the rest of the input; what was read behind the first line comes first.
+fn hash_input(area: &mut [u64], d: u64, buf: &mut [u8], from: usize, to: usize)
+    requires { ⌜ (from ≤ to) × (to ≤ length (now buf)) × (length (now buf) ≤ 65536) ⌝ }
+{
+    let mut log = [0u64; 566];
+    if !feed_piece(&mut *area, &buf[from..to], &mut log) {
+        return;
+    }
+    if feed_rest(&mut *area, buf, &mut log) {
+        end_stream(area, d, &mut log);
+    }
+}
+
+fn main() {
+    let mut buf = io::large_buffer();
+    let mut area = [0u64; Area::WORDS];
+    let line = first::read_line(&mut buf);
+    match first::open_stream(&mut area, line) {
+        first::Opening::Failed => {}
+        first::Opening::Unreadable => {
+            io::write_all(STDOUT_FILENO, b"refused line\n");
+        }
+        first::Opening::Refused(number) => text::print_refusal(number),
+        first::Opening::Opened(d) => hash_input(&mut area, d, &mut buf, line.from, line.to),
+    }
+}

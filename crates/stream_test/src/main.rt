@@ -1,0 +1,379 @@
+// Runs the stream's calls on the rows of document 01's "Reels by hand", fed whole and cut, and on every refusal. A call writes a
+// line: its number, its count, and whether the area, the words past the area and the log past the nodes are as before; then a
+// line U V for each node; an end then writes its output. tests/stream/expected.py makes the expected lines.
+ghost use Prim.Native.Nat.{_≤_};
+use libc::STDOUT_FILENO;
+
+// What lent words hold before a call that does not need them.
+const FILL: u64 = 0xa5a5a5a5a5a5a5a5;
+
+fn wide(b: u8) -> u64 {
+    b as u64
+}
+
+// Writes bytes in hexadecimal, and ends the line.
+fn print_bytes(bytes: &[u8]) {
+    let mut i = 0;
+    while i < bytes.len() {
+        io::print_hex(STDOUT_FILENO, wide(bytes[i]), 2);
+        i += 1;
+    }
+    io::write_all(STDOUT_FILENO, b"\n");
+}
+
+// What follows a word of the log: V stands after U, and ends the line.
+fn print_between(i: usize) {
+    if i % 2 == 0 {
+        io::write_all(STDOUT_FILENO, b" ");
+        return;
+    }
+    io::write_all(STDOUT_FILENO, b"\n");
+}
+
+// Writes the first words of a log, a node a line.
+fn print_nodes(log: &[u64], words: usize) {
+    let mut i = 0;
+    while i < log.len() {
+        if words <= i {
+            return;
+        }
+        io::print_hex(STDOUT_FILENO, log[i], 16);
+        print_between(i);
+        i += 1;
+    }
+}
+
+// Copies as many words as both have.
+fn copy(to: &mut [u64], from: &[u64]) {
+    let mut i = 0;
+    while i < to.len() {
+        if from.len() <= i {
+            return;
+        }
+        to[i] = from[i];
+        i += 1;
+    }
+}
+
+// Whether words are those of a copy, from a place on.
+fn is_same(words: &[u64], before: &[u64], from: usize) -> bool {
+    let mut i = from;
+    while i < words.len() {
+        if before.len() <= i {
+            return false;
+        }
+        if words[i] != before[i] {
+            return false;
+        }
+        i += 1;
+    }
+    true
+}
+
+fn print_same(words: &[u64], before: &[u64], from: usize) {
+    if is_same(words, before, from) {
+        io::write_all(STDOUT_FILENO, b" same");
+        return;
+    }
+    io::write_all(STDOUT_FILENO, b" changed");
+}
+
+// The log words of so many nodes, if they are few.
+fn node_words(count: u64) -> usize {
+    if count < 1000 {
+        return 2 * count as usize;
+    }
+    2000
+}
+
+// Writes what a call answered and what it changed.
+fn report(
+    number: u64,
+    count: u64,
+    area: &[u64],
+    area_before: &[u64],
+    log: &[u64],
+    log_before: &[u64],
+) {
+    io::print_decimal(STDOUT_FILENO, number);
+    io::write_all(STDOUT_FILENO, b" ");
+    io::print_decimal(STDOUT_FILENO, count);
+    print_same(area, area_before, 0);
+    print_same(area, area_before, 1744);
+    print_same(log, log_before, node_words(count));
+    io::write_all(STDOUT_FILENO, b"\n");
+    print_nodes(log, node_words(count));
+}
+
+fn open(area: &mut [u64], key: &[u8], d: u64, limit: u64, rounds: u64) {
+    let mut before = [0u64; 1750];
+    let none = [0u64; 0];
+    copy(&mut before, &*area);
+    let answer = stream::open(&mut *area, key, d, limit, rounds);
+    report(answer.number, answer.count, &*area, &before, &none, &none);
+}
+
+fn feed_log(area: &mut [u64], piece: &[u8], bits: u64, log: &mut [u64]) {
+    let mut area_before = [0u64; 1750];
+    let mut log_before = [0u64; 64];
+    copy(&mut area_before, &*area);
+    copy(&mut log_before, &*log);
+    let answer = stream::feed(&mut *area, piece, bits, &mut *log);
+    report(
+        answer.number,
+        answer.count,
+        &*area,
+        &area_before,
+        &*log,
+        &log_before,
+    );
+}
+
+// A feed with a log of so many words.
+fn feed(area: &mut [u64], piece: &[u8], bits: u64, words: usize)
+    requires { ⌜ words ≤ 64 ⌝ }
+{
+    let mut log = [FILL; 64];
+    feed_log(area, piece, bits, &mut log[..words]);
+}
+
+fn end_log(area: &mut [u64], digest: &mut [u8], log: &mut [u64]) {
+    let mut area_before = [0u64; 1750];
+    let mut log_before = [0u64; 64];
+    copy(&mut area_before, &*area);
+    copy(&mut log_before, &*log);
+    let answer = stream::close::end(&mut *area, &mut *digest, &mut *log);
+    report(
+        answer.number,
+        answer.count,
+        &*area,
+        &area_before,
+        &*log,
+        &log_before,
+    );
+    print_bytes(&*digest);
+}
+
+// An end with an output of so many bytes and a log of so many words.
+fn end(area: &mut [u64], room: usize, words: usize)
+    requires { ⌜ (room ≤ 3) × (words ≤ 64) ⌝ }
+{
+    let mut digest = [0xa5u8; 3];
+    let mut log = [FILL; 64];
+    end_log(area, &mut digest[..room], &mut log[..words]);
+}
+
+// Writes how many words are shown of a level.
+fn show(area: &[u64], level: u64) {
+    let part = stream::level(area, level);
+    io::print_decimal(STDOUT_FILENO, part.len() as u64);
+    io::write_all(STDOUT_FILENO, b"\n");
+}
+
+// A row of "Reels by hand" in four pieces: a message of ones, r = 0 and no key.
+fn row(limit: u64, d: u64, first: u64, second: u64, third: u64, fourth: u64) {
+    let ones = [0xffu8; 2049];
+    let mut area = [FILL; 1750];
+    open(&mut area, b"", d, limit, 0);
+    feed(&mut area, &ones, first, 64);
+    feed(&mut area, &ones, second, 64);
+    feed(&mut area, &ones, third, 64);
+    feed(&mut area, &ones, fourth, 64);
+    end(&mut area, 3, 54);
+}
+
+fn whole_rows() {
+    row(64, 8, 0, 0, 0, 0);
+    row(64, 8, 4096, 0, 0, 0);
+    row(64, 8, 4097, 0, 0, 0);
+    row(64, 8, 16384, 0, 0, 0);
+    row(64, 9, 16384, 0, 0, 0);
+    row(64, 8, 16385, 0, 0, 0);
+    row(0, 8, 0, 0, 0, 0);
+    row(0, 8, 3073, 0, 0, 0);
+    row(1, 8, 12288, 0, 0, 0);
+    row(1, 8, 12289, 0, 0, 0);
+}
+
+// The rows cut at the edges of the first block.
+fn cut_rows() {
+    row(64, 8, 1, 4095, 0, 0);
+    row(64, 8, 1, 4095, 1, 0);
+    row(64, 8, 1, 4095, 1, 12287);
+    row(64, 9, 1, 4095, 1, 12287);
+    row(64, 8, 1, 4095, 1, 12288);
+    row(0, 8, 3071, 1, 1, 0);
+    row(1, 8, 1, 4095, 1, 8191);
+    row(1, 8, 1, 4095, 1, 8192);
+}
+
+// Changes a word, if there is one.
+fn set(area: &mut [u64], at: usize, value: u64) {
+    if at < area.len() {
+        area[at] = value;
+    }
+}
+
+// Opens an area under the key "key" and feeds it ones.
+fn prepare(area: &mut [u64], limit: u64, bits: u64) {
+    let ones = [0xffu8; 2049];
+    let mut log = [FILL; 64];
+    stream::open(&mut *area, b"key", 8, limit, 0);
+    stream::feed(&mut *area, &ones, bits, &mut log);
+}
+
+// A feed, an end and a level of an area in which one word was changed.
+fn altered(limit: u64, bits: u64, at: usize, value: u64) {
+    let mut area = [FILL; 1750];
+    prepare(&mut area, limit, bits);
+    set(&mut area, at, value);
+    feed(&mut area, b"a", 8, 64);
+    end(&mut area, 3, 54);
+    show(&area, 1);
+}
+
+// The same of an area that has ended.
+fn altered_ended(limit: u64, bits: u64, at: usize, value: u64) {
+    let mut area = [FILL; 1750];
+    let mut digest = [0u8; 1];
+    let mut log = [FILL; 54];
+    prepare(&mut area, limit, bits);
+    stream::close::end(&mut area, &mut digest, &mut log);
+    set(&mut area, at, value);
+    feed(&mut area, b"a", 9, 0);
+    end(&mut area, 0, 0);
+    show(&area, 1);
+}
+
+// Words before the levels that make an area unsound.
+fn unsound_heads() {
+    altered(64, 1, 0, 0);
+    altered(64, 1, 0, 3);
+    altered(64, 1, 1, 0);
+    altered(64, 1, 2, 2);
+    altered(64, 1, 2, 65);
+    altered(64, 1, 3, 0);
+    altered(64, 1, 3, 513);
+    altered(64, 1, 3, 4294967304);
+    altered(64, 1, 4, 65);
+    altered(64, 1, 5, 256);
+    altered(64, 1, 6, 0x6b65790000000001);
+    altered(64, 1, 13, 1);
+    altered(64, 1, 14, 1);
+    altered(64, 4097, 14, 0);
+    altered(64, 1, 15, 1);
+}
+
+// Levels that make an area unsound: a bit behind the held ones, in a level above the sequential one, or where no sequential
+// output is yet.
+fn unsound_levels() {
+    altered(64, 1, 16, 0xc000000000000000);
+    altered(64, 4095, 79, 0xffffffffffffffff);
+    altered(64, 4096, 80, 1);
+    altered(64, 4097, 96, 0x8000000000000000);
+    altered(64, 1, 1743, 1);
+    altered(0, 3072, 31, 1);
+    altered(0, 3073, 32, 0xc000000000000000);
+    altered(0, 3073, 80, 1);
+    altered(1, 4097, 95, 1);
+    altered(1, 12289, 96, 1);
+    altered(1, 12289, 144, 1);
+}
+
+// Ended areas: unsound ones, and then a sound one, which is refused by 10 before anything else.
+fn ended_areas() {
+    altered_ended(64, 1, 16, 1);
+    altered_ended(64, 1, 1743, 1);
+    altered_ended(64, 1, 14, 0);
+    altered_ended(64, 1, 0, 1);
+    altered_ended(64, 1, 1744, FILL);
+}
+
+// Areas with another word changed that are sound, as it may hold anything there.
+fn sound_areas() {
+    altered(64, 1, 16, 0);
+    altered(64, 4096, 79, 0);
+    altered(0, 3073, 31, 0);
+    altered(64, 1, 1744, FILL);
+}
+
+// The refusals of open, each with all later ones as well.
+fn refused_opens() {
+    let key = [0x6bu8; 65];
+    let mut area = [FILL; 1744];
+    let mut short = [FILL; 1743];
+    open(&mut short, &key, 0, 65, 256);
+    open(&mut area, &key, 0, 65, 256);
+    open(&mut area, &key, 513, 65, 256);
+    open(&mut area, &key, 4294967304, 65, 256);
+    open(&mut area, &key, 512, 65, 256);
+    open(&mut area, b"", 1, 65, 256);
+    open(&mut area, b"", 1, 64, 256);
+    open(&mut area, b"", 1, 64, 255);
+}
+
+// An open area without its last word.
+fn short_area() {
+    let mut area = [FILL; 1750];
+    let mut short = [FILL; 1743];
+    prepare(&mut area, 64, 1);
+    copy(&mut short, &area);
+    feed(&mut short, b"a", 9, 0);
+    end(&mut short, 0, 0);
+    show(&short, 1);
+}
+
+// Logs and outputs that are too short by one, and long enough.
+fn short_logs() {
+    let mut area = [FILL; 1750];
+    prepare(&mut area, 64, 4096);
+    feed(&mut area, b"a", 9, 0);
+    feed(&mut area, b"a", 18446744073709551615, 0);
+    feed(&mut area, b"a", 1, 1);
+    feed(&mut area, b"", 0, 0);
+    feed(&mut area, b"a", 1, 2);
+    end(&mut area, 0, 3);
+    end(&mut area, 1, 3);
+    end(&mut area, 1, 4);
+}
+
+// An area of 2^64 - 2 zero bits, up to the longest end.
+fn long_stream() {
+    let mut area = [FILL; 1750];
+    prepare(&mut area, 64, 0);
+    set(&mut area, 1, 18446744073709551614);
+    set(&mut area, 14, 6004799503160634);
+    feed(&mut area, b"a", 2, 0);
+    feed(&mut area, b"a", 9, 0);
+    feed(&mut area, b"a", 1, 0);
+    feed(&mut area, b"a", 1, 0);
+    end(&mut area, 3, 53);
+    end(&mut area, 3, 54);
+    io::print_decimal(STDOUT_FILENO, area[14]);
+    io::write_all(STDOUT_FILENO, b"\n");
+}
+
+// The levels that there are, and those that there are not.
+fn levels() {
+    let mut area = [FILL; 1750];
+    prepare(&mut area, 64, 1);
+    show(&area, 0);
+    show(&area, 1);
+    show(&area, 27);
+    show(&area, 28);
+    show(&area, 9223372036854775808);
+}
+
+fn main() {
+    whole_rows();
+    cut_rows();
+    refused_opens();
+    short_area();
+    unsound_heads();
+    unsound_levels();
+    sound_areas();
+    ended_areas();
+    short_logs();
+    long_stream();
+    levels();
+}

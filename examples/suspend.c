@@ -1,0 +1,66 @@
+/* A stream fed in pieces, suspended as text, read into another area, and ended there; its digest is the whole message's. */
+#include <inttypes.h>
+#include <stdio.h>
+#include <stdlib.h>
+#include <string.h>
+
+#include "../include/md6.h"
+
+enum { D = 256, LIMIT = 64, LOG_WORDS = 256 };
+
+static void need(int good, const char *what)
+{
+    if (!good) {
+        fprintf(stderr, "suspend: %s was refused\n", what);
+        exit(1);
+    }
+}
+
+static void show_nodes(const uint64_t *log, uint64_t count)
+{
+    uint64_t i;
+
+    for (i = 0; i < count; i++)
+        printf("%016" PRIx64 " %016" PRIx64 "\n", log[2 * i], log[2 * i + 1]);
+}
+
+int main(void)
+{
+    static uint64_t here[MD6_AREA_WORDS], there[MD6_AREA_WORDS], log[LOG_WORDS];
+    static uint8_t text[MD6_TEXT_BYTES], message[1500];
+    uint8_t digest[D / 8], whole[D / 8];
+    uint64_t rounds = md6_default_rounds(D).count;
+    md6_answer o;
+    size_t i;
+
+    for (i = 0; i < sizeof message; i++)
+        message[i] = (uint8_t)i;
+
+    /* 1,000 bytes, then 3 bits of the next byte: cuts may fall anywhere; what a feed needs of log is told before */
+    need(md6_open(here, MD6_AREA_WORDS, NULL, 0, D, LIMIT, rounds).number == 0, "open");
+    need(md6_log_words(8 * 1000 + 3).count <= LOG_WORDS, "a log of that size");
+    o = md6_feed(here, MD6_AREA_WORDS, message, 1001, 8 * 1000 + 3, log, LOG_WORDS);
+    need(o.number == 0, "feed");
+    show_nodes(log, o.count);
+
+    /* the stream as text; from the read on it is in the other area */
+    o = md6_write(here, MD6_AREA_WORDS, text, sizeof text);
+    need(o.number == 0, "write");
+    need(md6_read(there, MD6_AREA_WORDS, text, (size_t)o.count).number == 0, "read");
+
+    /* the other 5 bits of that byte, moved to the front of a byte of their own, and the rest */
+    text[0] = (uint8_t)(message[1000] << 3);
+    need(md6_feed(there, MD6_AREA_WORDS, text, 1, 5, log, LOG_WORDS).number == 0, "feed");
+    o = md6_feed(there, MD6_AREA_WORDS, message + 1001, 499, 8 * 499, log, LOG_WORDS);
+    need(o.number == 0, "feed");
+    show_nodes(log, o.count);
+    o = md6_end(there, MD6_AREA_WORDS, digest, sizeof digest, log, LOG_WORDS);
+    need(o.number == 0, "end");
+    show_nodes(log, o.count);
+    for (i = 0; i < sizeof digest; i++)
+        printf("%02x", (unsigned)digest[i]);
+    printf("\n");
+
+    need(md6_hash(message, sizeof message, 8 * sizeof message, NULL, 0, D, LIMIT, rounds, whole, sizeof whole) == 0, "hash");
+    return memcmp(digest, whole, sizeof digest) != 0;
+}

@@ -1,0 +1,182 @@
+/* A host in C: suspended streams of the archive.
+ *
+ *   text [SEED]
+ *
+ * Random runs of 200 calls: feeds cut at random, refused calls, suspensions into a dirty area; the digest at the end is compared
+ * with md6_hash of the joined message. Then damaged texts: whatever is read must write back to itself, and whatever is refused
+ * must change nothing.
+ */
+#include <inttypes.h>
+#include <stdlib.h>
+#include <time.h>
+
+#include "../../include/md6.h"
+#include "guard.h"
+#include "random.h"
+
+enum { RUNS = 300, CALLS = 200, DAMAGED = 100000, MESSAGE_BYTES = 100000, PIECE_BYTES = 1100, LOG_WORDS = 256 };
+
+static uint64_t bad;
+
+static void expect(int good, const char *what)
+{
+    if (!good) {
+        bad++;
+        printf("wrong: %s\n", what);
+    }
+}
+
+/* the bits of a piece behind those of the message */
+static void join(uint8_t *message, uint64_t at, const uint8_t *piece, uint64_t bits)
+{
+    uint64_t i;
+
+    for (i = 0; i < bits; i++) {
+        unsigned bit = piece[i / 8] >> (7 - i % 8) & 1u;
+        uint64_t to = at + i;
+        message[to / 8] = (uint8_t)((message[to / 8] & ~(0x80u >> to % 8)) | bit << (7 - to % 8));
+    }
+}
+
+/* writes the stream and reads it into the other area, with refused calls between; the areas change places */
+static void suspend(uint64_t **area, uint64_t **other)
+{
+    static uint8_t text[MD6_TEXT_BYTES + 8], again[MD6_TEXT_BYTES];
+    uint64_t *a = *area, log[2];
+    uint8_t digest[64];
+    md6_answer o = md6_write(a, MD6_AREA_WORDS, text, sizeof text), r;
+
+    expect(o.number == 0 && o.count <= MD6_TEXT_BYTES, "write");
+    expect(md6_write(a, MD6_AREA_WORDS, again, (size_t)o.count - 1).number == 9, "write to a short output");
+    expect(md6_feed(a, MD6_AREA_WORDS, digest, 1, 9, log, 2).number != 0, "feed of too many bits");
+    random_bytes((uint8_t *)*other, 8 * MD6_AREA_WORDS);
+    expect(md6_read(*other, MD6_AREA_WORDS, text, (size_t)o.count - 1).number == 11, "read of a short text");
+    expect(md6_read(*other, MD6_AREA_WORDS - 1, text, (size_t)o.count).number == 7, "read into a short area");
+    r = md6_read(*other, MD6_AREA_WORDS, text, (size_t)o.count);
+    expect(r.number == 0 && r.count == 0, "read");
+    expect(memcmp(*other, a, 8 * MD6_AREA_WORDS) == 0, "the area read back");
+    *area = *other;
+    *other = a;
+}
+
+static void one_run(void)
+{
+    static uint64_t areas[2][MD6_AREA_WORDS];
+    static uint8_t message[MESSAGE_BYTES];
+    uint64_t *area = areas[0], *other = areas[1], total = 0, log[LOG_WORDS];
+    uint64_t d = 1 + below(512), limit = below(2) == 0 ? below(4) : below(65), rounds = below(6);
+    uint8_t key[64], piece[PIECE_BYTES], digest[64], whole[64];
+    size_t key_bytes = (size_t)below(65), size = (size_t)(d + 7) / 8;
+    int i, ended = 0;
+    md6_answer o;
+
+    random_bytes(key, sizeof key);
+    expect(md6_open(area, MD6_AREA_WORDS, key, key_bytes, d, limit, rounds).number == 0, "open");
+    for (i = 0; i < CALLS; i++) {
+        uint64_t n = below(2) == 0 ? below(8 * PIECE_BYTES) : below(20);
+
+        switch (below(8)) {
+        case 0:
+            suspend(&area, &other);
+            break;
+        case 1:
+            expect(md6_open(area, MD6_AREA_WORDS, key, key_bytes, 0, limit, rounds).number == 1, "a refused open");
+            break;
+        case 2:
+            if (!ended && i > CALLS / 2 && below(8) == 0) {
+                o = md6_end(area, MD6_AREA_WORDS, digest, size, log, LOG_WORDS);
+                expect(o.number == 0, "end");
+                ended = 1;
+            }
+            break;
+        default:
+            random_bytes(piece, sizeof piece);
+            if (total + n > 8 * MESSAGE_BYTES)
+                break;
+            o = md6_feed(area, MD6_AREA_WORDS, piece, sizeof piece, n, log, LOG_WORDS);
+            expect(o.number == (ended ? 10 : 0), "feed");
+            if (o.number == 0) {
+                join(message, total, piece, n);
+                total += n;
+            }
+        }
+    }
+    if (!ended)
+        expect(md6_end(area, MD6_AREA_WORDS, digest, size, log, LOG_WORDS).number == 0, "end");
+    suspend(&area, &other);
+    expect(md6_end(area, MD6_AREA_WORDS, digest, size, log, LOG_WORDS).number == 10, "end after the end");
+    md6_hash(message, sizeof message, total, key, key_bytes, d, limit, rounds, whole, size);
+    expect(memcmp(digest, whole, size) == 0, "digest of a run");
+}
+
+/* a change of a text: bytes, lines, its end */
+static size_t damage(uint8_t *text, size_t n)
+{
+    static const char wild[] = "0123456789abcdefABCDEF \n\r-gG";
+    size_t k = (size_t)below(4) == 0 ? 1 + (size_t)below(3) : 1, i;
+
+    for (i = 0; i < k; i++)
+        switch (below(8)) {
+        case 0:
+            text[below(n)] = (uint8_t)next();
+            break;
+        case 1:
+            n -= 1 + (size_t)below(3);
+            break;
+        case 2:
+            text[n++] = (uint8_t)(below(2) == 0 ? 10 : '0');
+            break;
+        case 3:
+            if (n > 174 + 1027) {           /* one line left out */
+                memmove(text + 174, text + 174 + 1027, n - 174 - 1027);
+                n -= 1027;
+            }
+            break;
+        case 4:
+            text[below(44)] = (uint8_t)wild[below(16)];
+            break;
+        case 5:
+            text[below(n)] = (uint8_t)wild[below(16)];
+            break;
+        default:
+            text[below(n)] = (uint8_t)wild[below(sizeof wild - 1)];
+        }
+    return n;
+}
+
+static void one_damage(uint64_t *read)
+{
+    static uint64_t area[MD6_AREA_WORDS], into[MD6_AREA_WORDS], kept[MD6_AREA_WORDS];
+    static uint8_t text[MD6_TEXT_BYTES + 64], again[MD6_TEXT_BYTES], piece[8192];
+    uint64_t log[LOG_WORDS], limit = below(2) == 0 ? below(4) : below(65);
+    size_t n;
+    md6_answer o;
+
+    md6_open(area, MD6_AREA_WORDS, piece, (size_t)below(65), 1 + below(512), limit, below(3));
+    md6_feed(area, MD6_AREA_WORDS, piece, sizeof piece, below(8 * sizeof piece), log, LOG_WORDS);
+    n = damage(text, (size_t)md6_write(area, MD6_AREA_WORDS, text, MD6_TEXT_BYTES).count);
+    random_bytes((uint8_t *)into, sizeof into);
+    memcpy(kept, into, sizeof into);
+    o = md6_read(into, MD6_AREA_WORDS, text, n);
+    if (o.number == 0) {
+        md6_answer w = md6_write(into, MD6_AREA_WORDS, again, sizeof again);
+        expect(w.number == 0 && w.count == n && memcmp(text, again, n) == 0, "a text that is read writes back as itself");
+        ++*read;
+    } else
+        expect(o.number == 11 && o.count == 0 && memcmp(kept, into, sizeof into) == 0, "a refused read changed something");
+}
+
+int main(int argc, char **argv)
+{
+    uint64_t seed = argc > 1 ? strtoull(argv[1], NULL, 0) : (uint64_t)time(NULL), read = 0;
+    int i;
+
+    random_seed(seed);
+    printf("seed %" PRIu64 ": %d runs of %d calls, %d damaged texts\n", seed, RUNS, CALLS, DAMAGED);
+    for (i = 0; i < RUNS; i++)
+        one_run();
+    for (i = 0; i < DAMAGED; i++)
+        one_damage(&read);
+    printf("%" PRIu64 " damaged texts are texts all the same; %" PRIu64 " wrong\n", read, bad);
+    return bad != 0;
+}
