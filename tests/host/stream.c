@@ -2,7 +2,7 @@
  *
  *   stream [SEED]
  *
- * Random messages, cut at random, are fed and ended, and the digest is compared with md6_hash's and the joined counts with the
+ * The rows of document 01's "Reels by hand" are fed whole, bit by bit, and cut at every edge. Random messages, cut at random, are fed and ended, and the digest is compared with md6_hash's and the joined counts with the
  * number of nodes of the second program's tree. Then random calls on damaged areas: whatever is refused must change nothing.
  */
 #define main second_main
@@ -154,6 +154,53 @@ static void one_cutting(void)
     guarded_free(&area);
 }
 
+/* document 01, "Reels by hand": bits, L and d; the message is all ones and r = 0 */
+static const struct row { uint64_t bits, limit, d; } rows[] = {
+    { 0, 64, 8 }, { 4096, 64, 8 }, { 4097, 64, 8 }, { 16384, 64, 8 }, { 16384, 64, 9 },
+    { 16385, 64, 8 }, { 0, 0, 8 }, { 3073, 0, 8 }, { 12288, 1, 8 }, { 12289, 1, 8 },
+};
+
+/* a row fed whole, bit by bit, or cut once at a bit: its log and digest are the second program's tree's */
+static void one_row(const struct row *row, uint64_t first, uint64_t step)
+{
+    static uint8_t ones[2100];
+    static uint64_t expected[LOG_WORDS], joined[LOG_WORDS], area[MD6_AREA_WORDS];
+    struct params p = { .key_bytes = 0, .d = row->d, .limit = row->limit, .rounds = 0 };
+    uint8_t digest[2], second[64];
+    uint64_t at = 0, n = first;
+    size_t logged = 0, words;
+    md6_answer o;
+
+    memset(ones, 0xff, sizeof ones);
+    expect(md6_open(area, MD6_AREA_WORDS, NULL, 0, p.d, p.limit, 0).number == 0, "open of a row");
+    while (at < row->bits) {
+        n = at == 0 ? first : step;
+        n = n < row->bits - at ? n : row->bits - at;
+        o = md6_feed(area, MD6_AREA_WORDS, ones, sizeof ones, n, joined + logged, (size_t)md6_log_words(n).count);
+        expect(o.number == 0, "feed of a row");
+        logged += 2 * (size_t)o.count;
+        at += n;
+    }
+    o = md6_end(area, MD6_AREA_WORDS, digest, sizeof digest, joined + logged, MD6_END_LOG_WORDS);
+    logged += 2 * (size_t)o.count;
+    words = second_tree(&p, ones, row->bits, expected, second);
+    expect(o.number == 0 && logged == words && memcmp(joined, expected, 8 * words) == 0, "log of a row");
+    expect(memcmp(digest, second, (size_t)(p.d + 7) / 8) == 0, "digest of a row");
+}
+
+static void all_rows(void)
+{
+    static const uint64_t cuts[] = { 1, 7, 8, 9, 3071, 3072, 3073, 4095, 4096, 4097, 8191, 8192, 8193, 12287, 12288, 12289, 16383, 16384 };
+    size_t i, k;
+
+    for (i = 0; i < sizeof rows / sizeof *rows; i++) {
+        one_row(&rows[i], 20000, 20000);
+        one_row(&rows[i], 1, 1);
+        for (k = 0; k < sizeof cuts / sizeof *cuts; k++)
+            one_row(&rows[i], cuts[k], 20000);
+    }
+}
+
 /* a call on a damaged area: a refusal changes nothing */
 static void one_damage(void)
 {
@@ -197,6 +244,7 @@ int main(int argc, char **argv)
 
     random_seed(seed);
     printf("seed %" PRIu64 ": %d cuttings, %d calls on damaged areas\n", seed, CUTTINGS, DAMAGED);
+    all_rows();
     for (i = 0; i < CUTTINGS; i++)
         one_cutting();
     for (i = 0; i < DAMAGED; i++)

@@ -2,7 +2,7 @@
  *
  *   text [SEED]
  *
- * Random runs of 200 calls: feeds cut at random, refused calls, suspensions into a dirty area; the digest at the end is compared
+ * Suspensions at every edge, and each damage of a text that can be named. Random runs of 200 calls: feeds cut at random, refused calls, suspensions into a dirty area; the digest at the end is compared
  * with md6_hash of the joined message. Then damaged texts: whatever is read must write back to itself, and whatever is refused
  * must change nothing.
  */
@@ -109,6 +109,104 @@ static void one_run(void)
     expect(memcmp(digest, whole, size) == 0, "digest of a run");
 }
 
+/* a stream of so many bits, suspended into a dirty area, fed on to 40,000 bits and ended: the digest is the whole message's */
+static void one_edge(uint64_t bits, uint64_t limit)
+{
+    static uint64_t areas[2][MD6_AREA_WORDS];
+    static uint8_t message[5000];
+    uint64_t *area = areas[0], *other = areas[1], log[LOG_WORDS];
+    uint8_t digest[32], whole[32], rest[5000];
+    uint64_t i, left = 8 * sizeof message - bits;
+
+    random_bytes(message, sizeof message);
+    expect(md6_open(area, MD6_AREA_WORDS, message, 5, 256, limit, 3).number == 0, "open at an edge");
+    expect(md6_feed(area, MD6_AREA_WORDS, message, sizeof message, bits, log, LOG_WORDS).number == 0, "feed to an edge");
+    suspend(&area, &other);
+    memset(rest, 0, sizeof rest);
+    for (i = 0; i < left; i++)
+        rest[i / 8] |= (uint8_t)((message[(bits + i) / 8] >> (7 - (bits + i) % 8) & 1u) << (7 - i % 8));
+    expect(md6_feed(area, MD6_AREA_WORDS, rest, sizeof rest, left, log, LOG_WORDS).number == 0, "feed past an edge");
+    suspend(&area, &other);
+    expect(md6_end(area, MD6_AREA_WORDS, digest, sizeof digest, log, LOG_WORDS).number == 0, "end past an edge");
+    suspend(&area, &other);             /* an ended stream has a text too */
+    expect(md6_feed(area, MD6_AREA_WORDS, rest, 1, 1, log, LOG_WORDS).number == 10, "feed after the end");
+    md6_hash(message, sizeof message, 8 * sizeof message, message, 5, 256, limit, 3, whole, sizeof whole);
+    expect(memcmp(digest, whole, sizeof digest) == 0, "digest past an edge");
+}
+
+static void all_edges(void)
+{
+    static const uint64_t edges[] = { 0, 1, 4095, 4096, 4097, 12289, 16385 }, limits[] = { 0, 1, 2, 64 };
+    size_t i, k;
+
+    for (i = 0; i < sizeof edges / sizeof *edges; i++)
+        for (k = 0; k < sizeof limits / sizeof *limits; k++)
+            one_edge(edges[i], limits[k]);
+}
+
+/* a text that no sound area writes: refused by 11, and nothing changes */
+static void refused(const uint8_t *text, size_t n, const char *what)
+{
+    static uint64_t into[MD6_AREA_WORDS], kept[MD6_AREA_WORDS];
+    md6_answer o;
+
+    random_bytes((uint8_t *)into, sizeof into);
+    memcpy(kept, into, sizeof into);
+    o = md6_read(into, MD6_AREA_WORDS, text, n);
+    expect(o.number == 11 && o.count == 0 && memcmp(kept, into, sizeof into) == 0, what);
+}
+
+enum { LINE1 = 45, HEAD_LINES = 174, LEVEL_LINE = 1027 };
+
+/* each named damage of a text with two level lines: 4,100 ones at L = 64, no key, d = 256, r = 1 */
+static void named_damages(void)
+{
+    static uint64_t area[MD6_AREA_WORDS];
+    static uint8_t good[MD6_TEXT_BYTES], bad_text[2 * MD6_TEXT_BYTES], ones[600];
+    static const struct { size_t at; const char *digits, *what; } fields[] = {
+        { 0, "00", "phase 0" }, { 0, "02", "phase 2 with lines" }, { 0, "03", "phase 3" }, { 4, "41", "L 65" }, { 6, "41", "65 key bytes" },
+        { 8, "0000", "d 0" }, { 8, "0201", "d 513" }, { 28, "0000000000000002", "wrong compressions" }, { 12, "0000000000002001", "another total" },
+        { LINE1, "01", "a key byte past the key" }, { HEAD_LINES, "00", "level 0" }, { HEAD_LINES, "1c", "level 28" },
+        { HEAD_LINES + LEVEL_LINE, "01", "level 1 twice" }, { HEAD_LINES + 2 + 1, "F", "a capital" }, { HEAD_LINES + 2 + 2, "g", "no digit" },
+        { HEAD_LINES + 2 + 1023, "1", "an unheld bit of level 1" }, { HEAD_LINES + LEVEL_LINE + 2 + 1023, "1", "an unheld bit of level 2" },
+        { LINE1 - 1, "\r", "a line that ends otherwise" },
+    };
+    uint64_t log[LOG_WORDS];
+    size_t n, i;
+
+    memset(ones, 0xff, sizeof ones);
+    md6_open(area, MD6_AREA_WORDS, NULL, 0, 256, 64, 1);
+    md6_feed(area, MD6_AREA_WORDS, ones, sizeof ones, 4100, log, LOG_WORDS);
+    n = (size_t)md6_write(area, MD6_AREA_WORDS, good, sizeof good).count;
+    expect(n == HEAD_LINES + 2 * LEVEL_LINE && md6_read(area, MD6_AREA_WORDS, good, n).number == 0, "the text itself");
+    for (i = 0; i < sizeof fields / sizeof *fields; i++) {
+        memcpy(bad_text, good, n);
+        memcpy(bad_text + fields[i].at, fields[i].digits, strlen(fields[i].digits));
+        refused(bad_text, n, fields[i].what);
+    }
+    refused(good, 0, "no text");
+    refused(good, n - 1, "a missing last byte 10");
+    refused(good, n - LEVEL_LINE, "a missing line");
+    refused(good, HEAD_LINES, "no level line");
+    memcpy(bad_text, good, n);
+    bad_text[n] = 10;
+    refused(bad_text, n + 1, "a byte more");
+    memcpy(bad_text + n, good + HEAD_LINES + LEVEL_LINE, LEVEL_LINE);
+    refused(bad_text, n + LEVEL_LINE, "a line twice");
+    memset(bad_text + n, '0', LEVEL_LINE);
+    memcpy(bad_text + n, "03", 2);
+    bad_text[n + LEVEL_LINE - 1] = 10;
+    refused(bad_text, n + LEVEL_LINE, "a line of zeros");
+    memcpy(bad_text, good, HEAD_LINES);
+    memcpy(bad_text + HEAD_LINES, good + HEAD_LINES + LEVEL_LINE, LEVEL_LINE);
+    memcpy(bad_text + HEAD_LINES + LEVEL_LINE, good + HEAD_LINES, LEVEL_LINE);
+    refused(bad_text, n, "lines swapped");
+    memcpy(bad_text, good, LINE1 - 1);
+    memcpy(bad_text + LINE1 - 1, "\r\n", 2);
+    memcpy(bad_text + LINE1 + 1, good + LINE1, n - LINE1);
+    refused(bad_text, n + 1, "CR LF");
+}
+
 /* a change of a text: bytes, lines, its end */
 static size_t damage(uint8_t *text, size_t n)
 {
@@ -173,6 +271,8 @@ int main(int argc, char **argv)
 
     random_seed(seed);
     printf("seed %" PRIu64 ": %d runs of %d calls, %d damaged texts\n", seed, RUNS, CALLS, DAMAGED);
+    all_edges();
+    named_damages();
     for (i = 0; i < RUNS; i++)
         one_run();
     for (i = 0; i < DAMAGED; i++)
