@@ -1,6 +1,6 @@
 -- Which calls are accepted: on an area that stands for a message, and with the told log words on any area.
 -- Assumes nothing.
-use mathlib.Core.Path.{_≡_, refl, ap, _∙_}
+use mathlib.Core.Path.{_≡_, refl, ap}
 use mathlib.Core.Bool.{Bool, true, false, not}
 use mathlib.Core.List.{List, [], _++_}
 use Prim.Native.Nat.{ℕ, zero, suc, _+_, _-_, _*_, _^_, _≤_, _<_}
@@ -8,16 +8,18 @@ use native.Mathlib.Nat.{zero-add}
 use native.Mathlib.Omega.{arith}
 use borrow.Author.Tests.{ltb-true, ltb-false, le-ltb, le-leb}
 use lib.Dec.{eqb, leb, ltb}
-use lib.ListN.{length, length-append, length-map}
-use Rattle.tree.specs.Tree.{Params, Node, Mark, mostLevels, order}
-use Rattle.hash.specs.Hash.{pieceBits, orElse, refusedBits, digestBytes, refusedOutput}
-use Rattle.area.specs.Area.{areaWords, phaseOf, totalOf, paramsOf, levelWords, levelsFrom, levelsOf, emptyLevels, openCount, treeCount, sound}
+use lib.ListN.{length, length-append}
+use Rattle.tree.specs.Tree.{Params, Node, mostLevels, order, digestBytes}
+use Rattle.tree.specs.Refusals.{pieceBits, orElse, refusedBits, refusedOutput}
+use Rattle.tree.specs.Sizes.{treeNodes}
+use Rattle.area.specs.Area.{areaWords, phaseOf, totalOf, paramsOf, levelWords, levelsFrom, levelsOf, emptyLevels, openCount, sound}
 use Rattle.area.specs.Calls.{feedBits, refusedTotal, refusedLog, fedBits, feedNumber, closedBy, endNumber, shown, levelOf, logWordsOf}
 use Rattle.area.specs.Marks.{allNodes, settled}
 use Rattle.area.specs.Machine
 use Rattle.area.specs.Counts
-use Rattle.area.specs.CallLaws.{length-pieceBits}
-use Rattle.area.specs.Sound.{both-true, state-size}
+use Rattle.tree.specs.RefusalLaws.{length-pieceBits}
+use Rattle.lists.specs.Both.{both-true}
+use Rattle.area.specs.Sound.{state-size}
 use Rattle.area.specs.Stands.{state-settled, state-all, Stands, Closed, stands-sound, closed-sound}
 
 -- ---- the count of word 14 is a number of nodes
@@ -37,16 +39,6 @@ module _ (P : Params) (M : List Bool) (short : length M < 2 ^ 64) where
       none : (limit : ℕ) → openCount limit 0 ≡ 0
       none zero = refl
       none (suc n) = omega (arith, Counts.openAbove-none n)
-
-  -- ended: all nodes
-  pub treeCount-nodes : treeCount (P .limit) (length M) ≡ length (order P M)
-  treeCount-nodes =
-      let st : List (List ℕ) = feedBits P 0 M emptyLevels .levels in
-      let log : List Node = feedBits P 0 M emptyLevels .nodes in
-      let c = Counts.closing-count P (P .limit) (length M) st (state-size P (P .limit) M st log fed) short in
-      let a = ap length (state-all P M st log short fed) ∙ length-append log _ in
-      let s = ap length (state-settled P M st log short fed) in
-      omega (arith, c, a, s, openCount-nodes, length-map (order P M) (λ (m : Mark). m .node))
 
 -- ---- an area that stands for a message
 
@@ -120,7 +112,7 @@ unfolding fedBits
 fed-count area Y h = Counts.feedBits-count (paramsOf area) (totalOf area) Y (levelsOf area) (levelsOf-size area) h
 
 pub closed-count : (area : List ℕ) → totalOf area < 2 ^ 64 →
-    length (closedBy area) + openCount (paramsOf area .limit) (totalOf area) ≡ treeCount (paramsOf area .limit) (totalOf area)
+    length (closedBy area) + openCount (paramsOf area .limit) (totalOf area) ≡ treeNodes (paramsOf area .limit) (totalOf area)
 unfolding closedBy
 closed-count area h = Counts.closing-count (paramsOf area) (paramsOf area .limit) (totalOf area) (levelsOf area) (levelsOf-size area) h
 

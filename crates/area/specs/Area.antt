@@ -7,10 +7,11 @@ use Prim.Native.Nat.{ℕ, zero, suc, _+_, _-_, _*_, _/_, _%_}
 use lib.Dec.{eqb, ltb}
 use lib.ListN.{take, drop, getD, replicate}
 use Rattle.lists.specs.Concat.{concat}
-use Rattle.lists.specs.Table.{both}
+use Rattle.lists.specs.Both.{both}
 use Rattle.bits.specs.Bits.{bitsOf, numbers}
-use Rattle.tree.specs.Tree.{Params, blockBits, sequentialBits, outputBits, mostLevels, blocks}
-use Rattle.hash.specs.Hash.{refusedParams}
+use Rattle.tree.specs.Tree.{Params, blockBits, sequentialBits, outputBits, mostLevels}
+use Rattle.tree.specs.Sizes.{treeNodes}
+use Rattle.tree.specs.Refusals.{refusedParams}
 
 -- the words before the levels, the words of a level, and the words of an output
 abbrev pub headWords : ℕ
@@ -134,18 +135,9 @@ abbrev pub openCount : ℕ → ℕ → ℕ
 openCount zero T = doneBlocks sequentialBits T
 openCount (suc n) T = doneBlocks blockBits T + openAbove n (doneBlocks blockBits T)
 
--- the nodes of a whole tree above a level of m nodes: "One node only: it is the root"
-abbrev pub treeAbove : ℕ → ℕ → ℕ
-treeAbove zero m = elim (eqb m 1) [ true ↦ 0 | false ↦ blocks 3 m ]
-treeAbove (suc n) m = elim (eqb m 1) [ true ↦ 0 | false ↦ blocks 4 m + treeAbove n (blocks 4 m) ]
-
-abbrev pub treeCount : ℕ → ℕ → ℕ
-treeCount zero T = blocks sequentialBits T
-treeCount (suc n) T = blocks blockBits T + treeAbove n (blocks blockBits T)
-
 -- "the count that total, L and phase give"
 abbrev pub countFor : ℕ → ℕ → ℕ → ℕ
-countFor phase limit T = elim (eqb phase 2) [ true ↦ treeCount limit T | false ↦ openCount limit T ]
+countFor phase limit T = elim (eqb phase 2) [ true ↦ treeNodes limit T | false ↦ openCount limit T ]
 
 -- ---- soundness
 

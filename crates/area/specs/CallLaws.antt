@@ -1,61 +1,19 @@
 -- What the calls answer, accepted and refused: the laws of their definitions.
 -- Assumes nothing.
-use mathlib.Core.Path.{_≡_, refl, sym, ap, _∙_}
+use mathlib.Core.Path.{_≡_, refl, sym, ap}
 use mathlib.Core.Bool.{Bool, true, false, not}
 use mathlib.Core.List.{List, [], _∷_, _++_}
 use Prim.Native.Nat.{ℕ, zero, suc, _+_, _-_, _*_, _^_, _≤_, _<_}
 use native.Mathlib.Omega.{arith}
-use borrow.Author.Tests.{ltb-false, le-ltb, eqb-false}
+use borrow.Author.Tests.{ltb-false, eqb-false}
 use lib.Dec.{eqb, ltb}
-use lib.ListN.{length, take, drop, length-take}
+use lib.ListN.{length, take, drop}
 use lib.Seq.{take-at}
-use Rattle.lists.specs.Below.{Below}
-use Rattle.bits.specs.Bits.{bitsOf}
-use Rattle.bits.specs.BitsLaws.{length-bitsOf}
-use Rattle.tree.specs.Tree.{Params, Valid, Node}
-use Rattle.hash.specs.Hash.{pieceBits, orElse, refusedParams, digestBytes}
+use Rattle.tree.specs.Tree.{Params, Node, digestBytes}
+use Rattle.tree.specs.Refusals.{pieceBits}
+use Rattle.tree.specs.RefusalLaws.{orElse-passed}
 use Rattle.area.specs.Area.{areaWords, phaseOf, totalOf, paramsOf, sound}
 use Rattle.area.specs.Calls.{Made, logOf, logged, openNumber, openedArea, openAnswer, openOf, fedBits, feedNumber, fedArea, feedAnswer, feedOf, closedBy, endNumber, endedArea, digestOut, endAnswer, endOf}
-
--- ---- tests in their order
-
--- accepted: this test and those after it let the call pass
-pub orElse-passed : (b : Bool) (k later : ℕ) → orElse b (suc k) later ≡ 0 → (b ≡ false) × (later ≡ 0)
-orElse-passed true k later e = absurd (omega arith)
-orElse-passed false k later e = (refl, e)
-
--- ---- the parameters
-
-pub params-valid : (P : Params) → Below 256 (P .key) → refusedParams P 0 ≡ 0 → Valid P
-params-valid P b e =
-    let a = orElse-passed (ltb (P .d) 1) 0 _ e in
-    let c = orElse-passed (ltb 512 (P .d)) 0 _ (a .1) in
-    let k = orElse-passed (ltb 64 (length (P .key))) 1 _ (c .1) in
-    let l = orElse-passed (ltb 64 (P .limit)) 2 _ (k .1) in
-    let r = orElse-passed (ltb 255 (P .rounds)) 3 0 (l .1) in
-    record {
-      bytes = b;
-      keyBytes = ltb-false 64 (length (P .key)) (k .0);
-      dLow = ltb-false (P .d) 1 (a .0);
-      dHigh = ltb-false 512 (P .d) (c .0);
-      limitHigh = ltb-false 64 (P .limit) (l .0);
-      roundsHigh = ltb-false 255 (P .rounds) (r .0);
-    }
-
-pub valid-params : (P : Params) (later : ℕ) → Valid P → refusedParams P later ≡ later
-valid-params P later v =
-    rw (
-      le-ltb (P .d) 1 (v .dLow),
-      le-ltb 512 (P .d) (v .dHigh),
-      le-ltb 64 (length (P .key)) (v .keyBytes),
-      le-ltb 64 (P .limit) (v .limitHigh),
-      le-ltb 255 (P .rounds) (v .roundsHigh),
-    ) refl
-
--- ---- the bits of a piece
-
-pub length-pieceBits : (piece : List ℕ) (n : ℕ) → n ≤ 8 * length piece → length (pieceBits piece n) ≡ n
-length-pieceBits piece n h = length-take n (bitsOf 8 piece) ∙ rw (length-bitsOf 8 piece) (omega arith)
 
 -- ---- the log
 

@@ -8,10 +8,10 @@ use lib.Dec.{eqb, leb, ltb}
 use lib.ListN.{length, drop, getD, set, replicate}
 use Rattle.lists.specs.Concat.{concat}
 use Rattle.lists.specs.Part.{put}
-use Rattle.lists.specs.Table.{both}
-use Rattle.bits.specs.Bits.{bits, spell, numbers}
-use Rattle.tree.specs.Tree.{Params, Node, blockBits, sequentialBits, outputBits, mostLevels, words, keyWords, node, output, lastOr, noNode}
-use Rattle.hash.specs.Hash.{pieceBits, orElse, refusedBits, refusedParams, digestBytes, refusedOutput}
+use Rattle.lists.specs.Both.{both}
+use Rattle.bits.specs.Bits.{bits, spell}
+use Rattle.tree.specs.Tree.{Params, Node, blockBits, sequentialBits, outputBits, mostLevels, words, keyWords, node, output, lastOr, noNode, digestBytes, digestOf}
+use Rattle.tree.specs.Refusals.{pieceBits, orElse, refusedBits, refusedParams, refusedOutput}
 use Rattle.area.specs.Area.{blockWords, outputWords, areaWords, phaseOf, totalOf, compressionsOf, paramsOf, levelWords, levelsOf, withLevels, emptyLevel, emptyLevels, doneBlocks, heldBits, heldParallel, heldSequential, sound}
 
 -- ---- one bit more
@@ -112,10 +112,6 @@ closing P (suc n) T (ws ∷ up) =
       | true ↦ node P 1 0 1 padding ws ∷ []
       | false ↦ let m : Node = node P 1 (doneBlocks blockBits T) 0 padding ws in m ∷ closeAbove P n 2 (doneBlocks blockBits T) (outWords P m) up
     ]
-
--- the digest that a root gives
-abbrev pub digestOf : Params → Node → List ℕ
-digestOf P m = numbers 8 (digestBytes (P .d)) (drop (outputBits - P .d) (output (P .rounds) m) ++ replicate 7 false)
 
 -- ---- refusals
 

@@ -11,7 +11,8 @@ use borrow.Author.Tests.{eqb-true, eqb-false, ne-eqb}
 use lib.Dec.{eqb}
 use lib.ListN.{length, length-append}
 use Rattle.tree.specs.Tree.{Params, Node, blockBits, outputBits, mostLevels, node, blocks}
-use Rattle.area.specs.Area.{doneBlocks, heldBits, openAbove, openCount, treeAbove, treeCount}
+use Rattle.tree.specs.Sizes.{nodesFrom, treeNodes}
+use Rattle.area.specs.Area.{doneBlocks, heldBits, openAbove, openCount}
 use Rattle.area.specs.Calls.{Made, outWords, joinParallel, receive, feedBit, feedBits, closeAbove, closing, logWordsOf}
 use Rattle.area.specs.Receive
 use Rattle.area.specs.Close
@@ -124,41 +125,42 @@ module _ (P : Params) where
 
   -- ---- an end
 
-  above-more : (n i : ℕ) → 0 < i → treeAbove (suc n) (suc i) ≡ suc (i / 4) + treeAbove n (suc (i / 4))
-  above-more n i h =
+  from-more : (n i : ℕ) → 0 < i → nodesFrom (suc n) (suc i) ≡ suc i + nodesFrom n (suc (i / 4))
+  from-more n i h =
       let b : blocks 4 (suc i) ≡ suc (i / 4) = omega arith in
-      rw (ne-eqb (suc i) 1 (λ e. omega arith), treeAbove, b) refl
+      rw (ne-eqb (suc i) 1 (λ e. omega arith), b) refl
 
-  above-last : (i : ℕ) → 0 < i → treeAbove 0 (suc i) ≡ suc (i / 3)
-  above-last i h =
+  from-last : (i : ℕ) → 0 < i → nodesFrom 0 (suc i) ≡ suc i + suc (i / 3)
+  from-last i h =
       let b : blocks 3 (suc i) ≡ suc (i / 3) = omega arith in
-      rw (ne-eqb (suc i) 1 (λ e. omega arith), treeAbove, b) refl
+      rw (ne-eqb (suc i) 1 (λ e. omega arith), b) refl
 
-  above-one : (n : ℕ) → treeAbove n 1 ≡ 0
-  above-one zero = refl
-  above-one (suc n) = refl
+  from-one : (n : ℕ) → nodesFrom n 1 ≡ 1
+  from-one zero = refl
+  from-one (suc n) = refl
 
   pub closeAbove-count : (n level i : ℕ) (x : List ℕ) (st : List (List ℕ)) → 0 < i → i < 4 ^ length st →
-      length (closeAbove P n level i x st) + openAbove n i ≡ treeAbove n (suc i)
+      suc i + (length (closeAbove P n level i x st) + openAbove n i) ≡ nodesFrom n (suc i)
   closeAbove-count n level i x [] h b = absurd (omega arith)
-  closeAbove-count zero level i x (ws ∷ up) h b = rw (Close.close-seq P level i x ws up, above-last i h) (omega arith)
+  closeAbove-count zero level i x (ws ∷ up) h b = rw (Close.close-seq P level i x ws up, from-last i h) (omega arith)
   closeAbove-count (suc n) level i x (ws ∷ up) h b = go (eqb (i / 4) 0) refl (λ y. closeAbove-count n (suc level) (i / 4) y up)
     where
       m : Node
       m = node P level (i / 4) 0 (outputBits * (3 - i % 4)) (joinParallel i x ws)
 
       go : (t : Bool) → eqb (i / 4) 0 ≡ t →
-          ((y : List ℕ) → 0 < i / 4 → i / 4 < 4 ^ length up → length (closeAbove P n (suc level) (i / 4) y up) + openAbove n (i / 4) ≡ treeAbove n (suc (i / 4))) →
-          length (closeAbove P (suc n) level i x (ws ∷ up)) + (i / 4 + openAbove n (i / 4)) ≡ treeAbove (suc n) (suc i)
+          ((y : List ℕ) → 0 < i / 4 → i / 4 < 4 ^ length up →
+          suc (i / 4) + (length (closeAbove P n (suc level) (i / 4) y up) + openAbove n (i / 4)) ≡ nodesFrom n (suc (i / 4))) →
+          suc i + (length (closeAbove P (suc n) level i x (ws ∷ up)) + (i / 4 + openAbove n (i / 4))) ≡ nodesFrom (suc n) (suc i)
       go true e u =
-          rw (Close.close-one P n level i x ws up e, above-more n i h, eqb-true (i / 4) 0 e, above-one n, openAbove-none n) refl
+          rw (Close.close-one P n level i x ws up e, from-more n i h, eqb-true (i / 4) 0 e, from-one n, openAbove-none n) refl
       go false e u =
-          rw (Close.close-many P n level i x ws up e, above-more n i h)
+          rw (Close.close-many P n level i x ws up e, from-more n i h)
           (omega (arith, u (outWords P m) (omega (arith, eqb-false (i / 4) 0 e)) (omega (arith, pow-succ' 4 (length up), b))))
 
   -- the nodes that an end makes, and those made before, are the whole tree's
   pub closing-count : (limit T : ℕ) (st : List (List ℕ)) → length st ≡ mostLevels → T < 2 ^ 64 →
-      length (closing P limit T st) + openCount limit T ≡ treeCount limit T
+      length (closing P limit T st) + openCount limit T ≡ treeNodes limit T
   closing-count limit T [] h g = absurd (omega arith)
   closing-count zero T (ws ∷ up) h g =
       let b : blocks 3072 T ≡ suc ((T - 1) / 3072) = omega arith in
@@ -175,8 +177,8 @@ module _ (P : Params) where
       m = node P 1 (doneBlocks 4096 T) 0 (blockBits - heldBits blockBits T) ws
 
       go : (t : Bool) → eqb (doneBlocks 4096 T) 0 ≡ t →
-          length (closing P (suc n) T (ws ∷ up)) + ((T - 1) / 4096 + openAbove n ((T - 1) / 4096)) ≡ blocks 4096 T + treeAbove n (blocks 4096 T)
-      go true e = rw (Machine.closing-one P n T ws up e, b, eqb-true (doneBlocks 4096 T) 0 e, above-one n, openAbove-none n) refl
+          length (closing P (suc n) T (ws ∷ up)) + ((T - 1) / 4096 + openAbove n ((T - 1) / 4096)) ≡ nodesFrom n (blocks 4096 T)
+      go true e = rw (Machine.closing-one P n T ws up e, b, eqb-true (doneBlocks 4096 T) 0 e, from-one n, openAbove-none n) refl
       go false e =
           rw (Machine.closing-many P n T ws up e, b)
           (omega (arith, closeAbove-count n 2 (doneBlocks 4096 T) (outWords P m) up (omega (arith, eqb-false (doneBlocks 4096 T) 0 e)) (rw size (omega (arith, g)))))

@@ -10,7 +10,7 @@ use lib.ListN.{length, set, length-append, length-set}
 use lib.Seq.{set-set, set-comm}
 use Rattle.lists.specs.Below.{Below}
 use Rattle.tree.specs.Tree.{Params, mostLevels, order}
-use Rattle.hash.specs.Hash.{pieceBits}
+use Rattle.tree.specs.Refusals.{pieceBits}
 use Rattle.area.specs.Area.{areaWords, totalOf, compressionsOf, paramsOf, levelsOf, withLevels}
 use Rattle.area.specs.Calls.{Made, Fed, feedBits, openOf, fedBits, feedNumber, fedArea, feedOf}
 use Rattle.area.specs.Marks.{settled}
@@ -18,7 +18,8 @@ use Rattle.area.specs.Rows.{AllLen}
 use Rattle.area.specs.AreaLaws.{Changed, changed}
 use Rattle.area.specs.Sound.{state-widths, state-size}
 use Rattle.area.specs.Machine
-use Rattle.area.specs.CallLaws.{length-pieceBits, feed-passed, feed-number, feed-accepted}
+use Rattle.tree.specs.RefusalLaws.{length-pieceBits}
+use Rattle.area.specs.CallLaws.{feed-passed, feed-number, feed-accepted}
 use Rattle.area.specs.Stands.{Stands}
 use Rattle.area.specs.FeedLaws.{feedBits-append, feed-nothing}
 use Rattle.area.specs.WriteLaws.{withLevels-again, set-withLevels}

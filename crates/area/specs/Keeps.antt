@@ -9,15 +9,17 @@ use borrow.Author.Tests.{eqb-true, eq-eqb, ne-eqb}
 use lib.Dec.{eqb}
 use lib.ListN.{length, set, replicate}
 use Rattle.lists.specs.Below.{Below, below-at, below-take, below-drop}
-use Rattle.hash.specs.Hash.{pieceBits}
-use Rattle.area.specs.Area.{areaWords, phaseOf, totalOf, keyBytesOf, keyOf, compressionsOf, paramsOf, levelsFrom, levelsOf, withLevels, emptyLevel, emptyLevels, holdsFor, openCount, treeCount, countFor, cleanAll, soundParams, soundKey, soundCount, sound}
+use Rattle.tree.specs.Refusals.{pieceBits}
+use Rattle.tree.specs.Sizes.{treeNodes}
+use Rattle.area.specs.Area.{areaWords, phaseOf, totalOf, keyBytesOf, keyOf, compressionsOf, paramsOf, levelsFrom, levelsOf, withLevels, emptyLevel, emptyLevels, holdsFor, openCount, countFor, cleanAll, soundParams, soundKey, soundCount, sound}
 use Rattle.area.specs.Calls.{Made, feedBits, fedBits, feedNumber, fedArea, feedOf, closedBy, endNumber, endedArea, endOf}
 use Rattle.area.specs.Block.{length-blockOf}
 use Rattle.area.specs.Rows.{AllLen}
 use Rattle.area.specs.Counts
 use Rattle.area.specs.AreaLaws.{Changed, changed}
 use Rattle.area.specs.Sound.{clean-empty, empty-widths}
-use Rattle.area.specs.CallLaws.{length-pieceBits, FeedPassed, feed-passed, feed-number, feed-accepted, EndPassed, end-passed, end-number, end-accepted}
+use Rattle.tree.specs.RefusalLaws.{length-pieceBits}
+use Rattle.area.specs.CallLaws.{FeedPassed, feed-passed, feed-number, feed-accepted, EndPassed, end-passed, end-number, end-accepted}
 use Rattle.area.specs.Accepts.{levelsOf-size, closed-count}
 use Rattle.area.specs.WriteLaws.{levelsOf-widths}
 use Rattle.area.specs.Moved.{Tests, sound-tests, tests-sound, Words, nil, cons}
@@ -125,7 +127,7 @@ end-keeps area out log b e = rw (end-accepted area out log z) (tests-sound to re
   phase = rw (c .set) refl;
   params = same-params-test area to (c .params) (t .params);
   key = same-key-test area to (c .key) (c .same 2 (omega arith) (omega arith) (omega arith)) (t .key);
-  count = rw (c .set, c .params, c .same 1 (omega arith) (omega arith) (omega arith), c .count) (eq-eqb (compressionsOf area + length (closedBy area)) (treeCount (paramsOf area .limit) (totalOf area)) counted);
+  count = rw (c .set, c .params, c .same 1 (omega arith) (omega arith) (omega arith), c .count) (eq-eqb (compressionsOf area + length (closedBy area)) (treeNodes (paramsOf area .limit) (totalOf area)) counted);
   last = rw (c .same 15 (omega arith) (omega arith) (omega arith)) (t .last);
   levels = rw (c .set, c .levels) (clean-empty 27);
 })
@@ -152,5 +154,5 @@ end-keeps area out log b e = rw (end-accepted area out log z) (tests-sound to re
     before = eqb-true (compressionsOf area) (openCount (paramsOf area .limit) (totalOf area))
         (subst (λ (k : ℕ). eqb (compressionsOf area) (countFor k (paramsOf area .limit) (totalOf area)) ≡ true) p (t .count))
 
-    counted : compressionsOf area + length (closedBy area) ≡ treeCount (paramsOf area .limit) (totalOf area)
+    counted : compressionsOf area + length (closedBy area) ≡ treeNodes (paramsOf area .limit) (totalOf area)
     counted = omega (arith, before, closed-count area (below-at b 1 (omega (arith, q .long))))

@@ -24,9 +24,10 @@ use Rattle.area.specs.Receive
 use Rattle.area.specs.Machine
 use Rattle.area.specs.Counts.{full-4096, less-4096, full-3072, less-3072}
 use Rattle.area.specs.AreaLaws.{allFalse-is}
-use Rattle.area.specs.Sound.{clean-parallel, clean-sequential, clean-empty, both-true}
+use Rattle.area.specs.Sound.{clean-parallel, clean-sequential, clean-empty}
+use Rattle.lists.specs.Both.{both-true, both-parts}
 use Rattle.area.specs.FeedLaws.{held-next-4096, held-next-3072, held-most-4096, held-most-3072}
-use Rattle.area.specs.Moved.{both-parts, Words, cons}
+use Rattle.area.specs.Moved.{Words, cons}
 
 -- ---- the words of a level whose bits from n on are zero
 

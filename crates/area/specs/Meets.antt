@@ -10,8 +10,8 @@ use lib.ListN.{length, take, drop, length-append, length-map}
 use lib.Seq.{take-at}
 use Rattle.lists.specs.Below.{Below}
 use Rattle.bits.specs.BitsLaws.{length-numbers}
-use Rattle.tree.specs.Tree.{Params, Mark, order, digest}
-use Rattle.hash.specs.Hash.{pieceBits, digestBytes}
+use Rattle.tree.specs.Tree.{Params, Mark, order, digest, digestBytes}
+use Rattle.tree.specs.Refusals.{pieceBits}
 use Rattle.area.specs.Area.{areaWords, sound}
 use Rattle.area.specs.Calls.{Made, Fed, Ended, logOf, openNumber, openOf, fedBits, feedNumber, fedArea, feedOf, closedBy, endNumber, endedArea, digestOut, endOf}
 use Rattle.area.specs.Marks.{allNodes, settled}

@@ -12,13 +12,14 @@ use lib.Seq.{take-take, getD-take, getD-drop, length-take-le, take-add}
 use Rattle.lists.specs.Append.{cons-eq}
 use Rattle.lists.specs.Below.{Below, none, below-append, below-all, below-at, below-take, below-drop, below-zeros}
 use Rattle.lists.specs.Concat.{concat}
-use Rattle.lists.specs.Table.{both}
+use Rattle.lists.specs.Both.{both-true, both-parts}
 use Rattle.bits.specs.Bits.{bitsOf}
 use Rattle.bits.specs.BitsLaws.{length-numbers, numbers-below}
-use Rattle.tree.specs.Tree.{Params, Valid, Node, Mark, Subtree, keyWords, mostLevels, order}
+use Rattle.tree.specs.Tree.{Params, Valid, Node, Mark, Subtree, keyWords, order}
 use Rattle.tree.specs.TreeLaws.{keyWords-below, length-keyWords}
-use Rattle.hash.specs.Hash.{refusedParams}
-use Rattle.area.specs.Area.{headWords, areaWords, phaseOf, totalOf, keyBytesOf, keyOf, compressionsOf, paramsOf, levelsFrom, levelsOf, emptyLevel, emptyLevels, openAbove, openCount, treeCount, countFor, soundPhase, soundParams, soundKey, soundCount, soundLast, soundLevels, holdsFor, cleanAll, sound}
+use Rattle.tree.specs.Refusals.{refusedParams}
+use Rattle.tree.specs.Count.{treeNodes-bound}
+use Rattle.area.specs.Area.{headWords, areaWords, phaseOf, totalOf, keyBytesOf, keyOf, compressionsOf, paramsOf, levelsFrom, levelsOf, emptyLevel, emptyLevels, openAbove, openCount, countFor, soundPhase, soundParams, soundKey, soundCount, soundLast, soundLevels, holdsFor, cleanAll, sound}
 use Rattle.area.specs.Marks.{settled}
 use Rattle.area.specs.Block.{blockOf-below}
 use Rattle.area.specs.Rows.{over}
@@ -26,16 +27,11 @@ use Rattle.area.specs.Receive
 use Rattle.area.specs.Machine
 use Rattle.area.specs.Counts
 use Rattle.area.specs.AreaLaws.{same-word, same-key, same-params, key-words}
-use Rattle.area.specs.Sound.{state-size, both-true}
-use Rattle.area.specs.CallLaws.{params-valid}
+use Rattle.tree.specs.RefusalLaws.{params-valid}
 use Rattle.area.specs.FeedLaws.{concat-from}
 use Rattle.area.specs.Stands.{Head, Stands, Closed}
 
 -- ---- the tests of soundness
-
-pub both-parts : (a b : Bool) → both a b ≡ true → (a ≡ true) × (b ≡ true)
-both-parts true b e = (refl, e)
-both-parts false b e = let z : _≡_ {A = ℕ} 0 1 = cc in absurd (omega arith)
 
 pub record Tests (area : List ℕ) : Type 0 where
   pub phase : soundPhase area ≡ true
@@ -207,13 +203,6 @@ openCount-small : (limit T : ℕ) → T < 2 ^ 64 → openCount limit T + 27 < 2 
 openCount-small zero T h = omega arith
 openCount-small (suc n) T h = omega (arith, openAbove-most n ((T - 1) / 4096))
 
-treeCount-small : (P : Params) (T : ℕ) → T < 2 ^ 64 → treeCount (P .limit) T < 2 ^ 64
-treeCount-small P T h =
-    let z : length emptyLevels ≡ mostLevels = state-size P (P .limit) [] emptyLevels [] (Machine.state-open P (P .limit)) in
-    let c = Counts.closing-count P (P .limit) T emptyLevels z h in
-    let b = Counts.closing-bound P (P .limit) T emptyLevels (omega arith) in
-    omega (arith, openCount-small (P .limit) T h)
-
 -- the first 16 words
 module _ (P : Params) (M : List Bool) (area : List ℕ) (h : Head P M area) where
   k-words : (j : ℕ) → j < 8 → getD area (6 + j) 0 < 2 ^ 64
@@ -272,5 +261,5 @@ unfolding emptyLevels
 closed-below {P} {M} {area} s =
     rw (area-front area)
     (below-append
-    (head-below P M area (s .head) (omega (arith, s .phase)) (omega (arith, s .count, treeCount-small P (length M) (s .head .short))))
+    (head-below P M area (s .head) (omega (arith, s .phase)) (omega (arith, s .count, treeNodes-bound (P .limit) (length M) (s .head .short))))
     (rw (s .levels) (concat-below (empty-words 27))))

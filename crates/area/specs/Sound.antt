@@ -9,7 +9,7 @@ use borrow.Author.Tests.{ltb-false}
 use lib.Dec.{ltb}
 use lib.ListN.{length, replicate, length-append, length-replicate}
 use lib.Seq.{take-at, drop-at}
-use Rattle.lists.specs.Table.{both}
+use Rattle.lists.specs.Both.{both-true}
 use Rattle.tree.specs.Tree.{Params, Node, Mark, Subtree, blockBits, sequentialBits, outputBits, mostLevels, noChain}
 use Rattle.area.specs.Area.{emptyLevel, doneBlocks, heldBits, parallelHold, sequentialHold, holdsAbove, openHolds, allFalse, clean, cleanAll}
 use Rattle.area.specs.Block.{blockOf, length-blockOf, bitsOf-blockOf, blockOf-none}
@@ -19,9 +19,6 @@ use Rattle.area.specs.Receive
 use Rattle.area.specs.Machine.{cut-held-4096, cut-held-3072}
 use Rattle.area.specs.Machine
 use Rattle.area.specs.AreaLaws.{allFalse-replicate}
-
-pub both-true : {a b : Bool} → a ≡ true → b ≡ true → both a b ≡ true
-both-true p q = rw (p, q) refl
 
 -- a block that holds what its level holds
 pub clean-parallel : (n : ℕ) (Y : List Bool) → length Y ≤ blockBits → length Y ≡ n → clean (parallelHold n) (blockOf Y) ≡ true

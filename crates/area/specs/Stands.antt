@@ -8,14 +8,15 @@ use native.Mathlib.Omega.{arith}
 use borrow.Author.Tests.{eq-eqb, ltb-false}
 use lib.Dec.{ltb}
 use lib.ListN.{length, take, drop, getD, set, replicate, length-append}
-use lib.Seq.{take-at, drop-at, getD-at, getD-append-add}
+use lib.Seq.{take-at, getD-at, getD-append-add}
 use Rattle.lists.specs.Append.{cons-eq}
 use Rattle.lists.specs.Below.{Below}
 use Rattle.lists.specs.Concat.{concat}
-use Rattle.tree.specs.Tree.{Params, Valid, Node, keyWords, order, root, lastOr, noNode, digest}
+use Rattle.tree.specs.Tree.{Params, Valid, Node, keyWords, order, root, lastOr, noNode, digest, digestBytes}
 use Rattle.tree.specs.TreeLaws.{length-keyWords}
-use Rattle.hash.specs.Hash.{pieceBits, refusedParams, digestBytes}
-use Rattle.area.specs.Area.{areaWords, phaseOf, totalOf, keyBytesOf, keyOf, compressionsOf, paramsOf, levelsOf, withLevels, emptyLevel, emptyLevels, openCount, treeCount, soundPhase, soundParams, soundKey, soundCount, soundLast, soundLevels, sound}
+use Rattle.tree.specs.Refusals.{pieceBits, refusedParams}
+use Rattle.tree.specs.Sizes.{treeNodes}
+use Rattle.area.specs.Area.{areaWords, phaseOf, totalOf, keyBytesOf, keyOf, compressionsOf, paramsOf, levelsOf, withLevels, emptyLevel, emptyLevels, openCount, soundPhase, soundParams, soundKey, soundCount, soundLast, soundLevels, sound}
 use Rattle.area.specs.Calls.{Made, feedBits, closing, openNumber, openedArea, fedBits, feedNumber, fedArea, closedBy, endedArea, digestOut}
 use Rattle.area.specs.Marks.{allNodes, settled}
 use Rattle.area.specs.Rows.{length-concat}
@@ -23,8 +24,10 @@ use Rattle.area.specs.Receive.{marked}
 use Rattle.area.specs.Machine
 use Rattle.area.specs.Counts
 use Rattle.area.specs.AreaLaws.{Changed, changed, levelsOf-at, key-back, key-clean}
-use Rattle.area.specs.Sound.{both-true, clean-empty, empty-widths, state-widths, state-size, state-sound}
-use Rattle.area.specs.CallLaws.{orElse-passed, params-valid, valid-params, length-pieceBits, FeedPassed, feed-passed}
+use Rattle.lists.specs.Both.{both-true}
+use Rattle.area.specs.Sound.{clean-empty, empty-widths, state-widths, state-size, state-sound}
+use Rattle.tree.specs.RefusalLaws.{orElse-passed, params-valid, valid-params, length-pieceBits}
+use Rattle.area.specs.CallLaws.{FeedPassed, feed-passed}
 
 -- ---- the nodes made are those of the tree's listing
 
@@ -82,7 +85,7 @@ pub record Stands (P : Params) (M : List Bool) (area : List ℕ) : Type 0 where
 pub record Closed (P : Params) (M : List Bool) (area : List ℕ) : Type 0 where
   pub head : Head P M area
   pub phase : phaseOf area ≡ 2
-  pub count : compressionsOf area ≡ treeCount (P .limit) (length M)
+  pub count : compressionsOf area ≡ treeNodes (P .limit) (length M)
   pub levels : levelsOf area ≡ emptyLevels
 
 -- ---- they are sound
@@ -119,7 +122,7 @@ closed-sound {P} {M} {area} s =
     phase = rw (s .phase) refl
 
     count : soundCount area ≡ true
-    count = rw (s .phase, s .head .params, s .head .total) (eq-eqb (compressionsOf area) (treeCount (P .limit) (length M)) (s .count))
+    count = rw (s .phase, s .head .params, s .head .total) (eq-eqb (compressionsOf area) (treeNodes (P .limit) (length M)) (s .count))
 
     levels : soundLevels area ≡ true
     levels = rw (s .phase, s .levels) (clean-empty 27)
@@ -146,11 +149,6 @@ module _ (area : List ℕ) (P : Params) where
   opened-size h =
       rw (opened-is, length-append front (concat emptyLevels ++ drop areaWords area), front-length, length-append (concat emptyLevels) (drop areaWords area), empty-width, lib.ListN.length-drop areaWords area)
       (omega arith)
-
-  pub opened-tail : drop areaWords (openedArea area P) ≡ drop areaWords area
-  opened-tail =
-      rw (opened-is, ← append-assoc front (concat emptyLevels) (drop areaWords area))
-      (drop-at (front ++ concat emptyLevels) (drop areaWords area) areaWords (length-append front (concat emptyLevels) ∙ rw (front-length, empty-width) refl))
 
   opened-levels : levelsOf (openedArea area P) ≡ emptyLevels
   unfolding emptyLevels
@@ -327,5 +325,5 @@ end-closed P M area out s = record {
     c : Changed area 0 2 (compressionsOf area + length nodes) (replicate 27 emptyLevel) (withLevels (set (set area 0 2) 14 (compressionsOf area + length nodes)) (replicate 27 emptyLevel))
     c = changed area 0 2 (compressionsOf area + length nodes) (replicate 27 emptyLevel) (s .head .long) (omega arith) (empty-widths 27) refl
 
-    counted : openCount (P .limit) (length M) + length nodes ≡ treeCount (P .limit) (length M)
+    counted : openCount (P .limit) (length M) + length nodes ≡ treeNodes (P .limit) (length M)
     counted = rw is (omega (arith, Counts.closing-count P (P .limit) (length M) (levelsOf area) (state-size P (P .limit) M (levelsOf area) (settled (order P M)) (s .state)) (s .head .short)))

@@ -8,8 +8,7 @@ use Prim.Native.Nat.{ℕ, zero, suc, _+_, _-_, _*_, _/_, _^_}
 use lib.ListN.{take, set, replicate}
 use Rattle.bits.specs.Bits.{numbers}
 use Rattle.compress.specs.Compress.{grown, compressed}
-use Rattle.tree.specs.Tree.{Params, Mark, keyWords, output, noChain, digest, order}
-use Rattle.hash.specs.Hash.{digestBytes}
+use Rattle.tree.specs.Tree.{Params, Mark, keyWords, output, noChain, digest, order, digestBytes}
 use Rattle.area.specs.Area.{areaWords, countFor, paramsOf, levelsOf, withLevels, emptyLevel, emptyLevels, sound}
 use Rattle.area.specs.Calls.{Fed, Ended, withBit, outWords, receive, feedBit, feedBits, closeAbove, closing, logOf, openNumber, openedArea, openOf, fedBits, feedNumber, fedArea, feedOf, closedBy, endNumber, endedArea, digestOut, endOf}
 

@@ -32,13 +32,6 @@ levels-at area (suc n) k (suc j) h =
     let e : k + suc j ≡ suc k + j = omega arith in
     levels-at area n (suc k) j (omega arith) ∙ rw e
 
--- level k is the k-th of them, counted from 1
-pub levelsOf-at-level : (area : List ℕ) (k : ℕ) → k < mostLevels → getD (levelsOf area) k [] ≡ levelWords area (suc k)
-unfolding levelsOf
-levelsOf-at-level area k h =
-    let e : 1 + k ≡ suc k = omega arith in
-    levels-at area 27 1 k h ∙ rw e
-
 -- ---- one level written
 
 put-tail : (k : ℕ) (st : List (List ℕ)) (tail ws : List ℕ) → AllLen 64 st → k < length st → length ws ≡ 64 →

@@ -16,6 +16,10 @@ use Rattle.bits.specs.Bits.{digit, bits, bitsOf, spell, numbers}
 
 -- Lengths
 
+pub digit-le : (b : Bool) → digit b ≤ 1
+digit-le true = omega arith
+digit-le false = omega arith
+
 pub length-bits : (k n : ℕ) → length (bits k n) ≡ k
 length-bits zero n = refl
 length-bits (suc k) n = ap suc (length-bits k n)

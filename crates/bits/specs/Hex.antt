@@ -1,23 +1,19 @@
 -- Hexadecimal digits. Document 01: "digits 0 to 9 and a to f; a capital is refused".
 -- Assumes nothing.
-use mathlib.Core.Bool.{Bool, true, false}
+use mathlib.Core.Bool.{cond}
 use Prim.Native.Nat.{ℕ, _+_, _-_}
 use lib.Dec.{leb, ltb}
 use Rattle.bits.specs.declared.hex.Digit.{Digit}
 use Rattle.bits.specs.declared.hex.Digit.the-variants.{Value, Refused}
 
-abbrev pub pick : {A : Type 0} → Bool → A → A → A
-pick true a b = a
-pick false a b = b
-
 -- what a byte is as a digit: 0 to 9 are the bytes 48 to 57, a to f the bytes 97 to 102; every other byte is refused
 abbrev pub digitOf : ℕ → Digit
 digitOf b =
-    pick (ltb b 48) Refused
-    (pick (leb b 57) (Value (b - 48))
-    (pick (ltb b 97) Refused
-    (pick (leb b 102) (Value (b - 97 + 10)) Refused)))
+    cond (ltb b 48) Refused
+    (cond (leb b 57) (Value (b - 48))
+    (cond (ltb b 97) Refused
+    (cond (leb b 102) (Value (b - 97 + 10)) Refused)))
 
 -- the digit of a number below 16
 abbrev pub hexDigit : ℕ → ℕ
-hexDigit n = pick (ltb n 10) (48 + n) (97 + (n - 10))
+hexDigit n = cond (ltb n 10) (48 + n) (97 + (n - 10))

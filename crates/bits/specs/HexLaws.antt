@@ -1,12 +1,12 @@
 -- A digit's value and a value's digit are inverse, both ways.
 -- Assumes nothing.
-use mathlib.Core.Bool.{Bool, true, false}
+use mathlib.Core.Bool.{Bool, true, false, cond}
 use mathlib.Core.Path.{_≡_, refl}
 use Prim.Native.Nat.{ℕ, _+_, _-_, _≤_, _<_}
 use native.Mathlib.Omega.{arith}
 use borrow.Author.Tests.{lt-ltb, le-ltb, le-leb, lt-leb, ltb-true, ltb-false, leb-true}
 use lib.Dec.{ltb, leb}
-use Rattle.bits.specs.Hex.{pick, digitOf, hexDigit}
+use Rattle.bits.specs.Hex.{digitOf, hexDigit}
 use Rattle.bits.specs.declared.hex.Digit.the-variants.{Value, Refused}
 
 -- the two ranges in which `digitOf` gives a value
@@ -42,7 +42,7 @@ pub hex-of-digit : (b n : ℕ) → digitOf b ≡ Value n → (n < 16) × (hexDig
 hex-of-digit b n e = by (ltb b 48) (leb b 57) (ltb b 97) (leb b 102) refl refl refl refl e
   where
     by : (s t u v : Bool) → ltb b 48 ≡ s → leb b 57 ≡ t → ltb b 97 ≡ u → leb b 102 ≡ v
-        → pick s Refused (pick t (Value (b - 48)) (pick u Refused (pick v (Value (b - 97 + 10)) Refused))) ≡ Value n
+        → cond s Refused (cond t (Value (b - 48)) (cond u Refused (cond v (Value (b - 97 + 10)) Refused))) ≡ Value n
         → (n < 16) × (hexDigit n ≡ b)
     by true t u v p q r s e = let z : _≡_ {A = ℕ} 0 1 = cc in absurd (omega arith)
     by false true u v p q r s e =

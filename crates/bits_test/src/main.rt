@@ -1,4 +1,4 @@
-// Fills blocks at many alignments and prints their words, then the hexadecimal digits. tests/bits_expected.py makes the
+// Fills blocks at many alignments and prints their words, then the hexadecimal digits. tests/bits/expected.py makes the
 // expected lines, bit by bit.
 ghost use Prim.Native.Nat.{_<_, _≤_};
 ghost use lib.ListN.{length};

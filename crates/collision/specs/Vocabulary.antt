@@ -5,7 +5,7 @@
 use mathlib.Core.Path.{_≡_, refl, sym, ap, _∙_, subst, subst₂}
 use mathlib.Core.Bool.{Bool}
 use mathlib.Core.Logic.{_≢_, _⊎_, inl, inr}
-use mathlib.Core.Option.{Option, some}
+use mathlib.Core.Option.{some}
 use mathlib.Core.List.{List, [], _∷_}
 use Prim.Native.Nat.{ℕ, suc, _^_, _<_}
 use native.Mathlib.Omega.{arith}
@@ -13,15 +13,12 @@ use lib.ListN.{length, getElem?}
 use Rattle.lists.specs.Append.{cons-eq}
 use Rattle.tree.specs.Tree.{Params, Valid, Node, nodeU, tree, root, rootOf}
 use Rattle.tree.specs.Place.{levelAt, nodeAt, RootAt}
-use Rattle.tree.specs.Places.{tree-u, tree-place, levels-filled, rootLevel, rootIndex, root-at, root-place}
+use Rattle.tree.specs.Places.{no-node, tree-u, tree-place, levels-filled, rootLevel, rootIndex, root-at, root-place}
 use Rattle.collision.specs.Clash.{Clash}
 use Rattle.collision.specs.Descent.{descend}
 use Rattle.collision.specs.Collision.{same-params}
 
 -- ---- equal inputs at every place mean equal trees
-
-no-node : (a : Node) → _≡_ {A = Option Node} Option.none (some a) → ⊥
-no-node a e = let z : _≡_ {A = ℕ} 0 1 = cc in omega arith
 
 same-level : (ns ms : List Node) → ((i : ℕ) → getElem? ns i ≡ getElem? ms i) → ns ≡ ms
 same-level [] [] f = refl

@@ -1,6 +1,5 @@
 // Prints every word that Appendix C of the report prints: the window of each node, its intermediate words and its output.
-// The file stdout is made from the report's text by tests/appendix_c.py, and not from this code.
-ghost use mathlib.Core.Path.{_≡_};
+// The file stdout is made from the report's text by tests/appendix_c/expected.py, and not from this code.
 ghost use Prim.Native.Nat.{_+_, _^_, _≤_, _<_};
 ghost use lib.ListN.{length};
 ghost use Rattle.compress.specs.Compress.{RoundTable};

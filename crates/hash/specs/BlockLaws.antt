@@ -6,25 +6,20 @@ use mathlib.Core.List.{List, [], _∷_, _++_, append-assoc}
 use Prim.Native.Nat.{ℕ, zero, suc, _+_, _-_, _*_, _^_, _≤_, _<_, min}
 use native.Mathlib.Omega.{arith}
 use native.Mathlib.Numerals.{add-one}
-use lib.ListN.{length, take, drop, replicate, length-take, length-replicate}
+use lib.ListN.{length, take, drop, replicate, length-replicate}
 use lib.Seq.{paste}
 use Rattle.bits.specs.Bits.{bitsOf, filled}
-use Rattle.bits.specs.BitsLaws.{length-bitsOf, bitsOf-zeros}
+use Rattle.bits.specs.BitsLaws.{bitsOf-zeros}
 use Rattle.tree.specs.Tree.{words, blocks, blockBits, outputBits}
-use Rattle.hash.specs.Hash.{pieceBits}
-use Rattle.hash.specs.Value.{Common, nodeWords, held, messagePart, nodesAt, joinedValues, childWords, value}
-use Rattle.hash.specs.ValueLaws.{nodesAt-one, nodesAt-suc, nodesAt-some, nodesAt-le, length-value, value-one, value-suc, joined-zero, joined-suc, length-joinedValues}
-use Rattle.hash.specs.NodeLaws.{paste-at}
-
-pub length-pieceBits : (bytes : List ℕ) (bits : ℕ) → bits ≤ 8 * length bytes → length (pieceBits bytes bits) ≡ bits
-length-pieceBits bytes bits h = simp (length-take, length-bitsOf) (omega arith)
-
-pub drop-replicate : {A : Type 0} (n q : ℕ) (z : A) → n ≤ q → drop n (replicate q z) ≡ replicate (q - n) z
-drop-replicate zero q z h = let e : q - 0 ≡ q = omega arith in rw e
-drop-replicate (suc n) zero z h = absurd (omega arith)
-drop-replicate (suc n) (suc q) z h =
-    let e : suc q - suc n ≡ q - n = omega arith in
-    rw e (drop-replicate n q z (omega arith))
+use Rattle.tree.specs.Refusals.{pieceBits}
+use Rattle.tree.specs.Sizes.{levelNodes}
+use Rattle.node.specs.Words.{Common, nodeWords}
+use Rattle.hash.specs.Value.{held, messagePart, joinedValues, childWords, value}
+use Rattle.tree.specs.Count.{levelNodes-one, levelNodes-suc, levelNodes-some}
+use Rattle.tree.specs.RefusalLaws.{length-pieceBits}
+use Rattle.hash.specs.ValueLaws.{levelNodes-le, length-value, value-one, value-suc, joined-zero, joined-suc, length-joinedValues}
+use Rattle.node.specs.NodeLaws.{paste-at}
+use Rattle.lists.specs.Replicate.{drop-replicate}
 
 take-min : {A : Type 0} (a b : ℕ) (l : List A) → take a (take b l) ≡ take (min a b) l
 take-min zero b l = let e : min 0 b ≡ 0 = omega arith in rw e
@@ -68,10 +63,10 @@ filled-part bytes bits w size index start n e h g es en =
 
 -- ---- a leaf
 
-pub leaf-index : (bits index : ℕ) → index < nodesAt bits 1 → blockBits * index ≤ bits
-leaf-index bits index h = let g : index < blocks blockBits bits = rw (nodesAt-one bits) at h in omega arith
+pub leaf-index : (bits index : ℕ) → index < levelNodes bits 1 → blockBits * index ≤ bits
+leaf-index bits index h = let g : index < blocks blockBits bits = rw (levelNodes-one bits) at h in omega arith
 
-pub leaf-made : (C : Common) (bytes : List ℕ) (bits index z n : ℕ) (block : List ℕ) → index < nodesAt bits 1 → bits ≤ 8 * length bytes
+pub leaf-made : (C : Common) (bytes : List ℕ) (bits index z n : ℕ) (block : List ℕ) → index < levelNodes bits 1 → bits ≤ 8 * length bytes
     → n ≡ held blockBits bits index → block ≡ filled (replicate 64 0) 0 bytes (8 * (512 * index) + 0) n
     → nodeWords C 1 index z (blockBits - n) block ≡ value C (pieceBits bytes bits) 1 index z
 leaf-made C bytes bits index z n block i g en eb =
@@ -106,22 +101,22 @@ child-more f room a j len h =
     left : (room j : ℕ) → j < room → 16 * (room - j) - 16 ≡ 16 * (room - (j + 1))
     left room j h = omega arith
 
-pub child-index : (bits level index : ℕ) → 1 < level → index < nodesAt bits level → 4 * index ≤ nodesAt bits (level - 1)
+pub child-index : (bits level index : ℕ) → 1 < level → index < levelNodes bits level → 4 * index ≤ levelNodes bits (level - 1)
 child-index bits zero index h i = absurd (omega arith)
 child-index bits (suc zero) index h i = absurd (omega arith)
 child-index bits (suc (suc l)) index h i =
-    let g : index < blocks blockBits (outputBits * nodesAt bits (suc l)) = rw (nodesAt-suc bits l) at i in
+    let g : index < blocks 4 (levelNodes bits (suc l)) = rw (levelNodes-suc bits l) at i in
     let e : suc (suc l) - 1 ≡ suc l = omega arith in
-    rw e (omega (arith, nodesAt-some bits l))
+    rw e (omega (arith, levelNodes-some bits l))
 
 -- an index of a level is below 2 ^ 56
-pub node-index : (bits level index : ℕ) → bits < 2 ^ 64 → 0 < level → index < nodesAt bits level → index < 2 ^ 56
+pub node-index : (bits level index : ℕ) → bits < 2 ^ 64 → 0 < level → index < levelNodes bits level → index < 2 ^ 56
 node-index bits zero index b h i = absurd (omega arith)
-node-index bits (suc l) index b h i = omega (arith, nodesAt-le bits l b)
+node-index bits (suc l) index b h i = omega (arith, levelNodes-le bits l b)
 
 -- a node above level 1, from its children
 pub value-made : (C : Common) (bytes : List ℕ) (bits level index z n : ℕ) (block : List ℕ) → 1 < level → bits ≤ 8 * length bytes
-    → n ≡ held 4 (nodesAt bits (level - 1)) index
+    → n ≡ held 4 (levelNodes bits (level - 1)) index
     → block ≡ childWords (λ j. value C (pieceBits bytes bits) (level - 1) j 0) 4 (4 * index) n
     → nodeWords C level index z (outputBits * (4 - n)) block ≡ value C (pieceBits bytes bits) level index z
 value-made C bytes bits zero index z n block h g en eb = absurd (omega arith)
@@ -130,7 +125,7 @@ value-made C bytes bits (suc (suc l)) index z n block h g en eb =
     let M : List Bool = pieceBits bytes bits in
     let d : length M ≡ bits = length-pieceBits bytes bits g in
     let e : suc (suc l) - 1 ≡ suc l = omega arith in
-    let m : n ≡ held 4 (nodesAt (length M) (suc l)) index = rw d (rw e at en) in
+    let m : n ≡ held 4 (levelNodes (length M) (suc l)) index = rw d (rw e at en) in
     let b : block ≡ childWords (λ j. value C M (suc l) j 0) 4 (4 * index) n = rw e at eb in
     rw (b, m) (sym (value-suc C M l index z))
 

@@ -3,106 +3,21 @@
 use mathlib.Core.Path.{_≡_, refl, sym, ap, _∙_}
 use mathlib.Core.Bool.{Bool, true, false}
 use mathlib.Core.List.{List, _++_}
-use Prim.Native.Nat.{ℕ, zero, suc, _+_, _-_, _*_, _/_, _%_, _^_, _≤_, _<_}
+use Prim.Native.Nat.{ℕ, zero, suc, _+_, _-_, _*_, _/_, _^_, _≤_, _<_}
 use native.Mathlib.Omega.{arith}
 use borrow.Author.Tests.{ltb-true, ltb-false, lt-ltb, le-ltb}
 use lib.Dec.{ltb}
 use lib.ListN.{length, drop, replicate, length-replicate}
 use Rattle.bits.specs.Bits.{bitsOf, numbers}
-use Rattle.tree.specs.Tree.{Params, Valid, field, keyWords, digest, order}
-use Rattle.hash.specs.Hash.{pieceBits, orElse, refusedSize, refusedParams, digestBytes, refusedOutput, hashNumber, Answer, hashAnswer, hashOf, Told, told, defaultRounds, defaultRoundsOf}
-use Rattle.hash.specs.Value.{Common, common, commonOf, sized, rootValue}
+use Rattle.tree.specs.Tree.{Params, Valid, field, keyWords, digest, order, digestBytes}
+use Rattle.tree.specs.Refusals.{pieceBits, refusedSize, refusedParams, refusedOutput}
+use Rattle.hash.specs.Hash.{hashNumber, Answer, hashAnswer, hashOf, Told, told, defaultRounds, defaultRoundsOf}
+use Rattle.node.specs.Words.{Common, common, commonOf, sized}
+use Rattle.hash.specs.Value.{rootValue}
 use Rattle.hash.specs.NodeByNode.{root-by-node}
-use Rattle.tree.specs.Count.{treeNodes, order-nodes}
-use Rattle.hash.specs.BlockLaws.{length-pieceBits}
-
--- 8 times the bytes are compared with the bits by division
-pub over-by-division : (bits bytes : ℕ) → ltb bytes (bits / 8 + (bits % 8 + 7) / 8) ≡ ltb (8 * bytes) bits
-over-by-division bits bytes = go (ltb (8 * bytes) bits) refl
-  where
-    go : (b : Bool) → ltb (8 * bytes) bits ≡ b → ltb bytes (bits / 8 + (bits % 8 + 7) / 8) ≡ b
-    go true e = let h = ltb-true (8 * bytes) bits e in lt-ltb bytes (bits / 8 + (bits % 8 + 7) / 8) (omega arith)
-    go false e = let h = ltb-false (8 * bytes) bits e in le-ltb bytes (bits / 8 + (bits % 8 + 7) / 8) (omega arith)
-
--- ---- the numbers of the parameters
-
--- the tests, one after the other
-abbrev tests : Bool → Bool → Bool → Bool → Bool → ℕ → ℕ
-tests a b c d e later = orElse a 1 (orElse b 1 (orElse c 2 (orElse d 3 (orElse e 4 later))))
-
-tests-refused : (a b c d e : Bool) (later : ℕ) → (tests a b c d e 0 ≡ 0 → ⊥) → tests a b c d e later ≡ tests a b c d e 0
-tests-refused true b c d e later h = refl
-tests-refused false true c d e later h = refl
-tests-refused false false true d e later h = refl
-tests-refused false false false true e later h = refl
-tests-refused false false false false true later h = refl
-tests-refused false false false false false later h = absurd (h refl)
-
-tests-accepted : (a b c d e : Bool) → tests a b c d e 0 ≡ 0 → (a ≡ false) × (b ≡ false) × (c ≡ false) × (d ≡ false) × (e ≡ false)
-tests-accepted true b c d e h = absurd (omega arith)
-tests-accepted false true c d e h = absurd (omega arith)
-tests-accepted false false true d e h = absurd (omega arith)
-tests-accepted false false false true e h = absurd (omega arith)
-tests-accepted false false false false true h = absurd (omega arith)
-tests-accepted false false false false false h = (refl, refl, refl, refl, refl)
-
--- the ranges of parameters that are not refused
-pub record Ranges (P : Params) : Type 0 where
-  pub dLow : 1 ≤ P .d
-  pub dHigh : P .d ≤ 512
-  pub keyBytes : length (P .key) ≤ 64
-  pub limitHigh : P .limit ≤ 64
-  pub roundsHigh : P .rounds ≤ 255
-
-pub params-refused : (P : Params) (later : ℕ) → (refusedParams P 0 ≡ 0 → ⊥) → refusedParams P later ≡ refusedParams P 0
-params-refused P later h =
-    tests-refused (ltb (P .d) 1) (ltb 512 (P .d)) (ltb 64 (length (P .key))) (ltb 64 (P .limit)) (ltb 255 (P .rounds)) later h
-
-pub params-ranges : (P : Params) → refusedParams P 0 ≡ 0 → Ranges P
-params-ranges P h =
-    let f = tests-accepted (ltb (P .d) 1) (ltb 512 (P .d)) (ltb 64 (length (P .key))) (ltb 64 (P .limit)) (ltb 255 (P .rounds)) h in
-    record {
-      dLow = ltb-false (P .d) 1 (f .0);
-      dHigh = ltb-false 512 (P .d) (f .1);
-      keyBytes = ltb-false 64 (length (P .key)) (f .2);
-      limitHigh = ltb-false 64 (P .limit) (f .3);
-      roundsHigh = ltb-false 255 (P .rounds) (f .4);
-    }
-
-pub params-accepted : (P : Params) (later : ℕ) → Ranges P → refusedParams P later ≡ later
-params-accepted P later r =
-    rw (le-ltb (P .d) 1 (r .dLow), le-ltb 512 (P .d) (r .dHigh), le-ltb 64 (length (P .key)) (r .keyBytes), le-ltb 64 (P .limit) (r .limitHigh), le-ltb 255 (P .rounds) (r .roundsHigh))
-
-pub size-refused : (d later : ℕ) → (refusedSize d 0 ≡ 0 → ⊥) → refusedSize d later ≡ refusedSize d 0
-size-refused d later h = tests-refused (ltb d 1) (ltb 512 d) false false false later h
-
-pub size-accepted : (d later : ℕ) → refusedSize d 0 ≡ 0 → refusedSize d later ≡ later
-size-accepted d later h =
-    let f = tests-accepted (ltb d 1) (ltb 512 d) false false false h in
-    rw (f .0, f .1)
-
--- the numbers one by one, for a key of so many bytes
-module _ (k d l r : ℕ) where
-  abbrev after : ℕ
-  after = orElse (ltb 64 k) 2 (orElse (ltb 64 l) 3 (orElse (ltb 255 r) 4 0))
-
-  by-bytes : refusedParams (sized k d l r) 0 ≡ refusedSize d after
-  by-bytes = rw (length-replicate {A = ℕ} k 0)
-
-  pub number-size : (refusedSize d 0 ≡ 0 → ⊥) → refusedSize d 0 ≡ refusedParams (sized k d l r) 0
-  number-size h = sym (by-bytes ∙ size-refused d after h)
-
-  pub number-key : refusedSize d 0 ≡ 0 → 64 < k → 2 ≡ refusedParams (sized k d l r) 0
-  number-key h hk = sym (by-bytes ∙ size-accepted d after h ∙ rw (lt-ltb 64 k hk))
-
-  pub number-limit : refusedSize d 0 ≡ 0 → k ≤ 64 → 64 < l → 3 ≡ refusedParams (sized k d l r) 0
-  number-limit h hk hl = sym (by-bytes ∙ size-accepted d after h ∙ rw (le-ltb 64 k hk, lt-ltb 64 l hl))
-
-  pub number-rounds : refusedSize d 0 ≡ 0 → k ≤ 64 → l ≤ 64 → 255 < r → 4 ≡ refusedParams (sized k d l r) 0
-  number-rounds h hk hl hr = sym (by-bytes ∙ size-accepted d after h ∙ rw (le-ltb 64 k hk, le-ltb 64 l hl, lt-ltb 255 r hr))
-
-  pub number-fair : refusedSize d 0 ≡ 0 → k ≤ 64 → l ≤ 64 → r ≤ 255 → 0 ≡ refusedParams (sized k d l r) 0
-  number-fair h hk hl hr = sym (by-bytes ∙ size-accepted d after h ∙ rw (le-ltb 64 k hk, le-ltb 64 l hl, le-ltb 255 r hr))
+use Rattle.tree.specs.Sizes.{treeNodes}
+use Rattle.tree.specs.Count.{order-nodes}
+use Rattle.tree.specs.RefusalLaws.{length-pieceBits, params-refused, params-accepted, params-ranges, Ranges}
 
 -- ---- the numbers of the whole-message call
 

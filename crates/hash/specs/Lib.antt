@@ -3,9 +3,7 @@ pub mod Value
 pub mod ValueLaws
 pub mod NodeByNode
 pub mod ShapeLaws
-pub mod NodeLaws
 pub mod BlockLaws
 pub mod SequentialLaws
-pub mod DigestLaws
 pub mod HashLaws
 pub mod Ready

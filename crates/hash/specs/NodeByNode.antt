@@ -1,10 +1,10 @@
 -- The value worked out node by node is the output of the node at that place of the levels.
 -- Assumes nothing.
 use mathlib.Core.Path.{_≡_, refl, sym, ap, _∙_}
-use mathlib.Core.Bool.{Bool, true, false}
-use mathlib.Core.Option.{Option, none, some}
+use mathlib.Core.Bool.{Bool, true, false, cond}
+use mathlib.Core.Option.{Option, some}
 use mathlib.Core.List.{List, [], _∷_, _++_, map, append-nil}
-use Prim.Native.Nat.{ℕ, zero, suc, _+_, _-_, _*_, _/_, _^_, _≤_, _<_}
+use Prim.Native.Nat.{ℕ, zero, suc, _+_, _-_, _*_, _^_, _≤_, _<_}
 use native.Mathlib.Omega.{arith}
 use borrow.Author.Tests.{ltb-false, leb-true, leb-false, eqb-true, eqb-false, lt-ltb, le-ltb, ne-eqb}
 use lib.Dec.{eqb, leb, ltb}
@@ -13,14 +13,17 @@ use lib.Seq.{take-all}
 use Rattle.lists.specs.Below.{Below, below-append, below-zeros}
 use Rattle.lists.specs.Concat.{concat}
 use Rattle.bits.specs.Bits.{digit, bitsOf, numbers}
-use Rattle.bits.specs.BitsLaws.{length-bitsOf, bitsOf-append, bitsOf-zeros, bitsOf-take, bitsOf-drop, numbers-take, numbers-bitsOf}
+use Rattle.bits.specs.BitsLaws.{digit-le, length-bitsOf, bitsOf-append, bitsOf-zeros, bitsOf-take, bitsOf-drop, numbers-take, numbers-bitsOf}
 use Rattle.tree.specs.Tree.{Params, Valid, Node, words, node, output, blocks, padding, padded, noChain, parallel, sequential, joined, levels, tree, rootOf, root, blockBits, sequentialBits, outputBits}
 use Rattle.tree.specs.Place.{levelAt, nodeAt}
 use Rattle.tree.specs.TreeLaws.{above, onlyIf, lastOnly, chainAt, chainAt-zero, chainAt-suc, length-parallel, length-sequential, length-joined-parallel, parallel-at, sequential-at, levels-one, levels-more, levels-some, rootOf-cons}
-use Rattle.tree.specs.Places.{index-below, root-place, tree-level, tree-index}
-use Rattle.tree.specs.Count.{levelNodes, fourth, level-nodes}
-use Rattle.hash.specs.Value.{Common, commonOf, nodeWords, held, messagePart, nodesAt, joinedValues, childWords, value, sequentialNodes, sequentialPadding, sequentialWords, chain, pick, topFrom, valueAt, rootValue}
-use Rattle.hash.specs.ValueLaws.{pad-part, joined-zero, joined-cons, length-joinedValues, below-joinedValues, joined-part, nodesAt-one, nodesAt-suc, nodesAt-some, nodesAt-le, fair, value-one, value-suc, length-value, below-value, chain-zero, chain-suc, length-chain, below-chain}
+use Rattle.tree.specs.Places.{no-node, index-below, root-place, tree-level, tree-index}
+use Rattle.tree.specs.Count.{level-nodes, levelNodes-one, levelNodes-some}
+use Rattle.tree.specs.Sizes.{levelNodes}
+use Rattle.node.specs.Words.{Common, commonOf, nodeWords}
+use Rattle.hash.specs.Value.{held, messagePart, joinedValues, childWords, value, sequentialNodes, sequentialPadding, sequentialWords, chain, topFrom, valueAt, rootValue}
+use Rattle.hash.specs.ValueLaws.{pad-part, joined-zero, joined-cons, length-joinedValues, below-joinedValues, joined-part, levelNodes-outputs, levelNodes-le, value-one, value-suc, length-value, below-value, chain-zero, chain-suc, length-chain, below-chain}
+use Rattle.node.specs.WordLaws.{fair}
 
 -- ---- the words of a block
 
@@ -107,32 +110,18 @@ output-same P level index z p q block words e w = rw (e, w) (output-words P leve
 same-node : (a b : Node) → _≡_ {A = Option Node} (some a) (some b) → a ≡ b
 same-node a b e = cc
 
-no-node : (a : Node) → _≡_ {A = Option Node} none (some a) → ⊥
-no-node a e = let z : _≡_ {A = ℕ} 0 1 = cc in omega arith
-
 level-in : (T : List (List Node)) (l index : ℕ) (a : Node) → nodeAt T (suc l) index ≡ some a → l < length T
 level-in [] l index a e = absurd (no-node a e)
 level-in (ns ∷ T) zero index a e = omega arith
 level-in (ns ∷ T) (suc l) index a e = omega (arith, level-in T l index a e)
 
--- the nodes of a level, by the formula of Count
-pub nodesAt-levelNodes : (m level : ℕ) → nodesAt m level ≡ levelNodes m level
-unfolding nodesAt
-nodesAt-levelNodes m zero = refl
-nodesAt-levelNodes m (suc zero) = refl
-nodesAt-levelNodes m (suc (suc h)) = fourth (nodesAt m (suc h)) (nodesAt-some m h) ∙ ap (λ (c : ℕ). (c + 3) / 4) (nodesAt-levelNodes m (suc h))
-
-digit-le : (b : Bool) → digit b ≤ 1
-digit-le true = omega arith
-digit-le false = omega arith
-
 module _ (P : Params) (M : List Bool) where
-  blocks-inputs : (h : ℕ) → blocks blockBits (length (inputs P M h)) ≡ nodesAt (length M) (suc h)
+  blocks-inputs : (h : ℕ) → blocks blockBits (length (inputs P M h)) ≡ levelNodes (length M) (suc h)
   unfolding inputs
-  blocks-inputs zero = sym (nodesAt-one (length M))
-  blocks-inputs (suc h) = rw (length-joined-parallel P (suc h) false (inputs P M h), blocks-inputs h) (sym (nodesAt-suc (length M) h))
+  blocks-inputs zero = sym (levelNodes-one (length M))
+  blocks-inputs (suc h) = rw (length-joined-parallel P (suc h) false (inputs P M h), blocks-inputs h) (sym (levelNodes-outputs (length M) h))
 
-  length-inputs : (h : ℕ) → length (inputs P M (suc h)) ≡ outputBits * nodesAt (length M) (suc h)
+  length-inputs : (h : ℕ) → length (inputs P M (suc h)) ≡ outputBits * levelNodes (length M) (suc h)
   unfolding inputs
   length-inputs h = length-joined-parallel P (suc h) false (inputs P M h) ∙ ap (λ (n : ℕ). outputBits * n) (blocks-inputs h)
 
@@ -142,16 +131,16 @@ module _ (P : Params) (M : List Bool) where
       node P (suc h) j z (blockBits * suc j - length (inputs P M h)) (words 64 (drop (blockBits * j) (padded blockBits (inputs P M h))))
 
   abbrev NodeValues : ℕ → Type 0
-  NodeValues h = (j z : ℕ) → j < nodesAt (length M) (suc h) → output (P .rounds) (levelNode h j z) ≡ bitsOf 64 (value (commonOf P) M (suc h) j z)
+  NodeValues h = (j z : ℕ) → j < levelNodes (length M) (suc h) → output (P .rounds) (levelNode h j z) ≡ bitsOf 64 (value (commonOf P) M (suc h) j z)
 
   -- the bits of the level above
   inputs-above : (h : ℕ) → NodeValues h
-      → inputs P M (suc h) ≡ bitsOf 64 (joinedValues (λ j. value (commonOf P) M (suc h) j 0) 0 (nodesAt (length M) (suc h)))
+      → inputs P M (suc h) ≡ bitsOf 64 (joinedValues (λ j. value (commonOf P) M (suc h) j 0) 0 (levelNodes (length M) (suc h)))
   unfolding inputs
   inputs-above h f =
       let X : List Bool = inputs P M h in
       let ns : List Node = parallel P (suc h) false X in
-      let l : length ns ≡ nodesAt (length M) (suc h) = length-parallel P (suc h) false X ∙ blocks-inputs h in
+      let l : length ns ≡ levelNodes (length M) (suc h) = length-parallel P (suc h) false X ∙ blocks-inputs h in
       joined-outputs (output (P .rounds)) (λ j. value (commonOf P) M (suc h) j 0) ns 0
       (λ j n e.
       let b : j < length ns = index-below ns j n e in
@@ -166,24 +155,24 @@ module _ (P : Params) (M : List Bool) where
     node-values : (h : ℕ) → suc h < 256 → NodeValues h
     unfolding inputs
     node-values zero g j z i =
-        let b : j < blocks blockBits (length M) = rw (nodesAt-one (length M)) at i in
+        let b : j < blocks blockBits (length M) = rw (levelNodes-one (length M)) at i in
         let e : blockBits * suc j - length M ≡ blockBits - held blockBits (length M) j = omega arith in
         let w = part-words 64 blockBits (padding blockBits (length M)) M j refl (omega arith) (omega arith) in
         output-same P 1 j z _ _ _ _ e w ∙ ap (bitsOf 64) (sym (value-one (commonOf P) M j z))
     node-values (suc h) g j z i =
         let C : Common = commonOf P in
         let f : ℕ → List ℕ = λ j. value C M (suc h) j 0 in
-        let c : ℕ = nodesAt (length M) (suc h) in
+        let c : ℕ = levelNodes (length M) (suc h) in
         let X : List Bool = inputs P M (suc h) in
-        let b : j < blocks blockBits (outputBits * c) = rw (nodesAt-suc (length M) h) at i in
+        let b : j < blocks blockBits (outputBits * c) = rw (levelNodes-outputs (length M) h) at i in
         let l : length X ≡ outputBits * c = length-inputs h in
-        let e : blockBits * suc j - length X ≡ outputBits * (4 - held 4 c j) = rw l (omega (arith, nodesAt-some (length M) h)) in
+        let e : blockBits * suc j - length X ≡ outputBits * (4 - held 4 c j) = rw l (omega (arith, levelNodes-some (length M) h)) in
         let w : words 64 (drop (blockBits * j) (padded blockBits X)) ≡ words 64 (messagePart blockBits X j) =
-        part-words 64 blockBits (padding blockBits (length X)) X j refl (rw l (omega (arith, nodesAt-some (length M) h))) (rw l (omega (arith, nodesAt-some (length M) h))) in
+        part-words 64 blockBits (padding blockBits (length X)) X j refl (rw l (omega (arith, levelNodes-some (length M) h))) (rw l (omega (arith, levelNodes-some (length M) h))) in
         let v : words 64 (messagePart blockBits X j) ≡ childWords f 4 (4 * j) (held 4 c j) =
         ap (λ (Y : List Bool). words 64 (messagePart blockBits Y j)) (inputs-above h (node-values h (omega arith)))
         ∙ child-part f 4 c j (λ k. length-value C (fair P valid .kLength) M h k 0)
-        (λ k q. below-value C (fair P valid) M small h k 0 (omega arith) q (omega arith)) (omega (arith, nodesAt-some (length M) h)) in
+        (λ k q. below-value C (fair P valid) M small h k 0 (omega arith) q (omega arith)) (omega (arith, levelNodes-some (length M) h)) in
         output-same P (suc (suc h)) j z _ _ _ _ e (w ∙ v) ∙ ap (bitsOf 64) (sym (value-suc C M h j z))
 
     -- ---- the sequential level
@@ -205,11 +194,11 @@ module _ (P : Params) (M : List Bool) where
     sequential-part (suc h) g j i =
         let C : Common = commonOf P in
         let f : ℕ → List ℕ = λ j. value C M (suc h) j 0 in
-        let c : ℕ = nodesAt (length M) (suc h) in
+        let c : ℕ = levelNodes (length M) (suc h) in
         let X : List Bool = inputs P M (suc h) in
         let l : length X ≡ outputBits * c = length-inputs h in
-        let some-c : 1 ≤ c = nodesAt-some (length M) h in
-        let few : c ≤ 2 ^ 52 = nodesAt-le (length M) h small in
+        let some-c : 1 ≤ c = levelNodes-some (length M) h in
+        let few : c ≤ 2 ^ 52 = levelNodes-le (length M) h small in
         let e : sequentialBits * suc j - length X ≡ outputBits * (3 - held 3 c j) = rw l (omega arith) in
         let w : words 48 (drop (sequentialBits * j) (padded sequentialBits X)) ≡ words 48 (messagePart sequentialBits X j) =
         part-words 48 sequentialBits (padding sequentialBits (length X)) X j refl (rw l (omega arith)) (rw l (omega arith)) in
@@ -285,7 +274,7 @@ module _ (P : Params) (M : List Bool) where
         let s : levelNode h i (digit alone) ≡ a = same-node _ a (sym (parallel-at P (suc h) alone X i b) ∙ e) in
         ap (output (P .rounds)) (sym s) ∙ node-values h g i (digit alone) (omega (arith, blocks-inputs h))
 
-    value-parallel : (level index : ℕ) (alone : Bool) → level ≤ P .limit → eqb (nodesAt (length M) level) 1 ≡ alone
+    value-parallel : (level index : ℕ) (alone : Bool) → level ≤ P .limit → eqb (levelNodes (length M) level) 1 ≡ alone
         → valueAt (commonOf P) (P .limit) M level index ≡ value (commonOf P) M level index (digit alone)
     unfolding valueAt
     value-parallel level index alone h e = rw (le-ltb (P .limit) level h, e)
@@ -308,7 +297,7 @@ module _ (P : Params) (M : List Bool) where
         X : List Bool
         X = inputs P M h
 
-        flag : (b : Bool) → eqb (blocks blockBits (length (inputs P M h))) 1 ≡ b → eqb (nodesAt (length M) (suc h)) 1 ≡ b
+        flag : (b : Bool) → eqb (blocks blockBits (length (inputs P M h))) 1 ≡ b → eqb (levelNodes (length M) (suc h)) 1 ≡ b
         flag b q = rw (← (blocks-inputs h)) q
 
         first : (b : Bool) → eqb (blocks blockBits (length (inputs P M h))) 1 ≡ b → getElem? (parallel P (suc h) b (inputs P M h)) i ≡ some a
@@ -331,7 +320,7 @@ module _ (P : Params) (M : List Bool) where
     -- the root, with its level
     abbrev rootFrom : ℕ → List ℕ
     rootFrom top =
-        pick (ltb (P .limit) top) (chain (commonOf P) (P .limit) M (sequentialNodes (P .limit) (length M))) (value (commonOf P) M top 0 1)
+        cond (ltb (P .limit) top) (chain (commonOf P) (P .limit) M (sequentialNodes (P .limit) (length M))) (value (commonOf P) M top 0 1)
 
     levels-root : (n h : ℕ) → h + n ≡ P .limit → output (P .rounds) (rootOf (levels P n (suc h) (inputs P M h))) ≡ bitsOf 64 (rootFrom (topFrom (length M) n (suc h)))
     unfolding topFrom
@@ -350,7 +339,7 @@ module _ (P : Params) (M : List Bool) where
             (root-place (S ∷ []) 1 j (refl, e ∙ sym (length-sequential P (suc (P .limit)) (inputs P M (P .limit)))))
     levels-root (suc n) h t = go (eqb (blocks blockBits (length (inputs P M h))) 1) refl (levels-root n (suc h) (omega arith))
       where
-        flag : (b : Bool) → eqb (blocks blockBits (length (inputs P M h))) 1 ≡ b → eqb (nodesAt (length M) (suc h)) 1 ≡ b
+        flag : (b : Bool) → eqb (blocks blockBits (length (inputs P M h))) 1 ≡ b → eqb (levelNodes (length M) (suc h)) 1 ≡ b
         flag b q = rw (← (blocks-inputs h)) q
 
         go : (b : Bool) → eqb (blocks blockBits (length (inputs P M h))) 1 ≡ b
@@ -389,18 +378,18 @@ module _ (P : Params) (M : List Bool) where
     below-at (suc h) index a e = go (ltb (P .limit) (suc h)) refl
       where
         z : ℕ
-        z = digit (eqb (nodesAt (length M) (suc h)) 1)
+        z = digit (eqb (levelNodes (length M) (suc h)) 1)
 
         go : (b : Bool) → ltb (P .limit) (suc h) ≡ b
-            → Below (2 ^ 64) (pick b (chain (commonOf P) (P .limit) M (suc index)) (value (commonOf P) M (suc h) index (digit (eqb (nodesAt (length M) (suc h)) 1))))
+            → Below (2 ^ 64) (cond b (chain (commonOf P) (P .limit) M (suc index)) (value (commonOf P) M (suc h) index (digit (eqb (levelNodes (length M) (suc h)) 1))))
         go true t =
             below-chain (commonOf P) (fair P valid) M small (P .limit) (suc index) (omega (arith, valid .limitHigh)) (omega (arith, tree-index P M (suc h) index a e))
         go false t =
             let g : suc h ≤ P .limit = ltb-false (P .limit) (suc h) t in
             let n = level-nodes P M (suc h) (omega arith) g (omega (arith, level-in (tree P M) h index a e)) in
             below-value (commonOf P) (fair P valid) M small h index z (omega (arith, valid .limitHigh))
-            (omega (arith, index-below (levelAt (tree P M) (suc h)) index a e, n, nodesAt-levelNodes (length M) (suc h)))
-            (digit-le (eqb (nodesAt (length M) (suc h)) 1))
+            (omega (arith, index-below (levelAt (tree P M) (suc h)) index a e, n))
+            (digit-le (eqb (levelNodes (length M) (suc h)) 1))
 
     length-at : (level index : ℕ) → 0 < level → length (valueAt (commonOf P) (P .limit) M level index) ≡ 16
     unfolding valueAt
@@ -408,9 +397,9 @@ module _ (P : Params) (M : List Bool) where
     length-at (suc h) index g = go (ltb (P .limit) (suc h))
       where
         go : (b : Bool)
-            → length (pick b (chain (commonOf P) (P .limit) M (suc index)) (value (commonOf P) M (suc h) index (digit (eqb (nodesAt (length M) (suc h)) 1)))) ≡ 16
+            → length (cond b (chain (commonOf P) (P .limit) M (suc index)) (value (commonOf P) M (suc h) index (digit (eqb (levelNodes (length M) (suc h)) 1)))) ≡ 16
         go true = length-chain (commonOf P) (fair P valid .kLength) M (P .limit) (suc index)
-        go false = length-value (commonOf P) (fair P valid .kLength) M h index (digit (eqb (nodesAt (length M) (suc h)) 1))
+        go false = length-value (commonOf P) (fair P valid .kLength) M h index (digit (eqb (levelNodes (length M) (suc h)) 1))
 
     pub node-words : (level index : ℕ) (a : Node) → nodeAt (tree P M) level index ≡ some a
         → words 16 (output (P .rounds) a) ≡ valueAt (commonOf P) (P .limit) M level index

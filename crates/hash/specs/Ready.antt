@@ -6,8 +6,8 @@ use Prim.Native.Nat.{ℕ, _≤_}
 use lib.ListN.{length}
 use Rattle.compress.specs.Compress.{RoundTable}
 use Rattle.tree.specs.Tree as Tree
-use Rattle.hash.specs.Value.{Common, common}
-use Rattle.hash.specs.declared.Params.{Params}
+use Rattle.node.specs.Words.{Common, common}
+use Rattle.node.specs.declared.Params.{Params}
 
 -- the parameters with a key
 abbrev pub paramsOf : List ℕ → Params → Tree.Params

@@ -1,7 +1,7 @@
 -- Laws for the code of the sequential level.
 -- Assumes nothing.
 use mathlib.Core.Path.{_≡_, refl, sym, ap, _∙_}
-use mathlib.Core.Bool.{Bool, true, false}
+use mathlib.Core.Bool.{Bool, true, false, cond}
 use borrow.Author.Tests.{lt-ltb, le-ltb}
 use mathlib.Core.List.{List, [], _++_, append-nil}
 use Prim.Native.Nat.{ℕ, zero, suc, _+_, _-_, _*_, _^_, _≤_, _<_}
@@ -11,11 +11,15 @@ use lib.ListN.{length, replicate}
 use lib.Seq.{paste}
 use Rattle.bits.specs.Bits.{digit, filled}
 use Rattle.tree.specs.Tree.{words, sequentialBits, outputBits}
-use Rattle.hash.specs.Hash.{pieceBits}
-use Rattle.hash.specs.Value.{Common, nodeWords, held, messagePart, nodesAt, childWords, value, sequentialNodes, sequentialPadding, sequentialWords, chain, rootValue, topFrom, topLevel, pick}
-use Rattle.hash.specs.ValueLaws.{nodesAt-some, nodesAt-le, chain-suc}
-use Rattle.hash.specs.NodeLaws.{paste-at}
-use Rattle.hash.specs.BlockLaws.{length-pieceBits, filled-part}
+use Rattle.tree.specs.Refusals.{pieceBits}
+use Rattle.tree.specs.Sizes.{levelNodes}
+use Rattle.node.specs.Words.{Common, nodeWords}
+use Rattle.hash.specs.Value.{held, messagePart, childWords, value, sequentialNodes, sequentialPadding, sequentialWords, chain, rootValue, topFrom, topLevel}
+use Rattle.tree.specs.Count.{levelNodes-some}
+use Rattle.hash.specs.ValueLaws.{levelNodes-le, chain-suc}
+use Rattle.node.specs.NodeLaws.{paste-at}
+use Rattle.tree.specs.RefusalLaws.{length-pieceBits}
+use Rattle.hash.specs.BlockLaws.{filled-part}
 
 -- ---- indices
 
@@ -23,15 +27,15 @@ pub message-index : (bits index : ℕ) → index < sequentialNodes 0 bits → se
 unfolding sequentialNodes
 message-index bits index h = omega arith
 
-pub third-index : (limit bits index : ℕ) → 0 < limit → index < sequentialNodes limit bits → 3 * index ≤ nodesAt bits limit
+pub third-index : (limit bits index : ℕ) → 0 < limit → index < sequentialNodes limit bits → 3 * index ≤ levelNodes bits limit
 unfolding sequentialNodes
 third-index zero bits index h i = absurd (omega arith)
-third-index (suc l) bits index h i = omega (arith, nodesAt-some bits l)
+third-index (suc l) bits index h i = omega (arith, levelNodes-some bits l)
 
 pub sequential-index : (limit bits index : ℕ) → bits < 2 ^ 64 → index < sequentialNodes limit bits → index < 2 ^ 56
 unfolding sequentialNodes
 sequential-index zero bits index b i = omega arith
-sequential-index (suc l) bits index b i = omega (arith, nodesAt-le bits l b)
+sequential-index (suc l) bits index b i = omega (arith, levelNodes-le bits l b)
 
 -- ---- padding bits
 
@@ -39,7 +43,7 @@ pub padding-message : (limit bits index : ℕ) → limit ≡ 0 → sequentialBit
 unfolding sequentialPadding
 padding-message limit bits index e = rw e
 
-pub padding-children : (limit bits index : ℕ) → (limit ≡ 0 → ⊥) → outputBits * (3 - held 3 (nodesAt bits limit) index) ≡ sequentialPadding limit bits index
+pub padding-children : (limit bits index : ℕ) → (limit ≡ 0 → ⊥) → outputBits * (3 - held 3 (levelNodes bits limit) index) ≡ sequentialPadding limit bits index
 unfolding sequentialPadding
 padding-children zero bits index h = absurd (h refl)
 padding-children (suc l) bits index h = refl
@@ -57,7 +61,7 @@ unfolding sequentialWords
 words-message C limit M index e = rw e
 
 pub words-children : (C : Common) (limit : ℕ) (bytes : List ℕ) (bits index n : ℕ) → 0 < limit → bits ≤ 8 * length bytes
-    → n ≡ held 3 (nodesAt bits limit) index
+    → n ≡ held 3 (levelNodes bits limit) index
     → childWords (λ j. value C (pieceBits bytes bits) limit j 0) 3 (3 * index) n ≡ sequentialWords C limit (pieceBits bytes bits) index
 unfolding sequentialWords
 words-children C zero bytes bits index n h g en = absurd (omega arith)
@@ -106,12 +110,12 @@ root-parallel C limit bytes bits g h = rw (length-pieceBits bytes bits g, le-ltb
 pub top-some : (m n level : ℕ) → level ≤ topFrom m n level
 unfolding topFrom
 top-some m zero level = omega arith
-top-some m (suc n) level = go (eqb (nodesAt m level) 1) (top-some m n (suc level))
+top-some m (suc n) level = go (eqb (levelNodes m level) 1) (top-some m n (suc level))
   where
-    go : (b : Bool) → suc level ≤ topFrom m n (suc level) → level ≤ pick b level (topFrom m n (suc level))
+    go : (b : Bool) → suc level ≤ topFrom m n (suc level) → level ≤ cond b level (topFrom m n (suc level))
     go true h = omega arith
     go false h = omega arith
 
-pub first-node : (bits level : ℕ) → 0 < level → 0 < nodesAt bits level
+pub first-node : (bits level : ℕ) → 0 < level → 0 < levelNodes bits level
 first-node bits zero h = absurd (omega arith)
-first-node bits (suc l) h = nodesAt-some bits l
+first-node bits (suc l) h = levelNodes-some bits l

@@ -2,35 +2,15 @@
 -- along the chain at the sequential level. This is the way of the code; that each value is the output of the node at that
 -- place of the levels is a theorem (ValueLaws).
 -- Assumes nothing.
-use mathlib.Core.Bool.{Bool, true, false}
+use mathlib.Core.Bool.{Bool, false, cond}
 use mathlib.Core.List.{List, [], _++_}
 use Prim.Native.Nat.{ℕ, zero, suc, _+_, _-_, _*_, min}
 use lib.Dec.{eqb, ltb}
 use lib.ListN.{length, take, drop, replicate}
 use Rattle.bits.specs.Bits.{digit}
-use Rattle.compress.specs.Compress.{compressed, windowOf}
-use Rattle.tree.specs.Tree.{Params, words, keyWords, nodeU, nodeV, blockBits, sequentialBits, outputBits, blocks}
-
--- what the nodes of one tree share: K, the rounds, and V by its z and p
-pub record Common : Type 0 where
-  pub k : List ℕ
-  pub rounds : ℕ
-  pub v : ℕ → ℕ → ℕ
-
--- parameters with a key of so many zero bytes: V tells no more of the key than how many bytes it has
-abbrev pub sized : ℕ → ℕ → ℕ → ℕ → Params
-sized keyBytes d limit rounds = record { key = replicate keyBytes 0; d = d; limit = limit; rounds = rounds }
-
-abbrev pub commonOf : Params → Common
-commonOf P = record { k = keyWords (P .key); rounds = P .rounds; v = nodeV P }
-
--- the same from the words of K and the numbers of the parameters
-abbrev pub common : List ℕ → ℕ → ℕ → ℕ → ℕ → Common
-common k keyBytes d limit rounds = record { k = k; rounds = rounds; v = nodeV (sized keyBytes d limit rounds) }
-
--- the 16 words that the compression makes of a node
-unfoldable pub nodeWords : Common → ℕ → ℕ → ℕ → ℕ → List ℕ → List ℕ
-nodeWords C level index z p block = compressed (C .rounds) (windowOf (C .k) (nodeU level index) (C .v z p) block)
+use Rattle.tree.specs.Tree.{words, blockBits, sequentialBits, outputBits, blocks}
+use Rattle.tree.specs.Sizes.{levelNodes}
+use Rattle.node.specs.Words.{Common, nodeWords}
 
 -- how many of m things a node takes that stands at an index and takes so many at most
 abbrev pub held : ℕ → ℕ → ℕ → ℕ
@@ -39,12 +19,6 @@ held size m index = min size (m - size * index)
 -- the message bits that a node at an index takes, and zero bits after them
 abbrev pub messagePart : ℕ → List Bool → ℕ → List Bool
 messagePart size M index = take size (drop (size * index) M) ++ replicate (size - held size (length M) index) false
-
--- the nodes of a parallel level, for a message of m bits
-unfoldable pub nodesAt : ℕ → ℕ → ℕ
-nodesAt m zero = 0
-nodesAt m (suc zero) = blocks blockBits m
-nodesAt m (suc (suc level)) = blocks blockBits (outputBits * nodesAt m (suc level))
 
 -- the values f of n nodes from an index on, joined
 unfoldable pub joinedValues : (ℕ → List ℕ) → ℕ → ℕ → List ℕ
@@ -61,24 +35,24 @@ value C M zero index z = []
 value C M (suc zero) index z =
     nodeWords C 1 index z (blockBits - held blockBits (length M) index) (words 64 (messagePart blockBits M index))
 value C M (suc (suc level)) index z =
-    let n : ℕ = held 4 (nodesAt (length M) (suc level)) index in
+    let n : ℕ = held 4 (levelNodes (length M) (suc level)) index in
     nodeWords C (suc (suc level)) index z (outputBits * (4 - n)) (childWords (λ j. value C M (suc level) j 0) 4 (4 * index) n)
 
 -- ---- the sequential level, above so many parallel ones
 
 unfoldable pub sequentialNodes : ℕ → ℕ → ℕ
 sequentialNodes zero m = blocks sequentialBits m
-sequentialNodes (suc level) m = blocks sequentialBits (outputBits * nodesAt m (suc level))
+sequentialNodes (suc level) m = blocks sequentialBits (outputBits * levelNodes m (suc level))
 
 -- the padding bits of the node at an index, and the 48 words that it takes beside the chain
 unfoldable pub sequentialPadding : ℕ → ℕ → ℕ → ℕ
 sequentialPadding zero m index = sequentialBits - held sequentialBits m index
-sequentialPadding (suc level) m index = outputBits * (3 - held 3 (nodesAt m (suc level)) index)
+sequentialPadding (suc level) m index = outputBits * (3 - held 3 (levelNodes m (suc level)) index)
 
 unfoldable pub sequentialWords : Common → ℕ → List Bool → ℕ → List ℕ
 sequentialWords C zero M index = words 48 (messagePart sequentialBits M index)
 sequentialWords C (suc level) M index =
-    childWords (λ j. value C M (suc level) j 0) 3 (3 * index) (held 3 (nodesAt (length M) (suc level)) index)
+    childWords (λ j. value C M (suc level) j 0) 3 (3 * index) (held 3 (levelNodes (length M) (suc level)) index)
 
 -- the chain after n nodes: 16 zero words, and then the value of the node before; z is 1 at the last
 unfoldable pub chain : Common → ℕ → List Bool → ℕ → List ℕ
@@ -89,14 +63,10 @@ chain C limit M (suc index) =
 
 -- ---- the whole tree
 
-abbrev pub pick {ℓ} : {A : Type ℓ} → Bool → A → A → A
-pick true a b = a
-pick false a b = b
-
 -- the root's level: the first of one node, from a level on with n parallel ones left, and otherwise the sequential one
 unfoldable pub topFrom : ℕ → ℕ → ℕ → ℕ
 topFrom m zero level = level
-topFrom m (suc n) level = pick (eqb (nodesAt m level) 1) level (topFrom m n (suc level))
+topFrom m (suc n) level = cond (eqb (levelNodes m level) 1) level (topFrom m n (suc level))
 
 abbrev pub topLevel : ℕ → ℕ → ℕ
 topLevel limit m = topFrom m limit 1
@@ -104,10 +74,10 @@ topLevel limit m = topFrom m limit 1
 -- the value of the node at a level and an index of the tree
 unfoldable pub valueAt : Common → ℕ → List Bool → ℕ → ℕ → List ℕ
 valueAt C limit M level index =
-    pick (ltb limit level) (chain C limit M (suc index)) (value C M level index (digit (eqb (nodesAt (length M) level) 1)))
+    cond (ltb limit level) (chain C limit M (suc index)) (value C M level index (digit (eqb (levelNodes (length M) level) 1)))
 
 -- the root's value
 unfoldable pub rootValue : Common → ℕ → List Bool → List ℕ
 rootValue C limit M =
     let top : ℕ = topLevel limit (length M) in
-    pick (ltb limit top) (chain C limit M (sequentialNodes limit (length M))) (value C M top 0 1)
+    cond (ltb limit top) (chain C limit M (sequentialNodes limit (length M))) (value C M top 0 1)

@@ -11,22 +11,16 @@ use borrow.Author.Tests.{leb-true, leb-false}
 use lib.Dec.{eqb, leb}
 use lib.ListN.{length, take, drop, replicate, length-append, length-drop, length-replicate}
 use lib.Seq.{take-append-le, drop-append-le, take-append-add, take-all, take-at, drop-at}
-use Rattle.lists.specs.Append.{cons-eq}
+use Rattle.lists.specs.Replicate.{take-replicate}
 use Rattle.lists.specs.Below.{Below, none, below-append, below-zeros}
-use Rattle.bits.specs.Bits.{digit, numbers}
-use Rattle.bits.specs.BitsLaws.{length-numbers, numbers-below}
-use Rattle.compress.specs.Compress.{windowOf}
-use Rattle.compress.specs.CompressLaws.{length-compressed, compressed-below}
-use Rattle.tree.specs.Tree.{Params, Valid, Node, words, nodeU, node, output, blocks, joined, levels, blockBits, sequentialBits, outputBits}
-use Rattle.tree.specs.TreeLaws.{length-keyWords, keyWords-below, nodeV-below, length-window, window-below}
-use Rattle.hash.specs.Value.{Common, commonOf, nodeWords, held, messagePart, nodesAt, joinedValues, childWords, value, sequentialNodes, sequentialPadding, sequentialWords, chain}
-
--- ---- lists
-
-take-replicate : {A : Type 0} (k q : ℕ) (z : A) → k ≤ q → take k (replicate q z) ≡ replicate k z
-take-replicate zero q z h = refl
-take-replicate (suc k) zero z h = absurd (omega arith)
-take-replicate (suc k) (suc q) z h = cons-eq refl (take-replicate k q z (omega arith))
+use Rattle.bits.specs.Bits.{digit}
+use Rattle.bits.specs.BitsLaws.{digit-le, length-numbers, numbers-below}
+use Rattle.tree.specs.Tree.{words, blocks, blockBits, sequentialBits, outputBits}
+use Rattle.tree.specs.Sizes.{levelNodes}
+use Rattle.tree.specs.Count.{fourth, levelNodes-one, levelNodes-suc, levelNodes-some}
+use Rattle.node.specs.Words.{Common, nodeWords}
+use Rattle.node.specs.WordLaws.{length-nodeWords, below-nodeWords, Fair}
+use Rattle.hash.specs.Value.{held, messagePart, joinedValues, childWords, value, sequentialNodes, sequentialPadding, sequentialWords, chain}
 
 -- so many elements from n on, of a list that zeros follow
 pub pad-part : {A : Type 0} (s n q : ℕ) (M : List A) (z : A) → n ≤ length M → n + s ≤ length M + q
@@ -124,22 +118,14 @@ joined-part f q c i h g =
 
 -- ---- nodes of a level
 
-pub nodesAt-one : (m : ℕ) → nodesAt m 1 ≡ blocks blockBits m
-unfolding nodesAt
-nodesAt-one m = refl
-
-pub nodesAt-suc : (m h : ℕ) → nodesAt m (suc (suc h)) ≡ blocks blockBits (outputBits * nodesAt m (suc h))
-unfolding nodesAt
-nodesAt-suc m h = refl
-
-pub nodesAt-some : (m h : ℕ) → 1 ≤ nodesAt m (suc h)
-nodesAt-some m zero = rw (nodesAt-one m) (omega arith)
-nodesAt-some m (suc h) = rw (nodesAt-suc m h) (omega arith)
+-- the outputs of a level fill the blocks of the one above
+pub levelNodes-outputs : (m h : ℕ) → levelNodes m (suc (suc h)) ≡ blocks blockBits (outputBits * levelNodes m (suc h))
+levelNodes-outputs m h = levelNodes-suc m h ∙ sym (fourth (levelNodes m (suc h)) (levelNodes-some m h))
 
 -- an index of a level is below 2 ^ 56
-pub nodesAt-le : (m h : ℕ) → m < 2 ^ 64 → nodesAt m (suc h) ≤ 2 ^ 52
-nodesAt-le m zero l = rw (nodesAt-one m) (omega arith)
-nodesAt-le m (suc h) l = rw (nodesAt-suc m h) (omega (arith, nodesAt-some m h, nodesAt-le m h l))
+pub levelNodes-le : (m h : ℕ) → m < 2 ^ 64 → levelNodes m (suc h) ≤ 2 ^ 52
+levelNodes-le m zero l = rw (levelNodes-one m) (omega arith)
+levelNodes-le m (suc h) l = rw (levelNodes-suc m h) (omega (arith, levelNodes-le m h l))
 
 -- ---- the definitions, one step each
 
@@ -151,7 +137,7 @@ module _ (C : Common) (M : List Bool) where
 
   pub value-suc : (h index z : ℕ)
       → value C M (suc (suc h)) index z
-      ≡ nodeWords C (suc (suc h)) index z (outputBits * (4 - held 4 (nodesAt (length M) (suc h)) index)) (childWords (λ j. value C M (suc h) j 0) 4 (4 * index) (held 4 (nodesAt (length M) (suc h)) index))
+      ≡ nodeWords C (suc (suc h)) index z (outputBits * (4 - held 4 (levelNodes (length M) (suc h)) index)) (childWords (λ j. value C M (suc h) j 0) 4 (4 * index) (held 4 (levelNodes (length M) (suc h)) index))
   unfolding value
   value-suc h index z = refl
 
@@ -168,19 +154,13 @@ module _ (C : Common) (M : List Bool) where
 -- ---- values: 16 words each
 
 module _ (C : Common) (kLength : length (C .k) ≡ 8) where
-  pub length-nodeWords : (level index z p : ℕ) (block : List ℕ) → length block ≡ 64 → length (nodeWords C level index z p block) ≡ 16
-  unfolding nodeWords
-  length-nodeWords level index z p block h =
-      let n : Node = record { k = C .k; u = nodeU level index; v = C .v z p; block = block } in
-      length-compressed (C .rounds) (windowOf (C .k) (nodeU level index) (C .v z p) block) (length-window n kLength h)
-
   module _ (M : List Bool) where
     pub length-value : (h index z : ℕ) → length (value C M (suc h) index z) ≡ 16
-    length-value zero index z = rw (value-one C M index z) (length-nodeWords 1 index z _ _ (length-numbers 64 64 (messagePart blockBits M index)))
+    length-value zero index z = rw (value-one C M index z) (length-nodeWords C kLength 1 index z _ _ (length-numbers 64 64 (messagePart blockBits M index)))
     length-value (suc h) index z =
-        let n : ℕ = held 4 (nodesAt (length M) (suc h)) index in
+        let n : ℕ = held 4 (levelNodes (length M) (suc h)) index in
         rw (value-suc C M h index z)
-        (length-nodeWords (suc (suc h)) index z _ _
+        (length-nodeWords C kLength (suc (suc h)) index z _ _
         (simp (length-append, length-replicate)
         (omega (arith, length-joinedValues (λ j. value C M (suc h) j 0) (4 * index) n (λ j. length-value h j 0)))))
 
@@ -188,7 +168,7 @@ module _ (C : Common) (kLength : length (C .k) ≡ 8) where
     unfolding sequentialWords
     length-sequentialWords zero index = length-numbers 64 48 (messagePart sequentialBits M index)
     length-sequentialWords (suc h) index =
-        let n : ℕ = held 3 (nodesAt (length M) (suc h)) index in
+        let n : ℕ = held 3 (levelNodes (length M) (suc h)) index in
         simp (length-append, length-replicate)
         (omega (arith, length-joinedValues (λ j. value C M (suc h) j 0) (3 * index) n (λ j. length-value h j 0)))
 
@@ -196,22 +176,10 @@ module _ (C : Common) (kLength : length (C .k) ≡ 8) where
     length-chain limit zero = rw (chain-zero C M limit)
     length-chain limit (suc index) =
         rw (chain-suc C M limit index)
-        (length-nodeWords (suc limit) index _ _ _
+        (length-nodeWords C kLength (suc limit) index _ _ _
         (length-append (chain C limit M index) (sequentialWords C limit M index) ∙ omega (arith, length-chain limit index, length-sequentialWords limit index)))
 
 -- ---- values are words: numbers below 2 ^ 64
-
-pub record Fair (C : Common) : Type 0 where
-  pub kLength : length (C .k) ≡ 8
-  pub kBelow : Below (2 ^ 64) (C .k)
-  pub vBelow : (z p : ℕ) → z ≤ 1 → p ≤ 4096 → C .v z p < 2 ^ 64
-
-pub fair : (P : Params) → Valid P → Fair (commonOf P)
-fair P v = record { kLength = length-keyWords (P .key); kBelow = keyWords-below (P .key); vBelow = λ z p hz hp. nodeV-below P z p v hz hp }
-
-digit-le : (b : Bool) → digit b ≤ 1
-digit-le true = omega arith
-digit-le false = omega arith
 
 sequentialPadding-le : (limit m index : ℕ) → sequentialPadding limit m index ≤ 4096
 unfolding sequentialPadding
@@ -219,24 +187,16 @@ sequentialPadding-le zero m index = omega arith
 sequentialPadding-le (suc h) m index = omega arith
 
 module _ (C : Common) (ok : Fair C) where
-  pub below-nodeWords : (level index z p : ℕ) (block : List ℕ) → level < 256 → index < 2 ^ 56 → z ≤ 1 → p ≤ 4096 → Below (2 ^ 64) block
-      → Below (2 ^ 64) (nodeWords C level index z p block)
-  unfolding nodeWords
-  below-nodeWords level index z p block hl hi hz hp hb =
-      let n : Node = record { k = C .k; u = nodeU level index; v = C .v z p; block = block } in
-      compressed-below (C .rounds) (windowOf (C .k) (nodeU level index) (C .v z p) block)
-      (window-below n (record { k = ok .kBelow; u = omega arith; v = ok .vBelow z p hz hp; block = hb }))
-
   module _ (M : List Bool) (small : length M < 2 ^ 64) where
-    pub below-value : (h index z : ℕ) → suc h < 256 → index < nodesAt (length M) (suc h) → z ≤ 1 → Below (2 ^ 64) (value C M (suc h) index z)
+    pub below-value : (h index z : ℕ) → suc h < 256 → index < levelNodes (length M) (suc h) → z ≤ 1 → Below (2 ^ 64) (value C M (suc h) index z)
     below-value zero index z g i hz =
         rw (value-one C M index z)
-        (below-nodeWords 1 index z _ _ g (omega (arith, nodesAt-le (length M) zero small)) hz (omega arith) (numbers-below 64 64 (messagePart blockBits M index)))
+        (below-nodeWords C ok 1 index z _ _ g (omega (arith, levelNodes-le (length M) zero small)) hz (omega arith) (numbers-below 64 64 (messagePart blockBits M index)))
     below-value (suc h) index z g i hz =
-        let c : ℕ = nodesAt (length M) (suc h) in
+        let c : ℕ = levelNodes (length M) (suc h) in
         let n : ℕ = held 4 c index in
         rw (value-suc C M h index z)
-        (below-nodeWords (suc (suc h)) index z _ _ g (omega (arith, nodesAt-le (length M) (suc h) small)) hz (omega arith)
+        (below-nodeWords C ok (suc (suc h)) index z _ _ g (omega (arith, levelNodes-le (length M) (suc h) small)) hz (omega arith)
         (below-append
         (below-joinedValues (λ j. value C M (suc h) j 0) (4 * index) n (λ j b. below-value h (4 * index + j) 0 (omega arith) (omega arith) (omega arith)))
         (below-zeros (2 ^ 64) (16 * (4 - n)) (omega arith))))
@@ -245,7 +205,7 @@ module _ (C : Common) (ok : Fair C) where
     unfolding sequentialWords
     below-sequentialWords zero index g = numbers-below 64 48 (messagePart sequentialBits M index)
     below-sequentialWords (suc h) index g =
-        let n : ℕ = held 3 (nodesAt (length M) (suc h)) index in
+        let n : ℕ = held 3 (levelNodes (length M) (suc h)) index in
         below-append
         (below-joinedValues (λ j. value C M (suc h) j 0) (3 * index) n (λ j b. below-value h (3 * index + j) 0 (omega arith) (omega arith) (omega arith)))
         (below-zeros (2 ^ 64) (16 * (3 - n)) (omega arith))
@@ -254,5 +214,5 @@ module _ (C : Common) (ok : Fair C) where
     below-chain limit zero g h = rw (chain-zero C M limit) (below-zeros (2 ^ 64) 16 (omega arith))
     below-chain limit (suc index) g h =
         rw (chain-suc C M limit index)
-        (below-nodeWords (suc limit) index _ _ _ g (omega arith) (digit-le (eqb (suc index) (sequentialNodes limit (length M)))) (sequentialPadding-le limit (length M) index)
+        (below-nodeWords C ok (suc limit) index _ _ _ g (omega arith) (digit-le (eqb (suc index) (sequentialNodes limit (length M)))) (sequentialPadding-le limit (length M) index)
         (below-append (below-chain limit index g (omega arith)) (below-sequentialWords limit index g)))

@@ -6,13 +6,14 @@ ghost use lib.Dec.{eqb};
 ghost use lib.ListN.{length};
 ghost use Rattle.bits.specs.Bits.{digit};
 ghost use Rattle.tree.specs.Tree.{words, sequentialBits};
-ghost use Rattle.hash.specs.Hash.{pieceBits};
-ghost use Rattle.hash.specs.Value.{nodeWords, messagePart, nodesAt, value, sequentialNodes, sequentialPadding, sequentialWords, chain, rootValue};
+ghost use Rattle.tree.specs.Refusals.{pieceBits};
+ghost use Rattle.tree.specs.Sizes.{levelNodes};
+ghost use Rattle.node.specs.Words.{nodeWords};
+ghost use Rattle.hash.specs.Value.{messagePart, value, sequentialNodes, sequentialPadding, sequentialWords, chain, rootValue};
 ghost use Rattle.hash.specs.Ready.{Ready, shared};
-use super::Block;
-use super::Params;
-use super::node;
 use super::shape;
+use node::Block;
+use node::Params;
 
 // The value of the node with this place, z, padding bits and block.
 fn made(
@@ -44,7 +45,7 @@ fn leaf(
     index: u64,
     z: u64,
 ) -> [u64; 16]
-    requires { ⌜ Ready params (now k) (now table) × (bits ≤ 8 * length (now message)) × (index < nodesAt bits 1) × (z < 16) ⌝ }
+    requires { ⌜ Ready params (now k) (now table) × (bits ≤ 8 * length (now message)) × (index < levelNodes bits 1) × (z < 16) ⌝ }
     ensures { λ r. ⌜ r ≡ value (shared (now (k .entry)) params) (pieceBits (now (message .entry)) bits) 1 index z ⌝ }
 {
     let n = shape::taken(Block::BITS, bits, index);
@@ -67,7 +68,7 @@ pub fn value(
     index: u64,
     z: u64,
 ) -> [u64; 16]
-    requires { ⌜ Ready params (now k) (now table) × (bits ≤ 8 * length (now message)) × (0 < level) × (level < 256) × (index < nodesAt bits level) × (z < 16) ⌝ }
+    requires { ⌜ Ready params (now k) (now table) × (bits ≤ 8 * length (now message)) × (0 < level) × (level < 256) × (index < levelNodes bits level) × (z < 16) ⌝ }
     ensures { λ r. ⌜ r ≡ value (shared (now (k .entry)) params) (pieceBits (now (message .entry)) bits) level index z ⌝ }
 {
     if level == 1 {

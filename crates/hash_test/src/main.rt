@@ -6,27 +6,12 @@ ghost use Prim.Native.Nat.{_≤_};
 ghost use lib.ListN.{length};
 use libc::STDOUT_FILENO;
 
-fn wide(b: u8) -> u64 {
-    b as u64
-}
-
-// Writes bytes in hexadecimal.
-fn print_bytes(bytes: &[u8]) {
-    let mut i = 0;
-    while i < bytes.len() {
-        io::print_hex(STDOUT_FILENO, wide(bytes[i]), 2);
-        i += 1;
-    }
-}
-
 // Calls hash, and writes what it answers.
 fn call(message: &[u8], bits: u64, key: &[u8], d: u64, limit: u64, rounds: u64, out: &mut [u8]) {
     let answer = hash::hash(message, bits, key, d, limit, rounds, &mut *out);
-    io::print_decimal(STDOUT_FILENO, answer.number);
+    show::answer(answer.number, answer.count);
     io::write_all(STDOUT_FILENO, b" ");
-    io::print_decimal(STDOUT_FILENO, answer.count);
-    io::write_all(STDOUT_FILENO, b" ");
-    print_bytes(&*out);
+    show::bytes(&*out);
     io::write_all(STDOUT_FILENO, b"\n");
 }
 
@@ -107,9 +92,7 @@ fn report() {
 // The default rounds at the edges of d.
 fn default_rounds(d: u64) {
     let answer = hash::default_rounds(d);
-    io::print_decimal(STDOUT_FILENO, answer.number);
-    io::write_all(STDOUT_FILENO, b" ");
-    io::print_decimal(STDOUT_FILENO, answer.count);
+    show::answer(answer.number, answer.count);
     io::write_all(STDOUT_FILENO, b"\n");
 }
 

@@ -14,7 +14,7 @@ pub enum Rounds {
 }
 
 // What two bytes are as hexadecimal digits: a byte, the high digit first, or none.
-pub enum Pair {
+enum Pair {
     Byte(u8),
     NoByte,
 }

@@ -23,23 +23,11 @@ fn line_state(line: &[u8]) -> State
     s
 }
 
-fn wide(b: u8) -> u64 {
-    b as u64
-}
-
-fn write_bytes(bytes: &[u8]) {
-    let mut i = 0;
-    while i < bytes.len() {
-        io::print_hex(STDOUT_FILENO, wide(bytes[i]), 2);
-        i += 1;
-    }
-}
-
 // The key is a part of the bytes that are kept.
 fn write_key(kept: [u8; Key::KEPT], n: usize)
     requires { ⌜ n ≤ keptBytes ⌝ }
 {
-    write_bytes(&kept[..n]);
+    show::bytes(&kept[..n]);
 }
 
 fn write_rounds(rounds: Rounds) {

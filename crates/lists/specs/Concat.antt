@@ -1,6 +1,6 @@
 -- Lists joined one after the other.
 -- Assumes nothing.
-use mathlib.Core.Path.{_≡_, refl, sym, ap, _∙_}
+use mathlib.Core.Path.{_≡_, refl, sym, ap}
 use mathlib.Core.List.{List, [], _∷_, _++_, map, append-assoc}
 
 abbrev pub concat {ℓ} : {A : Type ℓ} → List (List A) → List A

@@ -1,8 +1,9 @@
 pub mod Append
 pub mod Below
+pub mod Both
 pub mod Concat
 pub mod Part
 pub mod Paste
+pub mod Replicate
 pub mod Slices
-pub mod Tab
 pub mod Table

@@ -2,11 +2,13 @@
 ghost use Prim.Native.Nat.{_≤_};
 ghost use lib.ListN.{length};
 ghost use Rattle.line.specs.Fold.{keptBytes};
+ghost use Rattle.md6.specs.Opening.{digestBits};
 use libc::STDIN_FILENO;
 use line::Key;
 use line::Reading;
 use line::Rounds;
 use line::State;
+use sound::Area;
 
 // Where reading the first line has come to: it goes on, byte 10 has ended it, the input ended before that, or a read failed.
 pub enum Found {
@@ -60,54 +62,46 @@ fn scan(start: State, bytes: &[u8]) -> First
     }
 }
 
-// The line with the bytes of one read more.
-fn read_part(buf: &mut [u8], state: State) -> First
-    ensures { λ r. ⌜ (r .from ≤ r .to) × (r .to ≤ length (now (buf .exit))) ⌝ }
-{
-    let got = libc::read(STDIN_FILENO, buf);
-    if got < 0 {
-        return First {
-            found: Found::Failed,
-            state,
-            from: 0,
-            to: 0,
-        };
-    }
-    if got == 0 {
-        return First {
-            found: Found::NoLine,
-            state,
-            from: 0,
-            to: 0,
-        };
-    }
-    let n = io::count(got, buf);
-    scan(state, &buf[..n])
-}
-
-fn goes_on(first: First) -> bool {
-    let found = first.found;
-    match found {
-        Found::More => true,
-        Found::Line => false,
-        Found::NoLine => false,
-        Found::Failed => false,
-    }
-}
-
 // Reads the first line. The turns are counted down because a loop has to end; no line uses them up.
 pub fn read_line(buf: &mut [u8]) -> First
     ensures { λ r. ⌜ (r .from ≤ r .to) × (r .to ≤ length (now (buf .exit))) ⌝ }
 {
-    let mut first = read_part(buf, State::new());
+    let mut state = State::new();
     let mut turns = u64::MAX;
-    while turns > 0 && goes_on(first) {
-        let state = first.state;
-        let next = read_part(buf, state);
-        first = next;
+    while turns > 0 {
+        let got = libc::read(STDIN_FILENO, buf);
+        if got < 0 {
+            return First {
+                found: Found::Failed,
+                state,
+                from: 0,
+                to: 0,
+            };
+        }
+        if got == 0 {
+            return First {
+                found: Found::NoLine,
+                state,
+                from: 0,
+                to: 0,
+            };
+        }
+        let n = io::count(got, buf);
+        let first = scan(state, &buf[..n]);
+        let found = first.found;
+        if let Found::Line = found {
+            return first;
+        }
+        let next = first.state;
+        state = next;
         turns -= 1;
     }
-    first
+    First {
+        found: Found::More,
+        state,
+        from: 0,
+        to: 0,
+    }
 }
 
 // The rounds that a line names. The default for a d out of range is not used: open refuses such a d first.
@@ -123,7 +117,7 @@ fn rounds_for(rounds: Rounds, d: u64) -> u64 {
 
 // Opens a stream with the parameters of a line.
 fn open_with(
-    area: &mut [u64],
+    area: &mut [u64; Area::WORDS],
     kept: [u8; Key::KEPT],
     n: usize,
     d: u64,
@@ -131,6 +125,7 @@ fn open_with(
     rounds: u64,
 ) -> Opening
     requires { ⌜ n ≤ keptBytes ⌝ }
+    ensures { λ r. ⌜ digestBits r ≤ 512 ⌝ }
 {
     let answer = stream::open(area, &kept[..n], d, limit, rounds);
     if answer.number != 0 {
@@ -140,7 +135,9 @@ fn open_with(
 }
 
 // Opens the stream that a line names.
-fn open_line(area: &mut [u64], state: State) -> Opening {
+fn open_line(area: &mut [u64; Area::WORDS], state: State) -> Opening
+    ensures { λ r. ⌜ digestBits r ≤ 512 ⌝ }
+{
     let key = state.key;
     let kept = key.bytes;
     match state.reading() {
@@ -158,7 +155,9 @@ fn open_line(area: &mut [u64], state: State) -> Opening {
 }
 
 // Opens the stream that the first line names.
-pub fn open_stream(area: &mut [u64], first: First) -> Opening {
+pub fn open_stream(area: &mut [u64; Area::WORDS], first: First) -> Opening
+    ensures { λ r. ⌜ digestBits r ≤ 512 ⌝ }
+{
     let found = first.found;
     let state = first.state;
     match found {

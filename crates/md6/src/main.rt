@@ -1,24 +1,20 @@
 // The program of document 01: the first line of standard input says d, L, r and the key, and the rest is the message. It goes
 // through the stream's calls a read at a time, so that a message of any length needs fixed memory.
-ghost use Prim.Native.Nat.{_*_, _≤_};
+ghost use Prim.Native.Nat.{_≤_};
 ghost use lib.ListN.{length};
 use libc::STDIN_FILENO;
 use libc::STDOUT_FILENO;
-use stream::Area;
+use sound::Area;
+use text::BUFFER;
+use text::DIGEST;
+use text::LOG;
 
 mod first; // first.rt: the first line, and the stream that it opens
 mod text; // text.rt: what is printed
 
-// What a read of the message came to.
-enum Input {
-    More,
-    End,
-    Failed,
-}
-
 // Feeds the bytes of a piece and prints the nodes that are made. Answers whether all went well.
-fn feed_piece(area: &mut [u64], piece: &[u8], log: &mut [u64]) -> bool
-    requires { ⌜ (length (now piece) ≤ 65536) × (length (now log) ≤ 566) ⌝ }
+fn feed_piece(area: &mut [u64; Area::WORDS], piece: &[u8], log: &mut [u64; LOG]) -> bool
+    requires { do ⌜ length (now piece) ≤ (← ⟦BUFFER⟧) ⌝ }
 {
     let answer = stream::feed(area, piece, 8 * piece.len() as u64, log);
     if answer.number != 0 {
@@ -27,52 +23,35 @@ fn feed_piece(area: &mut [u64], piece: &[u8], log: &mut [u64]) -> bool
     text::print_nodes(log, answer.count)
 }
 
-// Reads once and feeds what came.
-fn feed_some(area: &mut [u64], buf: &mut [u8], log: &mut [u64]) -> Input
-    requires { ⌜ (length (now buf) ≤ 65536) × (length (now log) ≤ 566) ⌝ }
-{
-    let got = libc::read(STDIN_FILENO, buf);
-    if got < 0 {
-        return Input::Failed;
-    }
-    if got == 0 {
-        return Input::End;
-    }
-    let n = io::count(got, buf);
-    if feed_piece(area, &buf[..n], log) {
-        return Input::More;
-    }
-    Input::Failed
-}
-
 // Feeds all that is left of the input, and answers whether all went well. The turns are counted down because a loop has to
 // end; no input uses them up.
-fn feed_rest(area: &mut [u64], buf: &mut [u8], log: &mut [u64]) -> bool
-    requires { ⌜ (length (now buf) ≤ 65536) × (length (now log) ≤ 566) ⌝ }
+fn feed_rest(area: &mut [u64; Area::WORDS], buf: &mut [u8], log: &mut [u64; LOG]) -> bool
+    requires { do ⌜ length (now buf) ≤ (← ⟦BUFFER⟧) ⌝ }
 {
     let mut turns = u64::MAX;
     while turns > 0 {
-        match feed_some(area, buf, log) {
-            Input::End => {
-                return true;
-            }
-            Input::Failed => {
-                return false;
-            }
-            Input::More => {
-                turns -= 1;
-            }
+        let got = libc::read(STDIN_FILENO, buf);
+        if got < 0 {
+            return false;
         }
+        if got == 0 {
+            return true;
+        }
+        let n = io::count(got, buf);
+        if !feed_piece(area, &buf[..n], log) {
+            return false;
+        }
+        turns -= 1;
     }
     false
 }
 
 // Ends the stream, and prints the last nodes and the digest.
-fn end_stream(area: &mut [u64], d: u64, log: &mut [u64])
-    requires { ⌜ length (now log) ≤ 566 ⌝ }
+fn end_stream(area: &mut [u64; Area::WORDS], d: u64, log: &mut [u64; LOG])
+    requires { ⌜ d ≤ 512 ⌝ }
 {
-    let mut digest = [0u8; 64];
-    let answer = stream::close::end(area, &mut digest, log);
+    let mut digest = [0u8; DIGEST];
+    let answer = stream::end(area, &mut digest, log);
     if answer.number != 0 {
         return;
     }
@@ -82,14 +61,14 @@ fn end_stream(area: &mut [u64], d: u64, log: &mut [u64])
 }
 
 // Hashes the rest of the input; what was read behind the first line comes first.
-fn hash_input(area: &mut [u64], d: u64, buf: &mut [u8], from: usize, to: usize)
-    requires { ⌜ (from ≤ to) × (to ≤ length (now buf)) × (length (now buf) ≤ 65536) ⌝ }
+fn hash_input(area: &mut [u64; Area::WORDS], d: u64, buf: &mut [u8], from: usize, to: usize)
+    requires { do ⌜ (d ≤ 512) × (from ≤ to) × (to ≤ length (now buf)) × (length (now buf) ≤ (← ⟦BUFFER⟧)) ⌝ }
 {
-    let mut log = [0u64; 566];
-    if !feed_piece(&mut *area, &buf[from..to], &mut log) {
+    let mut log = [0u64; LOG];
+    if !feed_piece(area, &buf[from..to], &mut log) {
         return;
     }
-    if feed_rest(&mut *area, buf, &mut log) {
+    if feed_rest(area, buf, &mut log) {
         end_stream(area, d, &mut log);
     }
 }

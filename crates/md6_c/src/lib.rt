@@ -25,7 +25,7 @@ pub extern "C" fn md6_hash(
 
 // Tells the default rounds for a digest size.
 #[no_mangle]
-pub extern "C" fn md6_default_rounds(d: u64) -> hash::Answer
+pub extern "C" fn md6_default_rounds(d: u64) -> node::Answer
     ensures { λ o. ⌜ record { number = o .number; count = o .count } ≡ defaultRoundsOf d ⌝ }
 {
     hash::default_rounds(d)
@@ -39,7 +39,7 @@ pub extern "C" fn md6_open(
     d: u64,
     limit: u64,
     rounds: u64,
-) -> stream::Answer
+) -> node::Answer
     ensures { λ o. ⌜ opened (o .number) (o .count) (now (area .exit)) ≡ openOf (now (area .entry)) (params (now (key .entry)) d limit rounds) ⌝ }
 {
     stream::open(area, key, d, limit, rounds)
@@ -52,7 +52,7 @@ pub extern "C" fn md6_feed(
     piece: &[u8],
     bits: u64,
     log: &mut [u64],
-) -> stream::Answer
+) -> node::Answer
     ensures { λ o. ⌜ fed (o .number) (o .count) (now (area .exit)) (now (log .exit)) ≡ feedOf (now (area .entry)) (now (piece .entry)) bits (now (log .entry)) ⌝ }
 {
     stream::feed(area, piece, bits, log)
@@ -60,7 +60,7 @@ pub extern "C" fn md6_feed(
 
 // Ends a stream.
 #[no_mangle]
-pub extern "C" fn md6_end(area: &mut [u64], digest: &mut [u8], log: &mut [u64]) -> stream::Answer
+pub extern "C" fn md6_end(area: &mut [u64], digest: &mut [u8], log: &mut [u64]) -> node::Answer
     ensures { λ o. ⌜ ended (o .number) (o .count) (now (area .exit)) (now (digest .exit)) (now (log .exit)) ≡ endOf (now (area .entry)) (now (digest .entry)) (now (log .entry)) ⌝ }
 {
     stream::end(area, digest, log)
@@ -68,7 +68,7 @@ pub extern "C" fn md6_end(area: &mut [u64], digest: &mut [u8], log: &mut [u64]) 
 
 // Tells how many words of log are enough for a piece of so many bits.
 #[no_mangle]
-pub extern "C" fn md6_log_words(bits: u64) -> stream::Answer
+pub extern "C" fn md6_log_words(bits: u64) -> node::Answer
     ensures { λ o. ⌜ (o .number ≡ 0) × (o .count ≡ logWordsOf bits) ⌝ }
 {
     stream::log_words(bits)
@@ -76,7 +76,7 @@ pub extern "C" fn md6_log_words(bits: u64) -> stream::Answer
 
 // Writes a stream as text.
 #[no_mangle]
-pub extern "C" fn md6_write(area: &[u64], text: &mut [u8]) -> stream::Answer
+pub extern "C" fn md6_write(area: &[u64], text: &mut [u8]) -> node::Answer
     ensures { λ o. ⌜ written (o .number) (o .count) (now (text .exit)) ≡ writeOf (now (area .entry)) (now (text .entry)) ⌝ }
 {
     text::write(area, text)
@@ -84,7 +84,7 @@ pub extern "C" fn md6_write(area: &[u64], text: &mut [u8]) -> stream::Answer
 
 // Reads a text into an area.
 #[no_mangle]
-pub extern "C" fn md6_read(area: &mut [u64], text: &[u8]) -> stream::Answer
+pub extern "C" fn md6_read(area: &mut [u64], text: &[u8]) -> node::Answer
     ensures { λ o. ⌜ taken (o .number) (o .count) (now (area .exit)) ≡ readOf (now (area .entry)) (now (text .entry)) ⌝ }
 {
     text::read(area, text)

@@ -9,8 +9,7 @@ use Prim.Native.Nat.{ℕ, zero, suc, _+_, _^_, _<_}
 use lib.ListN.{length, drop}
 use lib.Seq.{take-at}
 use Rattle.bits.specs.BitsLaws.{length-numbers}
-use Rattle.tree.specs.Tree.{Params, order, digest}
-use Rattle.hash.specs.Hash.{digestBytes}
+use Rattle.tree.specs.Tree.{Params, order, digest, digestBytes}
 use Rattle.area.specs.Calls.{Opened, Fed, Ended, openNumber, openOf, feedNumber, feedOf, endNumber, endOf}
 use Rattle.area.specs.Calls
 use Rattle.area.specs.Marks.{allNodes, settled}

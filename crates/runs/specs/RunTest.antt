@@ -9,9 +9,8 @@ use native.Mathlib.Omega.{arith}
 use borrow.Author.Tests.{eqb-true, ltb-true}
 use lib.Dec.{eqb, ltb}
 use Rattle.lists.specs.Append.{cons-eq}
-use Rattle.lists.specs.Below.{Below, more}
-use Rattle.lists.specs.Below.{none as nil}
-use Rattle.lists.specs.Table.{both}
+use Rattle.lists.specs.Below.{Below, more, none as nil}
+use Rattle.lists.specs.Both.{both, both-parts}
 use Rattle.text.specs.Text.{same}
 use Rattle.text.specs.ReadLaws.{same-eq}
 use Rattle.runs.specs.Runs.{Call, Outcome, outcomeOf, Role, between, writes, reads, outside, opens, roleOf, suspended, Allowed, Goes, Answered, answered}
@@ -59,10 +58,6 @@ allowed-is none (reads text) e = let z : _≡_ {A = ℕ} 0 1 = cc in absurd (ome
 allowed-is (some before) (reads text) e = ap some (same-eq before text e)
 allowed-is before outside e = tt
 allowed-is before opens e = let z : _≡_ {A = ℕ} 0 1 = cc in absurd (omega arith)
-
-both-parts : (a b : Bool) → both a b ≡ true → (a ≡ true) × (b ≡ true)
-both-parts true b f = (refl, f)
-both-parts false b f = let z : _≡_ {A = ℕ} 0 1 = cc in absurd (omega arith)
 
 -- they may follow, and these are their numbers
 pub goes-is : (area : List ℕ) (text : Option (List ℕ)) (list : List Numbered) → goesIf area text list ≡ true

@@ -8,8 +8,8 @@ use mathlib.Core.List.{List, [], _∷_, _++_}
 use Prim.Native.Nat.{ℕ, zero, suc, _+_, _*_, _^_, _<_}
 use lib.ListN.{take}
 use Rattle.lists.specs.Below.{Below}
-use Rattle.tree.specs.Tree.{Params}
-use Rattle.hash.specs.Hash.{pieceBits, digestBytes}
+use Rattle.tree.specs.Tree.{Params, digestBytes}
+use Rattle.tree.specs.Refusals.{pieceBits}
 use Rattle.area.specs.Calls.{Opened, Fed, Ended, openOf, feedOf, endOf, levelOf}
 use Rattle.text.specs.Text.{Written, Taken, writeOf, readOf}
 

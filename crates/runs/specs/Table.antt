@@ -9,12 +9,13 @@ use native.Mathlib.Omega.{arith}
 use borrow.Author.Tests.{ltb-false, le-ltb}
 use lib.Dec.{ltb}
 use lib.ListN.{length, length-append, length-map}
-use Rattle.tree.specs.Tree.{Params, Mark, mostLevels, order}
-use Rattle.hash.specs.Hash.{pieceBits, orElse, refusedBits, refusedParams, digestBytes, refusedOutput}
+use Rattle.tree.specs.Tree.{Params, Mark, mostLevels, order, digestBytes}
+use Rattle.tree.specs.Refusals.{pieceBits, orElse, refusedBits, refusedParams, refusedOutput}
 use Rattle.area.specs.Area.{areaWords, levelWords, sound}
 use Rattle.area.specs.Calls.{openNumber, openOf, fedBits, feedOf, closedBy, endOf, levelOf}
 use Rattle.area.specs.Marks.{settled}
-use Rattle.area.specs.CallLaws.{open-number, feed-number, end-number, length-pieceBits}
+use Rattle.area.specs.CallLaws.{open-number, feed-number, end-number}
+use Rattle.tree.specs.RefusalLaws.{length-pieceBits}
 use Rattle.area.specs.Stands.{Stands}
 use Rattle.area.specs.Accepts.{feed-tests, end-tests, feed-nodes, end-nodes, feed-ended, end-ended, level-shown}
 use Rattle.text.specs.Text.{textOf, writeNumber, writeOf}

@@ -12,11 +12,12 @@ use Rattle.lists.specs.Below.{none as nil}
 use Rattle.bits.specs.Bits.{numbers}
 use Rattle.compress.specs.Compress.{grown, compressed}
 use Rattle.tree.specs.Tree.{Params, keyWords, output, noChain, order, digest}
-use Rattle.hash.specs.Hash.{pieceBits}
+use Rattle.tree.specs.Refusals.{pieceBits}
 use Rattle.area.specs.Area.{areaWords, paramsOf, levelsOf, withLevels, emptyLevel, emptyLevels, sound}
 use Rattle.area.specs.Marks.{allNodes}
 use Rattle.area.specs.Calls.{logOf, withBit, outWords, receive, feedBit, feedBits, closeAbove, closing, openNumber, openedArea, openOf, fedBits, feedNumber, fedArea, feedOf, closedBy, endNumber, endedArea, digestOut, endOf, shown, levelOf}
-use Rattle.text.specs.Text.{digits, textOf, speltWords, speltHead, speltArea, writeNumber, writeOf, readable, readNumber, readOf}
+use Rattle.digits.specs.Digits.{digits, speltWords}
+use Rattle.text.specs.Text.{textOf, speltHead, speltArea, writeNumber, writeOf, readable, readNumber, readOf}
 use Rattle.runs.specs.Runs.{feed, end, show, write, read, readInto, reopen, outcomeOf, roleOf, Run, Answered, answered, shareOf, joined, shares, answersOf}
 use Rattle.runs.specs.RunTest.{lent, Numbered, callsOf, goesIf, goes-is}
 

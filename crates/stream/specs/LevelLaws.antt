@@ -1,32 +1,47 @@
--- Laws of `levelOf` in Calls, one for each way that the call takes.
+-- Laws of `shown` and `levelOf` in Calls, one for each way that the code takes.
 -- Assumes nothing.
-use mathlib.Core.Path.{_≡_, refl, sym, ap, _∙_}
-use mathlib.Core.Bool.{Bool, true, false}
+use mathlib.Core.Path.{_≡_}
+use mathlib.Core.Bool.{true, false}
 use mathlib.Core.List.{List, []}
-use Prim.Native.Nat.{ℕ, zero, suc, _+_, _-_, _*_, _≤_, _<_}
+use Prim.Native.Nat.{ℕ, _≤_, _<_}
+use lib.Dec.{leb}
 use lib.ListN.{length}
-use borrow.Author.Tests.{lt-leb, le-leb}
+use borrow.Author.Tests.{lt-leb, le-leb, leb-true}
+use Rattle.lists.specs.Both.{both, both-parts}
 use Rattle.tree.specs.Tree.{mostLevels}
 use Rattle.area.specs.Area.{areaWords, levelWords, sound}
 use Rattle.area.specs.Calls.{shown, levelOf}
-use Rattle.area.specs.Accepts.{level-shown}
 
-pub level-short : (area : List ℕ) (level : ℕ) → length area < areaWords → [] ≡ levelOf area level
-unfolding levelOf shown
-level-short area level h = rw (levelOf, shown, lt-leb areaWords (length area) h) refl
+module _ (area : List ℕ) (level : ℕ) where
+  pub shown-short : length area < areaWords → false ≡ shown area level
+  unfolding shown
+  shown-short h = rw (lt-leb areaWords (length area) h)
 
-module _ (area : List ℕ) (level : ℕ) (long : areaWords ≤ length area) where
-  pub level-unsound : sound area ≡ false → [] ≡ levelOf area level
-  unfolding levelOf shown
-  level-unsound s = rw (levelOf, shown, le-leb areaWords (length area) long, s) refl
+  pub shown-unsound : areaWords ≤ length area → sound area ≡ false → false ≡ shown area level
+  unfolding shown
+  shown-unsound h s = rw (le-leb areaWords (length area) h, s)
 
-  pub level-low : sound area ≡ true → level < 1 → [] ≡ levelOf area level
-  unfolding levelOf shown
-  level-low s h = rw (levelOf, shown, le-leb areaWords (length area) long, s, lt-leb 1 level h) refl
+  pub shown-low : areaWords ≤ length area → sound area ≡ true → level < 1 → false ≡ shown area level
+  unfolding shown
+  shown-low h s l = rw (le-leb areaWords (length area) h, s, lt-leb 1 level l)
 
-  pub level-high : sound area ≡ true → 1 ≤ level → mostLevels < level → [] ≡ levelOf area level
-  unfolding levelOf shown
-  level-high s h g = rw (levelOf, shown, le-leb areaWords (length area) long, s, le-leb 1 level h, lt-leb level mostLevels g) refl
+  pub shown-high : areaWords ≤ length area → sound area ≡ true → 1 ≤ level → leb level mostLevels ≡ shown area level
+  unfolding shown
+  shown-high h s l = rw (le-leb areaWords (length area) h, s, le-leb 1 level l)
 
-  pub level-there : sound area ≡ true → 1 ≤ level → level ≤ mostLevels → levelWords area level ≡ levelOf area level
-  level-there s h g = sym (level-shown area level long s h g)
+  -- what is shown is there
+  pub shown-there : shown area level ≡ true → (areaWords ≤ length area) × (1 ≤ level) × (level ≤ mostLevels)
+  unfolding shown
+  shown-there e =
+      let a = both-parts (leb areaWords (length area)) (both (sound area) (both (leb 1 level) (leb level mostLevels))) e in
+      let b = both-parts (sound area) (both (leb 1 level) (leb level mostLevels)) (a .1) in
+      let c = both-parts (leb 1 level) (leb level mostLevels) (b .1) in
+      (leb-true areaWords (length area) (a .0), leb-true 1 level (c .0), leb-true level mostLevels (c .1))
+
+  pub level-hidden : shown area level ≡ false → [] ≡ levelOf area level
+  unfolding levelOf
+  level-hidden e = rw (levelOf, e)
+
+  pub level-there : shown area level ≡ true → levelWords area level ≡ levelOf area level
+  unfolding levelOf
+  level-there e = rw (levelOf, e)

@@ -7,20 +7,6 @@ use libc::STDOUT_FILENO;
 // What lent words hold before a call that does not need them.
 const FILL: u64 = 0xa5a5a5a5a5a5a5a5;
 
-fn wide(b: u8) -> u64 {
-    b as u64
-}
-
-// Writes bytes in hexadecimal, and ends the line.
-fn print_bytes(bytes: &[u8]) {
-    let mut i = 0;
-    while i < bytes.len() {
-        io::print_hex(STDOUT_FILENO, wide(bytes[i]), 2);
-        i += 1;
-    }
-    io::write_all(STDOUT_FILENO, b"\n");
-}
-
 // What follows a word of the log: V stands after U, and ends the line.
 fn print_between(i: usize) {
     if i % 2 == 0 {
@@ -55,29 +41,6 @@ fn copy(to: &mut [u64], from: &[u64]) {
     }
 }
 
-// Whether words are those of a copy, from a place on.
-fn is_same(words: &[u64], before: &[u64], from: usize) -> bool {
-    let mut i = from;
-    while i < words.len() {
-        if before.len() <= i {
-            return false;
-        }
-        if words[i] != before[i] {
-            return false;
-        }
-        i += 1;
-    }
-    true
-}
-
-fn print_same(words: &[u64], before: &[u64], from: usize) {
-    if is_same(words, before, from) {
-        io::write_all(STDOUT_FILENO, b" same");
-        return;
-    }
-    io::write_all(STDOUT_FILENO, b" changed");
-}
-
 // The log words of so many nodes, if they are few.
 fn node_words(count: u64) -> usize {
     if count < 1000 {
@@ -95,12 +58,10 @@ fn report(
     log: &[u64],
     log_before: &[u64],
 ) {
-    io::print_decimal(STDOUT_FILENO, number);
-    io::write_all(STDOUT_FILENO, b" ");
-    io::print_decimal(STDOUT_FILENO, count);
-    print_same(area, area_before, 0);
-    print_same(area, area_before, 1744);
-    print_same(log, log_before, node_words(count));
+    show::answer(number, count);
+    show::same(area, area_before, 0);
+    show::same(area, area_before, 1744);
+    show::same(log, log_before, node_words(count));
     io::write_all(STDOUT_FILENO, b"\n");
     print_nodes(log, node_words(count));
 }
@@ -142,7 +103,7 @@ fn end_log(area: &mut [u64], digest: &mut [u8], log: &mut [u64]) {
     let mut log_before = [0u64; 64];
     copy(&mut area_before, &*area);
     copy(&mut log_before, &*log);
-    let answer = stream::close::end(&mut *area, &mut *digest, &mut *log);
+    let answer = stream::end(&mut *area, &mut *digest, &mut *log);
     report(
         answer.number,
         answer.count,
@@ -151,7 +112,8 @@ fn end_log(area: &mut [u64], digest: &mut [u8], log: &mut [u64]) {
         &*log,
         &log_before,
     );
-    print_bytes(&*digest);
+    show::bytes(&*digest);
+    io::write_all(STDOUT_FILENO, b"\n");
 }
 
 // An end with an output of so many bytes and a log of so many words.
@@ -238,7 +200,7 @@ fn altered_ended(limit: u64, bits: u64, at: usize, value: u64) {
     let mut digest = [0u8; 1];
     let mut log = [FILL; 54];
     prepare(&mut area, limit, bits);
-    stream::close::end(&mut area, &mut digest, &mut log);
+    stream::end(&mut area, &mut digest, &mut log);
     set(&mut area, at, value);
     feed(&mut area, b"a", 9, 0);
     end(&mut area, 0, 0);

@@ -1,20 +1,27 @@
 -- What write and read answer, by the tests that the code makes.
 -- Assumes nothing.
-use mathlib.Core.Path.{_≡_, refl, sym, ap, _∙_}
-use mathlib.Core.Bool.{Bool, true, false, not}
+use mathlib.Core.Path.{_≡_, sym, ap, _∙_}
+use mathlib.Core.Bool.{Bool, true, false}
 use mathlib.Core.List.{List, _++_}
-use Prim.Native.Nat.{ℕ, suc, _+_, _-_, _*_, _≤_, _<_}
+use Prim.Native.Nat.{ℕ, _+_, _-_, _≤_, _<_}
 use native.Mathlib.Omega.{arith}
 use borrow.Author.Tests.{lt-ltb, le-ltb}
 use borrow.Rule.Slice.PartMut.{putMid}
-use lib.ListN.{length, take, drop}
+use lib.ListN.{length, drop}
 use lib.Seq.{paste, take-all}
 use Rattle.area.specs.Area.{areaWords, sound}
-use Rattle.text.specs.Text.{heldOf, textOf, speltArea, readable, writeNumber, writeOf, readNumber, readOf}
+use Rattle.text.specs.Text.{textOf, speltArea, readable, writeNumber, writeOf, readNumber, readOf}
 use Rattle.text.specs.Answers.{written, taken}
-use Rattle.text.specs.LengthLaws.{lines, text-length}
 use Rattle.text.specs.TextLaws.{length-speltArea}
 use Rattle.text.specs.ReadLaws.{read-accepted, read-refused, write-accepted, write-refused}
+
+-- ---- an answer by its two numbers
+
+pub written-as : (n c m d : ℕ) (text : List ℕ) → (n ≡ m) × (c ≡ d) → written n c text ≡ written m d text
+written-as n c m d text e = rw (e .0, e .1)
+
+pub taken-as : (n c m d : ℕ) (area : List ℕ) → (n ≡ m) × (c ≡ d) → taken n c area ≡ taken m d area
+taken-as n c m d area e = rw (e .0, e .1)
 
 -- ---- write
 
@@ -27,10 +34,7 @@ unfolding writeNumber
 write-unsound area out r h e f = sym (write-refused area out 6 (rw (le-ltb (length area) areaWords h, ← e, f)))
 
 module _ (area out : List ℕ) (r : Bool) (n : ℕ) (h : areaWords ≤ length area) (e : r ≡ sound area) (f : r ≡ true)
-    (g : n ≡ 174 + 1027 * lines (heldOf area)) where
-  size : n ≡ length (textOf area)
-  size = g ∙ sym (text-length area h)
-
+    (size : n ≡ length (textOf area)) where
   pub write-no-room : length out < n → written 9 0 out ≡ writeOf area out
   unfolding writeNumber
   write-no-room l =

@@ -2,19 +2,17 @@
 -- Assumes nothing.
 use mathlib.Core.Path.{_≡_, refl, sym, ap, _∙_}
 use mathlib.Core.Bool.{Bool, true, false, not, _||_}
-use mathlib.Core.List.{List, [], _∷_, _++_, map}
+use mathlib.Core.List.{List, map}
 use Prim.Native.Nat.{ℕ, zero, suc, _+_, _-_, _*_, _/_, _%_, _^_, _≤_, _<_}
-use native.Mathlib.Numerals.{add-one}
 use native.Mathlib.Omega.{arith}
 use borrow.Author.Tests.{ne-eqb, eqb-true, eqb-false, ltb-true, ltb-false}
 use lib.Dec.{eqb, ltb}
 use lib.Pow.{shr-shr}
-use lib.ListN.{length, take, drop, getD, replicate, getD-replicate}
-use lib.Seq.{take-suc, take-all}
-use Rattle.tree.specs.Tree.{blockBits, sequentialBits, mostLevels}
-use Rattle.area.specs.Area.{doneBlocks, heldBits, parallelHold, holdsAbove, openHolds}
+use lib.ListN.{getD, replicate}
+use Rattle.tree.specs.Tree.{blockBits, mostLevels}
+use Rattle.area.specs.Area.{phaseOf, totalOf, doneBlocks, heldBits, parallelHold, holdsAbove, openHolds}
 use Rattle.text.specs.Text.{hasLine, heldLevels}
-use Rattle.text.specs.LengthLaws.{lines, lines-le, length-heldLevels}
+use Rattle.text.specs.Lines.{hasLineAt}
 
 -- a test that is false for zero alone
 some-held : (c b T : ℕ) → (T ≡ 0 → (c ≡ 0) × (b ≡ 0)) → ((T ≡ 0 → ⊥) → (c ≡ 0) × (b ≡ 0) → ⊥) → (ltb 0 c || not (eqb b 0)) ≡ not (eqb T 0)
@@ -109,88 +107,38 @@ open-none (suc n) T j g = above-none 26 n (doneBlocks blockBits T) j (omega arit
 
 -- ---- as the code asks
 
-held-open : (phase limit T j : ℕ) → (phase ≡ 2 → ⊥) → getD (heldLevels phase limit T) j false ≡ lineOpen limit T j
-unfolding lineOpen
-held-open phase limit T j p =
-    ap (λ (b : Bool). getD (map hasLine (elim b [ true ↦ replicate mostLevels (parallelHold 0) | false ↦ openHolds limit T ])) j false) (ne-eqb phase 2 p)
+module _ (area : List ℕ) (level : ℕ) where
+  held-open : (phaseOf area ≡ 2 → ⊥) → hasLineAt area level ≡ lineOpen (getD area 4 0) (totalOf area) (level - 1)
+  unfolding hasLineAt lineOpen
+  held-open p =
+      ap (λ (b : Bool). getD (map hasLine (elim b [ true ↦ replicate mostLevels (parallelHold 0) | false ↦ openHolds (getD area 4 0) (totalOf area) ])) (level - 1) false)
+      (ne-eqb (phaseOf area) 2 p)
 
-pub held-ended : (phase limit T level : ℕ) → phase ≡ 2 → false ≡ getD (heldLevels phase limit T) (level - 1) false
-held-ended phase limit T level e = sym (ap (λ (p : ℕ). getD (heldLevels p limit T) (level - 1) false) e ∙ bare 27 (level - 1))
+  pub held-ended : phaseOf area ≡ 2 → false ≡ hasLineAt area level
+  unfolding hasLineAt
+  held-ended e = sym (ap (λ (p : ℕ). getD (heldLevels p (getD area 4 0) (totalOf area)) (level - 1) false) e ∙ bare 27 (level - 1))
 
--- level 1 holds bits once there are some
-pub held-first : (phase limit T level : ℕ) → (phase ≡ 2 → ⊥) → level ≡ 1 → not (eqb T 0) ≡ getD (heldLevels phase limit T) (level - 1) false
-held-first phase limit T level p e =
-    let k : level - 1 ≡ 0 = omega arith in
-    sym (held-open phase limit T (level - 1) p ∙ ap (lineOpen limit T) k ∙ open-first limit T)
+  -- level 1 holds bits once there are some
+  pub held-first : (phaseOf area ≡ 2 → ⊥) → level ≡ 1 → not (eqb (totalOf area) 0) ≡ hasLineAt area level
+  held-first p e =
+      let k : level - 1 ≡ 0 = omega arith in
+      sym (held-open p ∙ ap (lineOpen (getD area 4 0) (totalOf area)) k ∙ open-first (getD area 4 0) (totalOf area))
 
-module _ (phase limit T level : ℕ) (p : phase ≡ 2 → ⊥) (lo : 2 ≤ level) (hi : level ≤ 27) where
-  at-level : getD (heldLevels phase limit T) (level - 1) false ≡ lineOpen limit T (suc (level - 2))
-  at-level =
-      let k : level - 1 ≡ suc (level - 2) = omega arith in
-      held-open phase limit T (level - 1) p ∙ ap (lineOpen limit T) k
+  module _ (p : phaseOf area ≡ 2 → ⊥) (lo : 2 ≤ level) (hi : level ≤ 27) where
+    at-level : hasLineAt area level ≡ lineOpen (getD area 4 0) (totalOf area) (suc (level - 2))
+    at-level =
+        let k : level - 1 ≡ suc (level - 2) = omega arith in
+        held-open p ∙ ap (lineOpen (getD area 4 0) (totalOf area)) k
 
-  -- above the sequential level
-  pub held-none : limit < level - 1 → false ≡ getD (heldLevels phase limit T) (level - 1) false
-  held-none g = sym (at-level ∙ open-none limit T (level - 2) (omega arith))
+    -- above the sequential level
+    pub held-none : getD area 4 0 < level - 1 → false ≡ hasLineAt area level
+    held-none g = sym (at-level ∙ open-none (getD area 4 0) (totalOf area) (level - 2) (omega arith))
 
-  -- the sequential level
-  pub held-sequential : level - 1 ≤ limit → limit < level
-      → not (eqb (doneBlocks blockBits T / 2 ^ (2 * (level - 2))) 0) ≡ getD (heldLevels phase limit T) (level - 1) false
-  held-sequential g h = sym (at-level ∙ open-sequential limit T (level - 2) (omega arith) (omega arith) (omega arith))
+    -- the sequential level
+    pub held-sequential : level - 1 ≤ getD area 4 0 → getD area 4 0 < level
+        → not (eqb (doneBlocks blockBits (totalOf area) / 2 ^ (2 * (level - 2))) 0) ≡ hasLineAt area level
+    held-sequential g h = sym (at-level ∙ open-sequential (getD area 4 0) (totalOf area) (level - 2) (omega arith) (omega arith) (omega arith))
 
-  -- a parallel level
-  pub held-parallel : level ≤ limit → not (eqb (doneBlocks blockBits T / 2 ^ (2 * (level - 2)) % 4) 0) ≡ getD (heldLevels phase limit T) (level - 1) false
-  held-parallel g = sym (at-level ∙ open-parallel limit T (level - 2) (omega arith) (omega arith))
-
--- ---- the number of lines up to a level
-
-pub lines-none : (hs : List Bool) → lines (take 0 hs) ≡ 0
-lines-none hs = refl
-
-lines-snoc : (xs : List Bool) (h : Bool) → lines (xs ++ (h ∷ [])) ≡ lines xs + lines (h ∷ [])
-lines-snoc [] h = omega arith
-lines-snoc (true ∷ xs) h = omega (arith, lines-snoc xs h)
-lines-snoc (false ∷ xs) h = lines-snoc xs h
-
-pub lines-yes : (hs : List Bool) (j : ℕ) → j < length hs → getD hs j false ≡ true → lines (take (suc j) hs) ≡ lines (take j hs) + 1
-lines-yes hs j h e = rw (take-suc hs j false h, e) (lines-snoc (take j hs) true)
-
-pub lines-no : (hs : List Bool) (j : ℕ) → j < length hs → getD hs j false ≡ false → lines (take (suc j) hs) ≡ lines (take j hs)
-lines-no hs j h e = rw (take-suc hs j false h, e) (lines-snoc (take j hs) false ∙ omega arith)
-
-lines-mono : (hs : List Bool) (j : ℕ) → lines (take j hs) ≤ lines hs
-lines-mono hs zero = omega arith
-lines-mono [] (suc j) = omega arith
-lines-mono (true ∷ hs) (suc j) = omega (arith, lines-mono hs j)
-lines-mono (false ∷ hs) (suc j) = lines-mono hs j
-
--- a line that is still to come has room
-pub lines-room : (hs : List Bool) (j : ℕ) → j < length hs → getD hs j false ≡ true → lines (take j hs) + 1 ≤ lines hs
-lines-room hs j h e = omega (arith, lines-yes hs j h e, lines-mono hs (suc j))
-
--- ---- the same by the number of a level, for the levels of an area
-
-module _ (phase limit T k : ℕ) (lo : 1 ≤ k) (hi : k < 28) where
-  at-k : k + 1 - 1 ≡ suc (k - 1)
-  at-k = omega arith
-
-  inside : k - 1 < length (heldLevels phase limit T)
-  inside = omega (arith, length-heldLevels phase limit T)
-
-  pub level-yes : getD (heldLevels phase limit T) (k - 1) false ≡ true
-      → lines (take (k + 1 - 1) (heldLevels phase limit T)) ≡ lines (take (k - 1) (heldLevels phase limit T)) + 1
-  level-yes e = rw at-k (lines-yes (heldLevels phase limit T) (k - 1) inside e)
-
-  pub level-no : getD (heldLevels phase limit T) (k - 1) false ≡ false
-      → lines (take (k + 1 - 1) (heldLevels phase limit T)) ≡ lines (take (k - 1) (heldLevels phase limit T))
-  level-no e = rw at-k (lines-no (heldLevels phase limit T) (k - 1) inside e)
-
-  pub level-room : getD (heldLevels phase limit T) (k - 1) false ≡ true
-      → lines (take (k - 1) (heldLevels phase limit T)) + 1 ≤ lines (heldLevels phase limit T)
-  level-room e = lines-room (heldLevels phase limit T) (k - 1) inside e
-
-pub level-most : (phase limit T : ℕ) → lines (heldLevels phase limit T) ≤ 27
-level-most phase limit T = omega (arith, lines-le (heldLevels phase limit T), length-heldLevels phase limit T)
-
-pub level-all : (phase limit T k : ℕ) → k ≡ 28 → take (k - 1) (heldLevels phase limit T) ≡ heldLevels phase limit T
-level-all phase limit T k e = take-all (k - 1) (heldLevels phase limit T) (omega (arith, length-heldLevels phase limit T))
+    -- a parallel level
+    pub held-parallel : level ≤ getD area 4 0 → not (eqb (doneBlocks blockBits (totalOf area) / 2 ^ (2 * (level - 2)) % 4) 0) ≡ hasLineAt area level
+    held-parallel g = sym (at-level ∙ open-parallel (getD area 4 0) (totalOf area) (level - 2) (omega arith) (omega arith))

@@ -1,17 +1,15 @@
--- Laws of `same`, as the code compares: byte by byte, and line by line.
+-- Laws of `same`, as the code compares: byte by byte, and by length.
 -- Assumes nothing.
 use mathlib.Core.Path.{_≡_, refl, sym, ap, _∙_}
-use mathlib.Core.Bool.{Bool, true, false}
-use mathlib.Core.List.{List, [], _∷_, _++_, append-assoc}
-use Prim.Native.Nat.{ℕ, zero, suc, _+_, _-_, _*_, _≤_, _<_}
+use mathlib.Core.Bool.{true, false}
+use mathlib.Core.List.{List, [], _∷_}
+use Prim.Native.Nat.{ℕ, suc, _+_, _≤_, _<_}
 use native.Mathlib.Numerals.{add-one}
-use native.Mathlib.Omega.{arith}
 use borrow.Author.Tests.{eq-eqb, ne-eqb}
 use lib.Dec.{eqb}
-use lib.ListN.{length, take, drop, getD, drop-of-length-le}
+use lib.ListN.{length, drop, getD, drop-of-length-le}
 use lib.Seq.{drop-cons}
-use Rattle.lists.specs.Table.{both}
-use Rattle.stream.specs.SoundLaws.{both-false, both-assoc}
+use Rattle.lists.specs.Both.{both, both-false}
 use Rattle.text.specs.Text.{same}
 
 pub same-other-length : (xs ys : List ℕ) → (length xs ≡ length ys → ⊥) → false ≡ same xs ys
@@ -31,13 +29,3 @@ same-no xs ys i h g e = rw (drop-cons xs i 0 h, drop-cons ys i 0 g, ne-eqb (getD
 
 pub same-end : (xs ys : List ℕ) (i : ℕ) → length xs ≤ i → length ys ≤ i → same (drop i xs) (drop i ys) ≡ true
 same-end xs ys i h g = rw (drop-of-length-le xs h, drop-of-length-le ys g)
-
--- a part that is written first
-pub same-append : (xs ys text : List ℕ) (n : ℕ) → length xs ≡ n → n ≤ length text → same (xs ++ ys) text ≡ both (same xs (take n text)) (same ys (drop n text))
-same-append [] ys text zero h g = refl
-same-append [] ys text (suc n) h g = absurd (omega arith)
-same-append (x ∷ xs) ys text zero h g = absurd (omega arith)
-same-append (x ∷ xs) ys [] (suc n) h g = absurd (omega arith)
-same-append (x ∷ xs) ys (t ∷ text) (suc n) h g =
-    ap (both (eqb x t)) (same-append xs ys text n (omega arith) (omega arith))
-    ∙ sym (both-assoc (eqb x t) (same xs (take n text)) (same ys (drop n text)))

@@ -1,160 +1,152 @@
--- The levels that a text spells, one level after the other, in an area whose levels are empty at first.
+-- The levels that a text spells, one after the other, in an area whose levels are empty at first.
 -- Assumes nothing.
 use mathlib.Core.Path.{_≡_, refl, sym, ap, _∙_}
 use mathlib.Core.Bool.{Bool, true, false}
-use mathlib.Core.List.{List, [], _∷_, _++_, append-assoc, append-nil}
-use Prim.Native.Nat.{ℕ, zero, suc, _+_, _-_, _*_, _≤_, _<_}
+use mathlib.Core.List.{List, [], _++_, append-assoc, append-nil}
+use Prim.Native.Nat.{ℕ, _+_, _-_, _*_, _≤_, _<_}
+use native.Mathlib.Numerals.{add-one}
 use native.Mathlib.Omega.{arith}
-use borrow.Rule.Slice.PartMut.{midOf, putMid, mid-len}
-use lib.ListN.{length, take, drop, getD, replicate, length-append, length-drop, length-take, length-replicate, replicate-append-replicate, drop-of-length-le, take-append-drop}
-use lib.Seq.{drop-at, drop-drop, take-suc, take-all, length-take-le}
-use Rattle.lists.specs.Concat.{concat, concat-append}
+use lib.ListN.{length, take, drop, getD, replicate, replicate-append-replicate, drop-of-length-le}
+use lib.Seq.{take-at, drop-at, drop-cons, drop-drop, take-add, take-all, take-take, take-append-le, length-take-le}
+use Rattle.lists.specs.Concat.{concat}
+use Rattle.lists.specs.Part.{put, put-take, put-drop, put-length}
+use Rattle.tree.specs.Tree.{mostLevels}
 use Rattle.area.specs.Area.{headWords, blockWords, areaWords, phaseOf, totalOf, emptyLevel}
-use Rattle.text.specs.Text.{heldLevels, heldOf, speltWords, speltLevels}
-use Rattle.text.specs.DigitLaws.{length-speltWords}
-use Rattle.text.specs.LengthLaws.{lines, length-heldLevels}
-use Rattle.text.proofs.LineStores.{words-front}
-use Rattle.text.proofs.Loops.{lent-next}
+use Rattle.digits.specs.Digits.{speltWords}
+use Rattle.text.specs.Text.{heldOf, levelBytes, speltLevels}
+use Rattle.digits.specs.DigitLaws.{length-speltWords}
+use Rattle.text.specs.LengthLaws.{length-heldLevels}
+use Rattle.text.specs.Lines.{hasLineAt, linesAbove, zeroLevels, held-at, above-no, length-yes}
+use Rattle.text.specs.TextLaws.{held-front}
+use Rattle.text.proofs.LineStores.{words-front, drop-take}
 
--- ---- each level
+-- ---- the levels above the first k, from the text that begins at a place
 
-spelt-yes : (hs : List Bool) (text : List ℕ) (j : ℕ) → j < length hs → getD hs j false ≡ true
-    → getD (speltLevels hs text) j [] ≡ speltWords 64 (drop 2 (drop (1027 * lines (take j hs)) text))
-spelt-yes [] text j h e = absurd (omega arith)
-spelt-yes (true ∷ hs) text zero h e = refl
-spelt-yes (false ∷ hs) text zero h e = let z : _≡_ {A = ℕ} 0 1 = cc in absurd (omega arith)
-spelt-yes (true ∷ hs) text (suc j) h e =
-    let n : 1027 * suc (lines (take j hs)) ≡ 1027 + 1027 * lines (take j hs) = omega arith in
-    spelt-yes hs (drop 1027 text) j (omega arith) e ∙ rw (n, drop-drop (1027 * lines (take j hs)) 1027 text)
-spelt-yes (false ∷ hs) text (suc j) h e = spelt-yes hs text j (omega arith) e
+pub speltAbove : List Bool → List ℕ → ℕ → ℕ → List ℕ
+speltAbove hs text at k = concat (speltLevels (drop k hs) (drop at text))
 
-spelt-no : (hs : List Bool) (text : List ℕ) (j : ℕ) → j < length hs → getD hs j false ≡ false → getD (speltLevels hs text) j [] ≡ emptyLevel
-spelt-no [] text j h e = absurd (omega arith)
-spelt-no (true ∷ hs) text zero h e = let z : _≡_ {A = ℕ} 0 1 = cc in absurd (omega arith)
-spelt-no (false ∷ hs) text zero h e = refl
-spelt-no (true ∷ hs) text (suc j) h e = spelt-no hs (drop 1027 text) j (omega arith) e
-spelt-no (false ∷ hs) text (suc j) h e = spelt-no hs text j (omega arith) e
+above-true : (hs : List Bool) (text : List ℕ) (at k : ℕ) → k < length hs → getD hs k false ≡ true
+    → speltAbove hs text at k ≡ speltWords 64 (drop 2 (drop at text)) ++ speltAbove hs text (at + levelBytes) (k + 1)
+unfolding speltAbove
+above-true hs text at k h e = rw (add-one k, drop-cons hs k false h, e, drop-drop levelBytes at text)
 
-length-levels : (hs : List Bool) (text : List ℕ) → length (speltLevels hs text) ≡ length hs
-length-levels [] text = refl
-length-levels (true ∷ hs) text = ap suc (length-levels hs (drop 1027 text))
-length-levels (false ∷ hs) text = ap suc (length-levels hs text)
+above-false : (hs : List Bool) (text : List ℕ) (at k : ℕ) → k < length hs → getD hs k false ≡ false
+    → speltAbove hs text at k ≡ emptyLevel ++ speltAbove hs text at (k + 1)
+unfolding speltAbove
+above-false hs text at k h e = rw (add-one k, drop-cons hs k false h, e)
 
-length-level : (hs : List Bool) (text : List ℕ) (j : ℕ) → j < length hs → length (getD (speltLevels hs text) j []) ≡ 64
-unfolding emptyLevel
-length-level hs text j h = by (getD hs j false) refl
-  where
-    by : (b : Bool) → getD hs j false ≡ b → length (getD (speltLevels hs text) j []) ≡ 64
-    by true e = ap length (spelt-yes hs text j h e) ∙ length-speltWords 64 (drop 2 (drop (1027 * lines (take j hs)) text))
-    by false e = ap length (spelt-no hs text j h e)
+above-end : (hs : List Bool) (text : List ℕ) (at k : ℕ) → length hs ≤ k → speltAbove hs text at k ≡ []
+unfolding speltAbove
+above-end hs text at k h = rw (drop-of-length-le hs h)
 
--- ---- the words of the first j levels
+-- a level's words lie within its line
+line-words : (text : List ℕ) → speltWords 64 (drop 2 (take levelBytes text)) ≡ speltWords 64 (drop 2 text)
+line-words text =
+    ap (speltWords 64) (drop-take 2 1025 text) ∙ sym (words-front 64 (take 1025 (drop 2 text)))
+    ∙ ap (speltWords 64) (take-take 1024 1025 (drop 2 text) (omega arith)) ∙ words-front 64 (drop 2 text)
 
-words : List Bool → List ℕ → ℕ → List ℕ
-words hs text j = concat (take j (speltLevels hs text))
+-- ---- the area after k levels
 
-words-suc : (hs : List Bool) (text : List ℕ) (j : ℕ) → j < length hs → words hs text (suc j) ≡ words hs text j ++ getD (speltLevels hs text) j []
-unfolding words
-words-suc hs text j h =
-    rw (take-suc (speltLevels hs text) j [] (rw (length-levels hs text) h), concat-append, append-nil)
+-- the words before a level
+abbrev before : ℕ → ℕ
+before k = headWords + blockWords * k
 
-length-words : (hs : List Bool) (text : List ℕ) (j : ℕ) → j ≤ length hs → length (words hs text j) ≡ 64 * j
-unfolding words
-length-words hs text zero h = refl
-length-words hs text (suc j) h =
-    ap length (words-suc hs text j (omega arith))
-    ∙ rw (length-append, length-words hs text j (omega arith), length-level hs text j (omega arith)) (omega arith)
+pub record Spelling (area₀ text area : List ℕ) (at k : ℕ) : Type 0 where
+  pub few : k ≤ mostLevels
+  pub size : length text ≡ at + length (linesAbove area₀ k)
+  pub long : length area ≡ areaWords
+  pub head : take headWords area ≡ take headWords area₀
+  pub empty : drop (before k) area ≡ replicate (blockWords * (mostLevels - k)) 0
+  pub is : take (before k) area ++ speltAbove (heldOf area₀) text at k ≡ take headWords area₀ ++ concat (speltLevels (heldOf area₀) text)
 
-drop-zeros : (n m : ℕ) → drop n (replicate (n + m) 0) ≡ replicate {A = ℕ} m 0
-drop-zeros n m = ap (drop n) (sym (replicate-append-replicate n m 0)) ∙ drop-at (replicate n 0) (replicate m 0) n (length-replicate {A = ℕ} n 0)
+pub spelling-none : (area text : List ℕ) → length area ≡ areaWords → drop headWords area ≡ zeroLevels → length text ≡ length (linesAbove area 0) → Spelling area text area 0 0
+unfolding zeroLevels speltAbove
+spelling-none area text l z n = record { few = omega arith; size = omega arith; long = l; head = refl; empty = z; is = refl }
 
--- ---- the area after j levels
+module _ (area₀ text area : List ℕ) (at k : ℕ) (s : Spelling area₀ text area at k) (h : k < mostLevels) where
+  held : hasLineAt area (k + 1) ≡ getD (heldOf area₀) k false
+  held =
+      held-at area k
+      ∙ ap (λ (hs : List Bool). getD hs k false) (sym (held-front area) ∙ ap heldOf (s .head) ∙ held-front area₀)
 
-pub after : List ℕ → List ℕ → ℕ → List ℕ
-after area text j = (take 16 area ++ words (heldOf area) text j) ++ drop (16 + 64 * j) area
+  as-first : hasLineAt area (k + 1) ≡ hasLineAt area₀ (k + 1)
+  as-first = held ∙ sym (held-at area₀ k)
 
-length-held : (area : List ℕ) → length (heldOf area) ≡ 27
-length-held area = length-heldLevels (phaseOf area) (getD area 4 0) (totalOf area)
+  inside : k < length (heldOf area₀)
+  inside = omega (arith, length-heldLevels (phaseOf area₀) (getD area₀ 4 0) (totalOf area₀))
 
-module _ (area text : List ℕ) (long : length area ≡ 1744) (z : drop 16 area ≡ replicate 1728 0) where
-  before-length : (j : ℕ) → j ≤ 27 → length (take 16 area ++ words (heldOf area) text j) ≡ 16 + 64 * j
-  before-length j h = rw (length-append, length-take-le 16 area (omega arith), length-words (heldOf area) text j (omega (arith, length-held area)))
+  next : before k + blockWords ≡ before (k + 1)
+  next = omega arith
 
-  pub after-length : (j : ℕ) → j ≤ 27 → length (after area text j) ≡ length area
-  unfolding after
-  after-length j h = rw (length-append, before-length j h, length-drop) (omega arith)
-
-  pub after-none : area ≡ after area text 0
-  unfolding after words
-  after-none = rw (append-nil (take 16 area)) (sym (take-append-drop 16 area))
-
-  pub after-all : after area text 27 ≡ take 16 area ++ concat (speltLevels (heldOf area) text)
-  unfolding after words
-  after-all =
-      rw (
-        drop-of-length-le area {i = 1744} (omega arith),
-        append-nil,
-        take-all 27 (speltLevels (heldOf area) text) (omega (arith, length-levels (heldOf area) text, length-held area)),
-      )
-
-  zeros-from : (j : ℕ) → j ≤ 27 → drop (16 + 64 * j) area ≡ replicate (1728 - 64 * j) 0
-  zeros-from j h =
-      let e : 1728 ≡ 64 * j + (1728 - 64 * j) = omega arith in
-      sym (drop-drop (64 * j) 16 area) ∙ ap (drop (64 * j)) (z ∙ ap (λ (n : ℕ). replicate n 0) e) ∙ drop-zeros (64 * j) (1728 - 64 * j)
-
-  zeros-next : (j : ℕ) → j < 27 → drop (16 + 64 * j) area ≡ emptyLevel ++ drop (16 + 64 * suc j) area
+  rest-empty : drop (before k) area ≡ emptyLevel ++ replicate (blockWords * (mostLevels - (k + 1))) 0
   unfolding emptyLevel
-  zeros-next j h =
-      let e : 1728 - 64 * j ≡ 64 + (1728 - 64 * suc j) = omega arith in
-      zeros-from j (omega arith)
-      ∙ ap (λ (n : ℕ). replicate n 0) e
-      ∙ sym (replicate-append-replicate 64 (1728 - 64 * suc j) 0)
-      ∙ ap (λ (x : List ℕ). replicate 64 0 ++ x) (sym (zeros-from (suc j) h))
+  rest-empty =
+      let e : blockWords * (mostLevels - k) ≡ blockWords + blockWords * (mostLevels - (k + 1)) = omega arith in
+      s .empty ∙ ap (λ (n : ℕ). replicate n 0) e ∙ sym (replicate-append-replicate blockWords (blockWords * (mostLevels - (k + 1))) 0)
 
-  after-suc : (j : ℕ) → j < 27 → (take 16 area ++ words (heldOf area) text j) ++ getD (speltLevels (heldOf area) text) j [] ≡ take 16 area ++ words (heldOf area) text (suc j)
-  after-suc j h = append-assoc (take 16 area) (words (heldOf area) text j) (getD (speltLevels (heldOf area) text) j []) ∙ ap (λ (x : List ℕ). take 16 area ++ x) (sym (words-suc (heldOf area) text j (omega (arith, length-held area))))
+  length-empty : length emptyLevel ≡ blockWords
+  unfolding emptyLevel
+  length-empty = refl
 
-  after-no : (j : ℕ) → j < 27 → getD (heldOf area) j false ≡ false → after area text j ≡ after area text (suc j)
-  unfolding after
-  after-no j h e =
-      ap (λ (x : List ℕ). (take 16 area ++ words (heldOf area) text j) ++ x) (zeros-next j h)
-      ∙ sym (append-assoc (take 16 area ++ words (heldOf area) text j) emptyLevel (drop (16 + 64 * suc j) area))
-      ∙ ap (λ (x : List ℕ). x ++ drop (16 + 64 * suc j) area)
-      (ap (λ (x : List ℕ). (take 16 area ++ words (heldOf area) text j) ++ x) (sym (spelt-no (heldOf area) text j (omega (arith, length-held area)) e)) ∙ after-suc j h)
+  after-empty : drop (before k + blockWords) area ≡ replicate (blockWords * (mostLevels - (k + 1))) 0
+  after-empty = sym (drop-drop blockWords (before k) area) ∙ ap (drop blockWords) rest-empty ∙ drop-at emptyLevel (replicate (blockWords * (mostLevels - (k + 1))) 0) blockWords length-empty
 
-  after-yes : (j : ℕ) (l ys : List ℕ) → j < 27 → getD (heldOf area) j false ≡ true → l ≡ after area text j
-      → ys ≡ speltWords 64 (drop 2 (drop (1027 * lines (take j (heldOf area))) text))
-      → putMid (16 + 64 * j) (16 + 64 * j + 64 - (16 + 64 * j)) l ys ≡ after area text (suc j)
-  unfolding after
-  after-yes j l ys h e is y =
-      let f : ys ≡ getD (speltLevels (heldOf area) text) j [] = y ∙ sym (spelt-yes (heldOf area) text j (omega (arith, length-held area)) e) in
-      let n : 16 + 64 * j + 64 ≡ 16 + 64 * suc j = omega arith in
-      let m : length ys ≡ 16 + 64 * j + 64 - (16 + 64 * j) = ap length f ∙ length-level (heldOf area) text j (omega (arith, length-held area)) ∙ omega arith in
-      lent-next (16 + 64 * j) (16 + 64 * j + 64) (take 16 area ++ words (heldOf area) text j) l area ys (before-length j (omega arith)) is (omega arith) (omega arith) m
-      ∙ ap (λ (x : ℕ). ((take 16 area ++ words (heldOf area) text j) ++ ys) ++ drop x area) n
-      ∙ ap (λ (x : List ℕ). x ++ drop (16 + 64 * suc j) area) (ap (λ (x : List ℕ). (take 16 area ++ words (heldOf area) text j) ++ x) f ∙ after-suc j h)
+  pub spelling-room : areaWords ≤ length area₀ → hasLineAt area (k + 1) ≡ true → at + levelBytes ≤ length text
+  spelling-room l e = omega (arith, s .size, length-yes area₀ k h l (sym as-first ∙ e))
 
-  -- ---- by the number of a level, as the code lends it
+  -- a level without a line stays empty
+  pub spelling-no : hasLineAt area (k + 1) ≡ false → Spelling area₀ text area at (k + 1)
+  spelling-no e =
+      let t : take (before (k + 1)) area ≡ take (before k) area ++ emptyLevel =
+      ap (λ (n : ℕ). take n area) (sym next) ∙ take-add (before k) blockWords area
+      ∙ ap (λ (x : List ℕ). take (before k) area ++ x) (ap (take blockWords) rest-empty ∙ take-at emptyLevel (replicate (blockWords * (mostLevels - (k + 1))) 0) blockWords length-empty) in
+      record {
+        few = omega arith;
+        size = s .size ∙ ap (λ (x : List ℕ). at + length x) (above-no area₀ k h (sym as-first ∙ e));
+        long = s .long;
+        head = s .head;
+        empty = ap (λ (n : ℕ). drop n area) (sym next) ∙ after-empty;
+        is =
+            ap (λ (x : List ℕ). x ++ speltAbove (heldOf area₀) text at (k + 1)) t
+            ∙ append-assoc (take (before k) area) emptyLevel (speltAbove (heldOf area₀) text at (k + 1))
+            ∙ ap (λ (x : List ℕ). take (before k) area ++ x) (sym (above-false (heldOf area₀) text at k inside (sym held ∙ e)))
+            ∙ s .is;
+      }
 
-  module _ (k : ℕ) (lo : 1 ≤ k) (hi : k < 28) where
-    at-next : k + 1 - 1 ≡ suc (k - 1)
-    at-next = omega arith
+  -- a level is filled from its line
+  pub spelling-yes : (last : List ℕ) → areaWords ≤ length area₀ → hasLineAt area (k + 1) ≡ true
+      → last ≡ put (before (k + 1 - 1)) blockWords area (speltWords blockWords (drop 2 (take (at + levelBytes - at) (drop at text))))
+      → Spelling area₀ text last (at + levelBytes) (k + 1)
+  spelling-yes last l e y =
+      let ws : List ℕ = speltWords 64 (drop 2 (drop at text)) in
+      let i : k + 1 - 1 ≡ k = omega arith in
+      let n : at + levelBytes - at ≡ levelBytes = omega arith in
+      let f : last ≡ put (before k) blockWords area ws =
+      y ∙ ap (λ (j : ℕ). put (before j) blockWords area (speltWords blockWords (drop 2 (take (at + levelBytes - at) (drop at text))))) i
+      ∙ ap (λ (m : ℕ). put (before k) blockWords area (speltWords blockWords (drop 2 (take m (drop at text))))) n
+      ∙ ap (put (before k) blockWords area) (line-words (drop at text)) in
+      let g : before k + blockWords ≤ length area = omega (arith, s .long) in
+      let w : length ws ≡ blockWords = length-speltWords 64 (drop 2 (drop at text)) in
+      let t : take (before (k + 1)) last ≡ take (before k) area ++ ws =
+      ap (λ (m : ℕ). take m last) (sym next) ∙ ap (take (before k + blockWords)) f ∙ put-take (before k) blockWords area ws g w in
+      record {
+        few = omega arith;
+        size = omega (arith, s .size, length-yes area₀ k h l (sym as-first ∙ e));
+        long = ap length f ∙ put-length (before k) blockWords area ws g w ∙ s .long;
+        head =
+            sym (take-take headWords (before (k + 1)) last (omega arith)) ∙ ap (take headWords) t
+            ∙ take-append-le headWords (take (before k) area) ws (rw (length-take-le (before k) area (omega (arith, s .long))) (omega arith))
+            ∙ take-take headWords (before k) area (omega arith) ∙ s .head;
+        empty = ap (λ (m : ℕ). drop m last) (sym next) ∙ ap (drop (before k + blockWords)) f ∙ put-drop (before k) blockWords area ws g w ∙ after-empty;
+        is =
+            ap (λ (x : List ℕ). x ++ speltAbove (heldOf area₀) text (at + levelBytes) (k + 1)) t
+            ∙ append-assoc (take (before k) area) ws (speltAbove (heldOf area₀) text (at + levelBytes) (k + 1))
+            ∙ ap (λ (x : List ℕ). take (before k) area ++ x) (sym (above-true (heldOf area₀) text at k inside (sym held ∙ e)))
+            ∙ s .is;
+      }
 
-    pub level-no-line : getD (heldOf area) (k - 1) false ≡ false → after area text (k - 1) ≡ after area text (k + 1 - 1)
-    level-no-line e = after-no (k - 1) (omega arith) e ∙ ap (after area text) (sym at-next)
-
-    pub level-line : (l ys : List ℕ) (at : ℕ) → getD (heldOf area) (k - 1) false ≡ true → l ≡ after area text (k - 1)
-        → at ≡ 1027 * lines (take (k - 1) (heldOf area))
-        → ys ≡ speltWords (length (midOf (16 + 64 * (k - 1)) (16 + 64 * (k - 1) + 64 - (16 + 64 * (k - 1))) l)) (take (at + 2 + 1024 - (at + 2)) (drop (at + 2) text))
-        → putMid (16 + 64 * (k - 1)) (16 + 64 * (k - 1) + 64 - (16 + 64 * (k - 1))) l ys ≡ after area text (k + 1 - 1)
-    level-line l ys at e is a y =
-        let n : 16 + 64 * (k - 1) + 64 - (16 + 64 * (k - 1)) ≡ 64 = omega arith in
-        let m : length (midOf (16 + 64 * (k - 1)) (16 + 64 * (k - 1) + 64 - (16 + 64 * (k - 1))) l) ≡ 64 =
-        mid-len (16 + 64 * (k - 1)) (16 + 64 * (k - 1) + 64) l (omega (arith, ap length is, after-length (k - 1) (omega arith))) ∙ n in
-        let t : at + 2 + 1024 - (at + 2) ≡ 1024 = omega arith in
-        let f : ys ≡ speltWords 64 (drop 2 (drop (1027 * lines (take (k - 1) (heldOf area))) text)) =
-        y ∙ ap (λ (x : ℕ). speltWords x (take (at + 2 + 1024 - (at + 2)) (drop (at + 2) text))) m
-        ∙ ap (λ (x : ℕ). speltWords 64 (take x (drop (at + 2) text))) t
-        ∙ words-front 64 (drop (at + 2) text)
-        ∙ ap (speltWords 64) (sym (drop-drop 2 at text) ∙ ap (λ (x : ℕ). drop 2 (drop x text)) a) in
-        after-yes (k - 1) l ys (omega arith) e is f ∙ ap (after area text) (sym at-next)
+pub spelling-all : (area₀ text area : List ℕ) (at k : ℕ) → Spelling area₀ text area at k → mostLevels ≤ k
+    → area ≡ take headWords area₀ ++ concat (speltLevels (heldOf area₀) text)
+spelling-all area₀ text area at k s h =
+    let e = above-end (heldOf area₀) text at k (omega (arith, length-heldLevels (phaseOf area₀) (getD area₀ 4 0) (totalOf area₀))) in
+    sym (ap (λ (x : List ℕ). take (before k) area ++ x) e ∙ append-nil (take (before k) area) ∙ take-all (before k) area (omega (arith, s .long))) ∙ s .is

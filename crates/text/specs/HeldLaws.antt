@@ -1,24 +1,24 @@
 -- What soundness says of an area, as far as its text needs it: words 0 to 5 fit their digits, and a level without a line holds
 -- nothing.
 -- Assumes nothing.
-use mathlib.Core.Path.{_≡_, refl, sym, ap, _∙_}
+use mathlib.Core.Path.{_≡_, refl, sym, _∙_}
 use mathlib.Core.Bool.{Bool, true, false, not, _||_}
 use mathlib.Core.List.{List, [], _∷_, map}
 use Prim.Native.Nat.{ℕ, zero, suc, _+_, _^_, _≤_}
-use native.Mathlib.Nat.{add-zero}
 use native.Mathlib.Omega.{arith}
 use borrow.Author.Tests.{eqb-true, ltb-false}
 use lib.Dec.{eqb, ltb}
-use lib.ListN.{length, take, drop, getD, replicate, length-replicate}
+use lib.ListN.{length, take, drop, getD, length-replicate}
 use Rattle.lists.specs.Below.{Below, below-zeros}
 use Rattle.bits.specs.Bits.{bitsOf}
 use Rattle.bits.specs.BitsLaws.{length-numbers, length-bitsOf, bitsOf-zeros, bitsOf-inj}
 use Rattle.tree.specs.Tree.{Params}
-use Rattle.hash.specs.Hash.{refusedParams}
+use Rattle.tree.specs.Refusals.{refusedParams}
 use Rattle.area.specs.Area.{Hold, blockWords, phaseOf, totalOf, keyBytesOf, keyOf, levelsOf, paramsOf, emptyLevel, holdsFor, allFalse, clean, cleanAll, sound, soundLevels}
 use Rattle.area.specs.AreaLaws.{allFalse-is}
-use Rattle.area.specs.CallLaws.{orElse-passed}
-use Rattle.area.specs.Moved.{both-parts, sound-tests}
+use Rattle.tree.specs.RefusalLaws.{orElse-passed}
+use Rattle.lists.specs.Both.{both-parts}
+use Rattle.area.specs.Moved.{sound-tests}
 use Rattle.text.specs.Text.{hasLine}
 use Rattle.text.specs.LayoutLaws.{Levels}
 

@@ -1,7 +1,7 @@
 -- The parts of an area that a text is made of: its first 16 words one by one, and its levels. All of them lie in the first
 -- 1,744 words.
 -- Assumes nothing.
-use mathlib.Core.Path.{_≡_, refl, ap, _∙_}
+use mathlib.Core.Path.{_≡_, refl, sym, ap, _∙_}
 use mathlib.Core.List.{List, [], _∷_, _++_}
 use Prim.Native.Nat.{ℕ, zero, suc, _+_, _-_, _*_, _^_, _≤_, _<_}
 use native.Mathlib.Omega.{arith}
@@ -12,7 +12,8 @@ use Rattle.lists.specs.Below.{Below, below-take, below-drop}
 use Rattle.tree.specs.Tree.{mostLevels}
 use Rattle.area.specs.Area.{headWords, blockWords, areaWords, keyOf, levelWords, levelsFrom, levelsOf, sound}
 use Rattle.area.specs.Moved.{Same, same-front, same-sound}
-use Rattle.text.specs.Text.{textOf}
+use Rattle.digits.specs.Digits.{digits, wordDigits, line}
+use Rattle.text.specs.Text.{heldLevels, levelLines, textOf}
 
 -- ---- the words before the levels
 
@@ -79,11 +80,22 @@ front-same area h =
 pub sound-front : (area : List ℕ) → areaWords ≤ length area → sound (take areaWords area) ≡ sound area
 sound-front area h = same-sound (take areaWords area) area (front-same area h)
 
+-- a text from what it tells
+unfoldable textBy : (phase r limit k d total count : ℕ) → List ℕ → List (List ℕ) → List ℕ
+textBy phase r limit k d total count key levels =
+    line (digits 2 phase ++ (digits 2 r ++ (digits 2 limit ++ (digits 2 k ++ (digits 4 d ++ (digits 16 total ++ digits 16 count))))))
+    ++ (line (wordDigits key) ++ levelLines 1 (heldLevels phase limit total) levels)
+
+text-by : (area : List ℕ) → textOf area
+    ≡ textBy (getD area 0 0) (getD area 5 0) (getD area 4 0) (getD area 2 0) (getD area 3 0) (getD area 1 0) (getD area 14 0) (keyOf area) (levelsOf area)
+unfolding textOf textBy
+text-by area = refl
+
 pub text-front : (area : List ℕ) → areaWords ≤ length area → textOf (take areaWords area) ≡ textOf area
-unfolding textOf
 text-front area h =
     let s = front-same area h in
-    rw (
+    text-by (take areaWords area)
+    ∙ rw (
       s .word 0 (omega arith),
       s .word 1 (omega arith),
       s .word 2 (omega arith),
@@ -94,3 +106,4 @@ text-front area h =
       s .key,
       s .levels,
     )
+    (sym (text-by area))

@@ -1,16 +1,17 @@
 -- The length of a text: 45 and 129 bytes for the first two lines and 1,027 for each level that has one, at most 27,903.
 -- Assumes nothing.
-use mathlib.Core.Path.{_≡_, refl, sym, ap, _∙_}
+use mathlib.Core.Path.{_≡_, refl, ap, _∙_}
 use mathlib.Core.Bool.{Bool, true, false}
-use mathlib.Core.List.{List, [], _∷_, _++_, map}
-use Prim.Native.Nat.{ℕ, zero, suc, _+_, _-_, _*_, _/_, _≤_, _<_}
+use mathlib.Core.List.{List, [], _∷_, _++_}
+use Prim.Native.Nat.{ℕ, zero, suc, _+_, _*_, _/_, _≤_}
 use native.Mathlib.Omega.{arith}
 use lib.Dec.{eqb}
-use lib.ListN.{length, take, drop, getD, replicate, length-append, length-map, length-replicate}
+use lib.ListN.{length, getD, replicate, length-append, length-map, length-replicate}
 use Rattle.tree.specs.Tree.{mostLevels, blockBits}
 use Rattle.area.specs.Area.{Hold, headWords, blockWords, areaWords, phaseOf, totalOf, keyOf, doneBlocks, parallelHold, holdsAbove, openHolds, holdsFor, levelWords, levelsFrom, levelsOf}
-use Rattle.text.specs.Text.{digits, wordDigits, line, line1, line2, levelLine, hasLine, heldLevels, heldOf, levelLines, textOf, line1Bytes, line2Bytes, levelBytes}
-use Rattle.text.specs.DigitLaws.{length-digits, length-wordDigits}
+use Rattle.digits.specs.Digits.{digits, wordDigits}
+use Rattle.text.specs.Text.{line1, line2, levelLine, hasLine, heldLevels, heldOf, levelLines, textOf, line1Bytes, line2Bytes, levelBytes}
+use Rattle.digits.specs.DigitLaws.{length-digits, length-wordDigits}
 use Rattle.text.specs.LayoutLaws.{length-keyOf, length-levelWords}
 
 pub length-line1 : (area : List ℕ) → length (line1 area) ≡ line1Bytes

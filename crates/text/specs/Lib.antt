@@ -1,9 +1,10 @@
 pub mod Text
 pub mod Answers
-pub mod DigitLaws
+pub mod FieldLaws
 pub mod LayoutLaws
 pub mod HeldLaws
 pub mod LengthLaws
+pub mod Lines
 pub mod TextLaws
 pub mod ReadLaws
 pub mod TextExamples

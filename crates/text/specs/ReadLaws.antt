@@ -2,26 +2,23 @@
 -- writes back as itself; and a text is read exactly if some sound area writes it.
 -- Assumes nothing.
 use mathlib.Core.Path.{_≡_, refl, sym, ap, _∙_}
-use mathlib.Core.Bool.{Bool, true, false, not}
+use mathlib.Core.Bool.{true, not}
 use mathlib.Core.List.{List, [], _∷_, _++_}
 use mathlib.Core.Logic.{_↔_}
-use Prim.Native.Nat.{ℕ, zero, suc, _^_, _≤_, _<_}
+use Prim.Native.Nat.{ℕ, zero, suc, _^_, _≤_}
 use native.Mathlib.Omega.{arith}
 use borrow.Author.Tests.{eqb-true, eq-eqb, ltb-false, le-ltb, not-false}
 use lib.Dec.{eqb, ltb}
-use lib.ListN.{length, take, drop, length-append, length-drop}
-use lib.Seq.{take-at, take-all}
+use lib.ListN.{length, take, drop, length-append}
+use lib.Seq.{take-at}
 use Rattle.lists.specs.Append.{cons-eq}
 use Rattle.lists.specs.Below.{Below, below-append, below-drop}
-use Rattle.lists.specs.Table.{both}
-use Rattle.hash.specs.Hash.{orElse, refusedOutput}
+use Rattle.tree.specs.Refusals.{orElse, refusedOutput}
 use Rattle.area.specs.Area.{areaWords, sound}
-use Rattle.area.specs.Calls.{refusedArea, refusedShort}
-use Rattle.area.specs.Sound.{both-true}
-use Rattle.area.specs.CallLaws.{orElse-passed}
-use Rattle.text.specs.Text.{textOf, speltArea, same, readable, Written, writeNumber, writeAnswer, writeOf, Taken, readNumber, readAnswer, readOf}
+use Rattle.lists.specs.Both.{both-true, both-parts}
+use Rattle.tree.specs.RefusalLaws.{orElse-passed}
+use Rattle.text.specs.Text.{textOf, speltArea, same, readable, writeNumber, writeAnswer, writeOf, Taken, readNumber, readAnswer, readOf}
 use Rattle.text.specs.LayoutLaws.{sound-front, text-front}
-use Rattle.area.specs.Moved.{both-parts}
 use Rattle.text.specs.TextLaws.{SoundArea, spells-back, length-speltArea, speltArea-below}
 
 -- ---- tests

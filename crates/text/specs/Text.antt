@@ -2,32 +2,17 @@
 -- Assumes nothing.
 use mathlib.Core.Bool.{Bool, true, false, not, _||_}
 use mathlib.Core.List.{List, [], _∷_, _++_, map}
-use Prim.Native.Nat.{ℕ, zero, suc, _+_, _*_, _/_, _%_, _^_}
+use Prim.Native.Nat.{ℕ, zero, suc, _+_}
 use lib.Dec.{eqb}
-use lib.ListN.{length, take, drop, getD}
+use lib.ListN.{length, drop, getD}
 use Rattle.lists.specs.Concat.{concat}
-use Rattle.lists.specs.Table.{both}
-use Rattle.bits.specs.Hex.{digitOf, hexDigit}
-use Rattle.bits.specs.declared.hex.Digit.{Digit}
-use Rattle.bits.specs.declared.hex.Digit.the-variants.{Value, Refused}
-use Rattle.hash.specs.Hash.{orElse, refusedOutput}
+use Rattle.lists.specs.Both.{both}
+use Rattle.digits.specs.Digits.{digits, line, wordDigits, numberAt, speltWords}
+use Rattle.tree.specs.Refusals.{orElse, refusedOutput}
 use Rattle.area.specs.Area.{Hold, blockWords, areaWords, phaseOf, totalOf, keyBytesOf, keyOf, compressionsOf, levelsOf, emptyLevel, holdsFor, sound}
 use Rattle.area.specs.Calls.{refusedShort, refusedArea}
 
 -- ---- the text of an area
-
--- n hexadecimal digits of a number, high digit first
-unfoldable pub digits : ℕ → ℕ → List ℕ
-digits zero x = []
-digits (suc n) x = hexDigit (x / 16 ^ n % 16) ∷ digits n x
-
--- the digits of words, 16 each
-abbrev pub wordDigits : List ℕ → List ℕ
-wordDigits ws = concat (map (digits 16) ws)
-
--- "each line ended by byte 10"
-abbrev pub line : List ℕ → List ℕ
-line ds = ds ++ (10 ∷ [])
 
 -- "Line 1: phase (1 byte), r (1), L (1), key bytes (1), d (2), total (8), compressions (8): 44 digits."
 abbrev pub line1 : List ℕ → List ℕ
@@ -69,24 +54,6 @@ unfoldable pub textOf : List ℕ → List ℕ
 textOf area = line1 area ++ (line2 area ++ levelLines 1 (heldOf area) (levelsOf area))
 
 -- ---- the area that a text's digits spell
-
--- the number that digits spell, high digit first, after those that spelt x; what is no digit counts as 0
-abbrev pub digitValue : Digit → ℕ
-digitValue (Value v) = v
-digitValue Refused = 0
-
-abbrev pub spelt : ℕ → List ℕ → ℕ
-spelt x [] = x
-spelt x (b ∷ bs) = spelt (x * 16 + digitValue (digitOf b)) bs
-
--- the number that n digits spell from a place of a text on
-abbrev pub numberAt : List ℕ → ℕ → ℕ → ℕ
-numberAt text at n = spelt 0 (take n (drop at text))
-
--- n words of 16 digits each
-unfoldable pub speltWords : ℕ → List ℕ → List ℕ
-speltWords zero text = []
-speltWords (suc n) text = spelt 0 (take 16 text) ∷ speltWords n (drop 16 text)
 
 -- the bytes of line 1, of line 2 and of a level's line, with their ends
 abbrev pub line1Bytes : ℕ

@@ -1,18 +1,19 @@
 -- Texts by computing: of an opened area, of areas that hold bits, of an ended one; and texts that are not read.
 -- Assumes nothing.
 use mathlib.Core.Path.{_≡_, refl}
-use mathlib.Core.Bool.{Bool, true, false}
+use mathlib.Core.Bool.{true}
 use mathlib.Core.List.{List, [], _∷_, _++_, map}
-use Prim.Native.Nat.{ℕ, zero, suc, _+_, _-_, _*_}
+use Prim.Native.Nat.{ℕ, _+_, _-_, _*_, _^_}
 use Prim.Native.Char.{code}
 use Prim.Native.String as string
-use lib.ListN.{length, take, drop, replicate}
+use lib.ListN.{take, drop, replicate}
 use Rattle.bits.specs.Bits.{numbers}
 use Rattle.compress.specs.Compress.{grown, compressed}
 use Rattle.tree.specs.Tree.{Params, keyWords, output}
-use Rattle.area.specs.Area.{areaWords, paramsOf, levelsOf, withLevels, emptyLevel, emptyLevels, sound}
+use Rattle.area.specs.Area.{areaWords, blockWords, paramsOf, levelsOf, withLevels, emptyLevel, emptyLevels, sound}
 use Rattle.area.specs.Calls.{withBit, outWords, receive, feedBit, feedBits, closeAbove, closing, openNumber, openedArea, openOf, fedBits, feedNumber, fedArea, feedOf, closedBy, endNumber, endedArea, digestOut, endOf}
-use Rattle.text.specs.Text.{digits, textOf, speltWords, speltHead, speltArea, readable, writeNumber, writeOf, readNumber, readOf}
+use Rattle.digits.specs.Digits.{digits, speltWords}
+use Rattle.text.specs.Text.{textOf, speltHead, speltArea, readable, writeNumber, writeOf, readNumber, readOf}
 
 -- the bytes of a text of ASCII characters
 abbrev ascii : string.String → List ℕ
@@ -27,7 +28,7 @@ abbrev used : List ℕ
 used = replicate (areaWords + 2) 7
 
 abbrev out : List ℕ
-out = replicate 2300 7
+out = replicate 200 7
 
 -- ---- an opened area: two lines, 174 bytes
 
@@ -41,19 +42,14 @@ opened = openOf used keyed .area
 abbrev openedText : List ℕ
 openedText = ascii "01684003010000000000000000000000000000000000\n0102ab" ++ (zeros 122 ++ ascii "\n")
 
-opened-text : textOf opened ≡ openedText
-unfolding keyWords numbers openNumber openedArea openOf levelsOf emptyLevels emptyLevel digits textOf
-opened-text = refl
-
-opened-written : (writeOf opened out .number ≡ 0) × (writeOf opened out .count ≡ 174) × (take 174 (writeOf opened out .text) ≡ openedText)
-    × (drop 174 (writeOf opened out .text) ≡ drop 174 out)
+opened-written : writeOf opened out ≡ record { number = 0; count = 174; text = openedText ++ drop 174 out }
 unfolding keyWords numbers openNumber openedArea openOf paramsOf levelsOf emptyLevels emptyLevel sound digits textOf writeNumber writeOf
-opened-written = (refl, refl, refl, refl)
+opened-written = refl
 
 -- it is read into an area that holds something else, whose last two words stay
-opened-read : (readOf used openedText .number ≡ 0) × (readOf used openedText .area ≡ opened)
+opened-read : readOf used openedText ≡ record { number = 0; count = 0; area = opened }
 unfolding keyWords numbers openNumber openedArea openOf paramsOf levelsOf emptyLevels emptyLevel sound digits textOf speltWords speltHead speltArea readable readNumber readOf
-opened-read = (refl, refl)
+opened-read = refl
 
 -- ---- areas that hold bits
 
@@ -70,11 +66,22 @@ nine-bits : textOf (ones 9 (plain 64))
 unfolding keyWords numbers output compressed grown paramsOf levelsOf withLevels emptyLevels emptyLevel sound withBit outWords receive feedBit feedBits openNumber openedArea openOf fedBits feedNumber fedArea feedOf digits textOf
 nine-bits = refl
 
--- 4,097 bits, L = 1: one compression; level 2 is sequential and has no output yet, and what it holds follows 16 words of zeros
-two-levels : textOf (ones 4097 (plain 1))
-    ≡ ascii "01000100000800000000000010010000000000000001\n" ++ (zeros 128 ++ (ascii "\n018" ++ (zeros 1023 ++ (ascii "\n02" ++ (zeros 256 ++ (replicate 256 102 ++ (zeros 512 ++ ascii "\n")))))))
-unfolding keyWords numbers output compressed grown paramsOf levelsOf withLevels emptyLevels emptyLevel sound withBit outWords receive feedBit feedBits openNumber openedArea openOf fedBits feedNumber fedArea feedOf digits textOf
-two-levels = refl
+-- 4,097 bits, all ones, L = 1: one compression. Level 2 is sequential and has no output yet, and what it holds follows 16 words
+-- of zeros. The words are given here, and not fed.
+abbrev twoLevels : List ℕ
+twoLevels =
+    1 ∷ 4097 ∷ 0 ∷ 8 ∷ 1 ∷ 0 ∷ (replicate 8 0
+    ++ (1 ∷ 0 ∷ 2 ^ 63 ∷ (replicate 63 0
+    ++ (replicate 16 0 ++ (replicate 16 (2 ^ 64 - 1) ++ (replicate 32 0 ++ replicate (25 * blockWords) 0))))))
+
+abbrev twoLevelsText : List ℕ
+twoLevelsText =
+    ascii "01000100000800000000000010010000000000000001\n"
+    ++ (zeros 128 ++ (ascii "\n018" ++ (zeros 1023 ++ (ascii "\n02" ++ (zeros 256 ++ (replicate 256 102 ++ (zeros 512 ++ ascii "\n")))))))
+
+two-levels : (textOf twoLevels ≡ twoLevelsText) × (readable twoLevelsText ≡ true)
+unfolding numbers paramsOf levelsOf emptyLevel sound digits textOf speltWords speltHead speltArea readable
+two-levels = (refl, refl)
 
 -- ---- an ended area: two lines, one compression for the empty message
 

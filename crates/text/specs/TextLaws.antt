@@ -1,67 +1,24 @@
 -- The digits of a sound area's text spell its first 1,744 words.
 -- Assumes nothing.
 use mathlib.Core.Path.{_≡_, refl, sym, ap, _∙_}
-use mathlib.Core.Bool.{Bool, true, false, not}
-use mathlib.Core.List.{List, [], _∷_, _++_, map, append-assoc, append-nil}
-use Prim.Native.Nat.{ℕ, zero, suc, _+_, _-_, _*_, _^_, _≤_, _<_}
+use mathlib.Core.Bool.{Bool, true, false}
+use mathlib.Core.List.{List, [], _∷_, _++_, append-assoc, append-nil}
+use Prim.Native.Nat.{ℕ, suc, _+_, _*_, _^_, _≤_}
 use native.Mathlib.Omega.{arith}
-use lib.ListN.{length, take, drop, getD, replicate, length-append, length-replicate}
-use lib.Seq.{take-at, drop-at, drop-drop, getD-take}
+use lib.ListN.{length, take, drop, getD, length-append}
+use lib.Seq.{drop-at, drop-drop, getD-take}
 use Rattle.lists.specs.Append.{cons-eq}
 use Rattle.lists.specs.Below.{Below, none, more, below-append, below-zeros, below-at, below-take, below-drop}
 use Rattle.lists.specs.Concat.{concat}
-use Rattle.area.specs.Area.{headWords, blockWords, areaWords, phaseOf, totalOf, keyBytesOf, keyOf, compressionsOf, levelsOf, emptyLevel, holdsFor, sound}
+use Rattle.area.specs.Area.{headWords, blockWords, areaWords, phaseOf, totalOf, keyOf, levelsOf, emptyLevel, holdsFor, sound}
 use Rattle.area.specs.Moved.{area-front}
-use Rattle.text.specs.Text.{digits, wordDigits, line1, line2, levelLine, heldLevels, heldOf, levelLines, textOf, spelt, numberAt, speltWords, line1Bytes, line2Bytes, levelBytes, speltLevels, speltHead, speltArea}
-use Rattle.text.specs.DigitLaws.{drop-digits, number-here, number-past, number-lt, length-speltWords, speltWords-below, words-exact}
+use Rattle.digits.specs.Digits.{digits, wordDigits, numberAt, speltWords}
+use Rattle.text.specs.Text.{line1, line2, levelLine, heldLevels, heldOf, levelLines, textOf, line1Bytes, line2Bytes, levelBytes, speltLevels, speltHead, speltArea}
+use Rattle.digits.specs.DigitLaws.{drop-digits, number-lt, length-speltWords, speltWords-below, words-exact}
+use Rattle.text.specs.FieldLaws.{field-back}
 use Rattle.text.specs.LayoutLaws.{head-words, length-keyOf, levels-are, length-levelsOf}
 use Rattle.text.specs.HeldLaws.{Ranges, ranges, Fit, none, line, bare, fit-levels}
 use Rattle.text.specs.LengthLaws.{length-line1, length-line2, length-levelLine, length-holdsFor, length-heldLevels}
-
--- ---- line 1
-
--- the fields of line 1, and what follows it
-fields : ℕ → ℕ → ℕ → ℕ → ℕ → ℕ → ℕ → List ℕ → List ℕ
-fields p r l k d t c rest =
-    digits 2 p ++ (digits 2 r ++ (digits 2 l ++ (digits 2 k ++ (digits 4 d ++ (digits 16 t ++ (digits 16 c ++ rest))))))
-
-line1-fields : (area rest : List ℕ) → line1 area ++ rest
-    ≡ fields (phaseOf area) (getD area 5 0) (getD area 4 0) (keyBytesOf area) (getD area 3 0) (totalOf area) (compressionsOf area) (10 ∷ rest)
-unfolding fields
-line1-fields area rest = simp append-assoc
-
-module _ (p r l k d t c : ℕ) (rest : List ℕ) where
-  field-0 : p < 256 → numberAt (fields p r l k d t c rest) 0 2 ≡ p
-  unfolding fields
-  field-0 h = number-here 2 p _ h
-
-  field-2 : r < 256 → numberAt (fields p r l k d t c rest) 2 2 ≡ r
-  unfolding fields
-  field-2 h = number-past 2 p 0 2 _ ∙ number-here 2 r _ h
-
-  field-4 : l < 256 → numberAt (fields p r l k d t c rest) 4 2 ≡ l
-  unfolding fields
-  field-4 h = number-past 2 p 2 2 _ ∙ number-past 2 r 0 2 _ ∙ number-here 2 l _ h
-
-  field-6 : k < 256 → numberAt (fields p r l k d t c rest) 6 2 ≡ k
-  unfolding fields
-  field-6 h = number-past 2 p 4 2 _ ∙ number-past 2 r 2 2 _ ∙ number-past 2 l 0 2 _ ∙ number-here 2 k _ h
-
-  field-8 : d < 65536 → numberAt (fields p r l k d t c rest) 8 4 ≡ d
-  unfolding fields
-  field-8 h = number-past 2 p 6 4 _ ∙ number-past 2 r 4 4 _ ∙ number-past 2 l 2 4 _ ∙ number-past 2 k 0 4 _ ∙ number-here 4 d _ h
-
-  field-12 : t < 2 ^ 64 → numberAt (fields p r l k d t c rest) 12 16 ≡ t
-  unfolding fields
-  field-12 h =
-      number-past 2 p 10 16 _ ∙ number-past 2 r 8 16 _ ∙ number-past 2 l 6 16 _ ∙ number-past 2 k 4 16 _ ∙ number-past 4 d 0 16 _
-      ∙ number-here 16 t _ h
-
-  field-28 : c < 2 ^ 64 → numberAt (fields p r l k d t c rest) 28 16 ≡ c
-  unfolding fields
-  field-28 h =
-      number-past 2 p 26 16 _ ∙ number-past 2 r 24 16 _ ∙ number-past 2 l 22 16 _ ∙ number-past 2 k 20 16 _ ∙ number-past 4 d 16 16 _
-      ∙ number-past 16 t 0 16 _ ∙ number-here 16 c _ h
 
 -- ---- the head
 
@@ -69,22 +26,14 @@ head-back : (area rest : List ℕ) → Below (2 ^ 64) area → headWords ≤ len
 unfolding speltHead
 head-back area rest b h g =
     let text : List ℕ = line1 area ++ (line2 area ++ rest) in
-    let e = line1-fields area (line2 area ++ rest) in
-    let p : ℕ = phaseOf area in
-    let r : ℕ = getD area 5 0 in
-    let l : ℕ = getD area 4 0 in
-    let k : ℕ = keyBytesOf area in
-    let d : ℕ = getD area 3 0 in
-    let t : ℕ = totalOf area in
-    let c : ℕ = compressionsOf area in
-    let more : List ℕ = 10 ∷ (line2 area ++ rest) in
-    let w0 = ap (λ (x : List ℕ). numberAt x 0 2) e ∙ field-0 p r l k d t c more (omega (arith, g .phase)) in
-    let w1 = ap (λ (x : List ℕ). numberAt x 12 16) e ∙ field-12 p r l k d t c more (below-at b 1 (omega arith)) in
-    let w2 = ap (λ (x : List ℕ). numberAt x 6 2) e ∙ field-6 p r l k d t c more (omega (arith, g .keyBytes)) in
-    let w3 = ap (λ (x : List ℕ). numberAt x 8 4) e ∙ field-8 p r l k d t c more (omega (arith, g .d)) in
-    let w4 = ap (λ (x : List ℕ). numberAt x 4 2) e ∙ field-4 p r l k d t c more (omega (arith, g .limit)) in
-    let w5 = ap (λ (x : List ℕ). numberAt x 2 2) e ∙ field-2 p r l k d t c more (omega (arith, g .rounds)) in
-    let w14 = ap (λ (x : List ℕ). numberAt x 28 16) e ∙ field-28 p r l k d t c more (below-at b 14 (omega arith)) in
+    let field = field-back area (line2 area ++ rest) in
+    let w0 = field 0 (omega arith) (omega (arith, g .phase)) in
+    let w1 = field 5 (omega arith) (below-at b 1 (omega arith)) in
+    let w2 = field 3 (omega arith) (omega (arith, g .keyBytes)) in
+    let w3 = field 4 (omega arith) (omega (arith, g .d)) in
+    let w4 = field 2 (omega arith) (omega (arith, g .limit)) in
+    let w5 = field 1 (omega arith) (omega (arith, g .rounds)) in
+    let w14 = field 6 (omega arith) (below-at b 14 (omega arith)) in
     let a : line2 area ++ rest ≡ wordDigits (keyOf area) ++ (10 ∷ rest) = append-assoc (wordDigits (keyOf area)) (10 ∷ []) rest in
     let key : speltWords 8 (drop line1Bytes text) ≡ keyOf area =
     ap (speltWords 8) (drop-at (line1 area) (line2 area ++ rest) line1Bytes (length-line1 area) ∙ a)
@@ -110,7 +59,7 @@ levels-back k rest (bare e f) = cons-eq (sym e) (levels-back (suc k) rest f)
 -- ---- the area
 
 -- the levels that have a line go by words 0, 1 and 4
-held-front : (area : List ℕ) → heldOf (take headWords area) ≡ heldOf area
+pub held-front : (area : List ℕ) → heldOf (take headWords area) ≡ heldOf area
 held-front area =
     ap (λ (p : ℕ). heldLevels p (getD (take 16 area) 4 0) (getD (take 16 area) 1 0)) (getD-take 16 area 0 0 (omega arith))
     ∙ ap (λ (l : ℕ). heldLevels (phaseOf area) l (getD (take 16 area) 1 0)) (getD-take 16 area 4 0 (omega arith))

@@ -1,24 +1,26 @@
 // Which levels of an area have a line, and the bytes that a text then has.
 ghost use mathlib.Core.Path.{_≡_};
-ghost use mathlib.Core.Bool.{false};
-ghost use Prim.Native.Nat.{_+_, _-_, _*_, _≤_};
-ghost use lib.ListN.{length, getD};
-ghost use Rattle.area.specs.Area.{headWords};
-ghost use Rattle.text.specs.Text.{heldLevels, heldOf, line1Bytes, line2Bytes, levelBytes};
-ghost use Rattle.text.specs.LengthLaws.{lines};
+ghost use Prim.Native.Nat.{_≤_};
+ghost use lib.ListN.{length};
+ghost use Rattle.tree.specs.Tree.{mostLevels};
+ghost use Rattle.area.specs.Area.{headWords, areaWords};
+ghost use Rattle.text.specs.Text.{textOf};
+ghost use Rattle.text.specs.Lines.{hasLineAt};
 use super::lines;
-use hash::Block;
-use hash::Params;
-use stream::count;
+use node::Block;
+use node::Params;
+use sound::count;
 
 // Whether a level holds bits or has a sequential output.
-pub fn has_line(phase: u64, limit: u64, total: u64, level: u64) -> bool
-    requires { ⌜ (1 ≤ level) × (level ≤ 27) ⌝ }
-    ensures { λ r. ⌜ r ≡ getD (heldLevels phase limit total) (level - 1) false ⌝ }
+pub fn has_line(area: &[u64], level: u64) -> bool
+    requires { ⌜ (headWords ≤ length (now area)) × (1 ≤ level) × (level ≤ mostLevels) ⌝ }
+    ensures { λ r. ⌜ r ≡ hasLineAt (now (area .entry)) level ⌝ }
 {
-    if phase == 2 {
+    if area[0] == 2 {
         return false;
     }
+    let limit = area[4];
+    let total = area[1];
     if level == 1 {
         return total != 0;
     }
@@ -34,16 +36,16 @@ pub fn has_line(phase: u64, limit: u64, total: u64, level: u64) -> bool
 
 // The bytes of an area's text.
 pub fn text_bytes(area: &[u64]) -> usize
-    requires { ⌜ headWords ≤ length (now area) ⌝ }
-    ensures { λ r. ⌜ r ≡ line1Bytes + line2Bytes + levelBytes * lines (heldOf (now (area .entry))) ⌝ }
+    requires { ⌜ areaWords ≤ length (now area) ⌝ }
+    ensures { λ r. ⌜ r ≡ length (textOf (now (area .entry))) ⌝ }
 {
     let mut n: usize = lines::HEAD;
-    let mut k: u64 = 1;
-    while k <= Params::LEVELS {
-        if has_line(area[0], area[4], area[1], k) {
+    let mut k: u64 = 0;
+    while k < Params::LEVELS {
+        k += 1;
+        if has_line(area, k) {
             n += lines::LEVEL;
         }
-        k += 1;
     }
     n
 }

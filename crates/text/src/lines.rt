@@ -3,58 +3,83 @@ ghost use mathlib.Core.Path.{_≡_};
 ghost use mathlib.Core.List.{_++_};
 ghost use Prim.Native.Nat.{_+_, _≤_};
 ghost use lib.ListN.{length};
-ghost use Rattle.area.specs.Area.{headWords, blockWords};
+ghost use Rattle.tree.specs.Tree.{mostLevels};
+ghost use Rattle.area.specs.Area.{headWords, areaWords, levelWords};
 ghost use Rattle.text.specs.Text.{line1, line2, levelLine, line1Bytes, line2Bytes, levelBytes};
-use super::digits;
+use node::Params;
+use sound::Area;
 
-// The bytes of line 1, of line 2, of the two, and of a level's line, with their ends.
-pub const LINE1: usize = 45;
+// The byte that ends a line.
+const END: u8 = 10;
 
-pub const LINE2: usize = 129;
+// The fields of line 1 in their order: the area's word that each tells, and where its digits end.
+pub const FIELDS: usize = 7;
 
-pub const HEAD: usize = LINE1 + LINE2;
+pub const FIELD_WORD: [usize; 7] = [0, 5, 4, 2, 3, 1, 14];
 
-pub const LEVEL: usize = 1027;
+pub const FIELD_END: [usize; 7] = [2, 4, 6, 8, 12, 28, 44];
+
+// The area's words that line 2 tells, K.
+pub const KEY: usize = 6;
+
+pub const KEY_END: usize = 14;
+
+// The digits of each line: of line 1, of line 2, of a level's number, and of that and the level's words.
+const LINE1_DIGITS: usize = 44;
+
+const LINE2_DIGITS: usize = 128;
+
+pub const NUMBER_DIGITS: usize = 2;
+
+pub const LEVEL_DIGITS: usize = 1026;
+
+// The bytes of line 1 with its end, of the first two lines without and with the end of the second, of a level's line, and of
+// the longest text.
+pub const LINE1: usize = LINE1_DIGITS + 1;
+
+pub const HEAD_END: usize = LINE1 + LINE2_DIGITS;
+
+pub const HEAD: usize = HEAD_END + 1;
+
+pub const LEVEL: usize = LEVEL_DIGITS + 1;
+
+pub const MOST: usize = HEAD + Params::LEVELS as usize * LEVEL;
 
 // Phase, r, L, key bytes, d, total and compressions.
-pub fn put_line1(part: &mut [u8], area: &[u64])
+fn put_line1(part: &mut [u8], area: &[u64])
     requires { ⌜ (length (now part) ≡ line1Bytes) × (headWords ≤ length (now area)) ⌝ }
     ensures { λ _. ⌜ now (part .exit) ≡ line1 (now (area .entry)) ⌝ }
 {
-    digits::put_digits(&mut part[0..2], area[0]);
-    digits::put_digits(&mut part[2..4], area[5]);
-    digits::put_digits(&mut part[4..6], area[4]);
-    digits::put_digits(&mut part[6..8], area[2]);
-    digits::put_digits(&mut part[8..12], area[3]);
-    digits::put_digits(&mut part[12..28], area[1]);
-    digits::put_digits(&mut part[28..44], area[14]);
-    part[44] = 10;
+    let mut a: usize = 0;
+    let mut i = 0;
+    while i < FIELDS {
+        let w = FIELD_WORD[i];
+        let e = FIELD_END[i];
+        digits::put_digits(&mut part[a..e], area[w]);
+        a = e;
+        i += 1;
+    }
+    part[LINE1_DIGITS] = END;
 }
 
-// The key.
-pub fn put_line2(part: &mut [u8], area: &[u64])
-    requires { ⌜ (length (now part) ≡ line2Bytes) × (headWords ≤ length (now area)) ⌝ }
-    ensures { λ _. ⌜ now (part .exit) ≡ line2 (now (area .entry)) ⌝ }
-{
-    digits::put_words(&mut part[0..128], &area[6..14]);
-    part[128] = 10;
-}
-
-// The first two lines.
+// The first two lines: the fields, and the key.
 pub fn put_head(part: &mut [u8], area: &[u64])
     requires { ⌜ (length (now part) ≡ line1Bytes + line2Bytes) × (headWords ≤ length (now area)) ⌝ }
     ensures { λ _. ⌜ now (part .exit) ≡ line1 (now (area .entry)) ++ line2 (now (area .entry)) ⌝ }
 {
     put_line1(&mut part[0..LINE1], area);
-    put_line2(&mut part[LINE1..HEAD], area);
+    digits::put_words(&mut part[LINE1..HEAD_END], &area[KEY..KEY_END]);
+    part[HEAD_END] = END;
 }
 
-// A level and its words.
-pub fn put_level(part: &mut [u8], level: u64, words: &[u64])
-    requires { ⌜ (length (now part) ≡ levelBytes) × (length (now words) ≡ blockWords) ⌝ }
-    ensures { λ _. ⌜ now (part .exit) ≡ levelLine level (now (words .entry)) ⌝ }
+// A level's number and its words.
+pub fn put_level(part: &mut [u8], area: &[u64], level: u64)
+    requires { ⌜ (length (now part) ≡ levelBytes) × (areaWords ≤ length (now area)) × (1 ≤ level) × (level ≤ mostLevels) ⌝ }
+    ensures { λ _. ⌜ now (part .exit) ≡ levelLine level (levelWords (now (area .entry)) level) ⌝ }
 {
-    digits::put_digits(&mut part[0..2], level);
-    digits::put_words(&mut part[2..1026], words);
-    part[1026] = 10;
+    let a = Area::HEAD + Area::LEVEL * (level as usize - 1);
+    let e = a + Area::LEVEL;
+    digits::put_digits(&mut part[0..NUMBER_DIGITS], level);
+    digits::put_words(&mut part[NUMBER_DIGITS..LEVEL_DIGITS], &area[a..e]);
+    part[LEVEL_DIGITS] = END;
 }

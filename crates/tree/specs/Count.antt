@@ -3,7 +3,7 @@
 use mathlib.Core.Path.{_≡_, refl, sym, ap, _∙_}
 use mathlib.Core.Bool.{Bool, true, false}
 use mathlib.Core.List.{List, [], _∷_, _++_, map, List·Permᴰ, List·Permᴰ·nil, List·Permᴰ·cons, List·Permᴰ·swap, List·Permᴰ·trans}
-use Prim.Native.Nat.{ℕ, zero, suc, _+_, _-_, _*_, _/_, _^_, _≤_, _<_}
+use Prim.Native.Nat.{ℕ, zero, suc, _+_, _-_, _*_, _^_, _≤_, _<_}
 use native.Mathlib.Nat.{add-zero}
 use native.Mathlib.Omega.{arith}
 use borrow.Author.Tests.{eqb-false}
@@ -12,6 +12,7 @@ use lib.ListN.{length, getD, length-map}
 use Rattle.lists.specs.Concat.{concat}
 use Rattle.bits.specs.Bits.{digit}
 use Rattle.tree.specs.Tree.{Params, Node, Mark, blockBits, sequentialBits, outputBits, mostLevels, blocks, tree, order}
+use Rattle.tree.specs.Sizes.{levelNodes, nodesIf, nodesFrom, treeNodes}
 use Rattle.tree.specs.Place.{levelAt}
 use Rattle.tree.specs.TreeLaws.{counts, countsIf, levels-counts}
 use Rattle.tree.specs.Height.{Above, no-level, sequential-level, parallel-level, Levels, sequential-tree, parallel-tree, tree-levels}
@@ -80,47 +81,34 @@ order-reaching P M = order-total (λ (m : Mark). digit (m .reaches)) P M ∙ all
 -- ---- the numbers by a formula
 
 -- the outputs of c nodes fill a fourth of c blocks, rounded up, at a parallel level, and a third at the sequential one
-pub fourth : (c : ℕ) → 0 < c → blocks blockBits (outputBits * c) ≡ (c + 3) / 4
+pub fourth : (c : ℕ) → 0 < c → blocks blockBits (outputBits * c) ≡ blocks 4 c
 fourth c h = omega arith
 
-pub third : (c : ℕ) → 0 < c → blocks sequentialBits (outputBits * c) ≡ (c + 2) / 3
+pub third : (c : ℕ) → 0 < c → blocks sequentialBits (outputBits * c) ≡ blocks 3 c
 third c h = omega arith
 
--- the nodes of a parallel level, for a message of m bits; levels count from 1
-abbrev pub levelNodes : ℕ → ℕ → ℕ
-levelNodes m zero = 0
-levelNodes m (suc zero) = blocks blockBits m
-levelNodes m (suc (suc k)) = (levelNodes m (suc k) + 3) / 4
+pub levelNodes-one : (m : ℕ) → levelNodes m 1 ≡ blocks blockBits m
+unfolding levelNodes
+levelNodes-one m = refl
+
+pub levelNodes-suc : (m k : ℕ) → levelNodes m (suc (suc k)) ≡ blocks 4 (levelNodes m (suc k))
+unfolding levelNodes
+levelNodes-suc m k = refl
 
 pub levelNodes-some : (m k : ℕ) → 0 < levelNodes m (suc k)
-levelNodes-some m zero = omega arith
-levelNodes-some m (suc k) = omega (arith, levelNodes-some m k)
-
--- a level of c nodes, and those above it unless it has one node only
-abbrev pub nodesIf : Bool → ℕ → ℕ → ℕ
-nodesIf true c above = c
-nodesIf false c above = c + above
-
--- the nodes from a level of c nodes up; n of the levels above it may be parallel
-abbrev pub nodesFrom : ℕ → ℕ → ℕ
-nodesFrom zero c = nodesIf (eqb c 1) c ((c + 2) / 3)
-nodesFrom (suc n) c = nodesIf (eqb c 1) c (nodesFrom n ((c + 3) / 4))
-
--- the nodes of a tree for a limit and a message of m bits
-abbrev pub treeNodes : ℕ → ℕ → ℕ
-treeNodes zero m = blocks sequentialBits m
-treeNodes (suc n) m = nodesFrom n (blocks blockBits m)
+levelNodes-some m zero = rw (levelNodes-one m) (omega arith)
+levelNodes-some m (suc k) = rw (levelNodes-suc m k) (omega arith)
 
 -- fewer than twice the nodes of the level itself, so that the count of any tree is a word
 pub nodesFrom-bound : (n c : ℕ) → 0 < c → nodesFrom n c < 2 * c
 nodesFrom-bound zero c h = go (eqb c 1) (eqb-false c 1)
   where
-    go : (b : Bool) → (b ≡ false → c ≡ 1 → ⊥) → nodesIf b c ((c + 2) / 3) < 2 * c
+    go : (b : Bool) → (b ≡ false → c ≡ 1 → ⊥) → nodesIf b c (blocks 3 c) < 2 * c
     go true f = omega arith
     go false f = omega (arith, f refl)
-nodesFrom-bound (suc n) c h = go (eqb c 1) (eqb-false c 1) (nodesFrom-bound n ((c + 3) / 4) (omega arith))
+nodesFrom-bound (suc n) c h = go (eqb c 1) (eqb-false c 1) (nodesFrom-bound n (blocks 4 c) (omega arith))
   where
-    go : (b : Bool) → (b ≡ false → c ≡ 1 → ⊥) → nodesFrom n ((c + 3) / 4) < 2 * ((c + 3) / 4) → nodesIf b c (nodesFrom n ((c + 3) / 4)) < 2 * c
+    go : (b : Bool) → (b ≡ false → c ≡ 1 → ⊥) → nodesFrom n (blocks 4 c) < 2 * (blocks 4 c) → nodesIf b c (nodesFrom n (blocks 4 c)) < 2 * c
     go true f u = omega arith
     go false f u = omega (arith, f refl)
 
@@ -138,8 +126,8 @@ counts-nodes (suc n) m = go n (blocks blockBits m) (omega arith) (counts-nodes n
 
     go : (n c : ℕ) → 0 < c → total (λ (c : ℕ). c) (counts n (outputBits * c)) ≡ treeNodes n (outputBits * c)
         → total (λ (c : ℕ). c) (countsIf (eqb c 1) c (counts n (outputBits * c))) ≡ nodesFrom n c
-    go zero c h e = if (eqb c 1) c (counts zero (outputBits * c)) ((c + 2) / 3) (e ∙ third c h)
-    go (suc n) c h e = if (eqb c 1) c (counts (suc n) (outputBits * c)) (nodesFrom n ((c + 3) / 4)) (e ∙ ap (nodesFrom n) (fourth c h))
+    go zero c h e = if (eqb c 1) c (counts zero (outputBits * c)) (blocks 3 c) (e ∙ third c h)
+    go (suc n) c h e = if (eqb c 1) c (counts (suc n) (outputBits * c)) (nodesFrom n (blocks 4 c)) (e ∙ ap (nodesFrom n) (fourth c h))
 
 -- the number of nodes goes by the limit and the number of bits alone
 pub order-nodes : (P : Params) (M : List Bool) → length (order P M) ≡ treeNodes (P .limit) (length M)
@@ -156,18 +144,18 @@ above-level : {n c : ℕ} {T : List (List Node)} → Above n c T → (m k : ℕ)
     → length (getD T j []) ≡ levelNodes m (suc (suc (k + j)))
 above-level no-level m k e j h g = absurd (omega arith)
 above-level (sequential-level c) m k e j h g = absurd (omega arith)
-above-level (parallel-level d a) m k e zero h g = rw (add-zero k) (omega arith)
+above-level (parallel-level d a) m k e zero h g = rw (add-zero k, levelNodes-suc m k) (omega (arith, levelNodes-some m k))
 above-level (parallel-level d a) m k e (suc j) h g =
     let z : suc k + j ≡ k + suc j = omega arith in
-    above-level a m (suc k) (omega arith) j (omega arith) (omega arith) ∙ ap (λ (i : ℕ). levelNodes m (suc (suc i))) z
+    above-level a m (suc k) (omega (arith, levelNodes-some m k, levelNodes-suc m k)) j (omega arith) (omega arith) ∙ ap (λ (i : ℕ). levelNodes m (suc (suc i))) z
 
 above-top : {n c : ℕ} {T : List (List Node)} → Above n c T → (m k : ℕ) → c ≡ levelNodes m (suc k) → length T ≡ suc n
-    → length (getD T n []) ≡ (levelNodes m (suc (k + n)) + 2) / 3
+    → length (getD T n []) ≡ blocks 3 (levelNodes m (suc (k + n)))
 above-top no-level m k e h = absurd (omega arith)
-above-top (sequential-level d) m k e h = rw (add-zero k) (omega arith)
+above-top (sequential-level d) m k e h = rw (add-zero k) (omega (arith, levelNodes-some m k))
 above-top (parallel-level {n} d a) m k e h =
     let z : suc k + n ≡ k + suc n = omega arith in
-    above-top a m (suc k) (omega arith) (omega arith) ∙ ap (λ (i : ℕ). (levelNodes m (suc i) + 2) / 3) z
+    above-top a m (suc k) (omega (arith, levelNodes-some m k, levelNodes-suc m k)) (omega arith) ∙ ap (λ (i : ℕ). blocks 3 (levelNodes m (suc i))) z
 
 -- a parallel level of a tree
 pub level-nodes : (P : Params) (M : List Bool) (level : ℕ) → 0 < level → level ≤ P .limit → level ≤ length (tree P M)
@@ -178,22 +166,22 @@ level-nodes P M level h g l = go (tree-levels P M) level h g l
         → length (levelAt T level) ≡ levelNodes m level
     go t zero h g l = absurd (omega arith)
     go (sequential-tree e) (suc k) h g l = absurd (omega arith)
-    go (parallel-tree e a) (suc zero) h g l = e
+    go (parallel-tree {m = m} e a) (suc zero) h g l = e ∙ sym (levelNodes-one m)
     go (parallel-tree {m = m} e a) (suc (suc k)) h g l =
         let z : 0 + k ≡ k = omega arith in
-        rw z at (above-level a m 0 e k (omega arith) (omega arith))
+        rw z at (above-level a m 0 (e ∙ sym (levelNodes-one m)) k (omega arith) (omega arith))
 
 -- and its sequential level, if it has one above parallel levels
 pub sequential-nodes : (P : Params) (M : List Bool) → 0 < P .limit → length (tree P M) ≡ suc (P .limit)
-    → length (levelAt (tree P M) (suc (P .limit))) ≡ (levelNodes (length M) (P .limit) + 2) / 3
+    → length (levelAt (tree P M) (suc (P .limit))) ≡ blocks 3 (levelNodes (length M) (P .limit))
 sequential-nodes P M h g = go (tree-levels P M) h g
   where
     go : {limit m : ℕ} {T : List (List Node)} → Levels limit m T → 0 < limit → length T ≡ suc limit
-        → length (levelAt T (suc limit)) ≡ (levelNodes m limit + 2) / 3
+        → length (levelAt T (suc limit)) ≡ blocks 3 (levelNodes m limit)
     go (sequential-tree e) h g = absurd (omega arith)
     go (parallel-tree {n} {m} e a) h g =
         let z : 0 + n ≡ n = omega arith in
-        rw z at (above-top a m 0 e (omega arith))
+        rw z at (above-top a m 0 (e ∙ sym (levelNodes-one m)) (omega arith))
 
 -- ---- the number of levels by a formula
 
@@ -204,7 +192,7 @@ heightIf false above = suc above
 -- the levels from one of c nodes up; n of those above it may be parallel
 abbrev pub heightFrom : ℕ → ℕ → ℕ
 heightFrom zero c = heightIf (eqb c 1) 1
-heightFrom (suc n) c = heightIf (eqb c 1) (heightFrom n ((c + 3) / 4))
+heightFrom (suc n) c = heightIf (eqb c 1) (heightFrom n (blocks 4 c))
 
 abbrev pub treeHeight : ℕ → ℕ → ℕ
 treeHeight zero m = 1
@@ -220,7 +208,7 @@ tree-height P M = sym (length-map (tree P M) length) ∙ ap length (levels-count
     go : (n c : ℕ) → 0 < c → length (counts n (outputBits * c)) ≡ treeHeight n (outputBits * c)
         → length (countsIf (eqb c 1) c (counts n (outputBits * c))) ≡ heightFrom n c
     go zero c h e = if (eqb c 1) c (counts zero (outputBits * c)) 1 refl
-    go (suc n) c h e = if (eqb c 1) c (counts (suc n) (outputBits * c)) (heightFrom n ((c + 3) / 4)) (e ∙ ap (heightFrom n) (fourth c h))
+    go (suc n) c h e = if (eqb c 1) c (counts (suc n) (outputBits * c)) (heightFrom n (blocks 4 c)) (e ∙ ap (heightFrom n) (fourth c h))
 
     all : (n m : ℕ) → length (counts n m) ≡ treeHeight n m
     all zero m = refl

@@ -3,7 +3,7 @@
 -- "r = 0 gives C = the last 16 words of B. Message all ones, L = 64 unless named, d = 8 unless named."
 -- Assumes nothing.
 use mathlib.Core.Path.{_≡_, refl}
-use mathlib.Core.Bool.{Bool, true, false}
+use mathlib.Core.Bool.{true, false}
 use mathlib.Core.List.{List, [], _∷_, map}
 use Prim.Native.Nat.{ℕ}
 use lib.ListN.{length, replicate, getD}

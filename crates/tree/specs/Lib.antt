@@ -1,5 +1,7 @@
 pub mod Tree
 pub mod Place
+pub mod Sizes
+pub mod Refusals
 pub mod Examples
 pub mod TreeLaws
 pub mod Places
@@ -8,3 +10,4 @@ pub mod OrderLaws
 pub mod Fresh
 pub mod Shape
 pub mod Count
+pub mod RefusalLaws

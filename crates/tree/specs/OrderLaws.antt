@@ -198,10 +198,6 @@ tree-climbed (parallel-tree {n} {m} {ns} {above} h a) =
 pub order-levels : (P : Params) (M : List Bool) → List·Permᴰ (order P M) (concat (map marked (tree P M)))
 order-levels P M = tree-climbed (tree-levels P M) .listed
 
--- there are as many subtrees at the top as nodes in the last level: one, if that level is parallel
-pub subtrees-length : (P : Params) (M : List Bool) → length (subtrees (P .limit) (length M) (tree P M)) ≡ length (lastOr [] (tree P M))
-subtrees-length P M = length-tops (tree-climbed (tree-levels P M))
-
 -- the last node of the order is the root, whether its level is parallel or sequential, and it reaches the last bit
 pub order-last : (P : Params) (M : List Bool) (x : Mark) → lastOr x (order P M) ≡ mark (root P M) true
 order-last P M x = v .ends (λ y. refl) x ∙ last-top (v .last) x ∙ ap (λ (ns : List Node). mark (lastOr noNode ns) true) (v .nodes)

@@ -11,14 +11,14 @@ use lib.Dec.{eqb}
 use lib.ListN.{length, drop, getD, getElem?}
 use Rattle.lists.specs.Below.{Below, below-append}
 use Rattle.bits.specs.Bits.{digit}
-use Rattle.bits.specs.BitsLaws.{length-numbers, numbers-below}
+use Rattle.bits.specs.BitsLaws.{digit-le, length-numbers, numbers-below}
 use Rattle.tree.specs.Tree.{Params, Valid, Node, words, keyWords, nodeU, node, output, blocks, padding, padded, par, seq, noChain, parallel, sequential, joined, levels, tree, lastOr, noNode, rootOf, root}
 use Rattle.tree.specs.Place.{levelAt, nodeAt, RootAt}
 use Rattle.tree.specs.TreeLaws.{Words, keyWords-below, nodeU-inj, nodeU-below, nodeV-below, length-output-node, length-seqBlock, lastOnly, lastOnly-le, length-par, length-seq, length-parallel, length-sequential, length-joined-parallel, par-at, seq-at, chainAt, above, levels-some}
 
 -- ---- a list's element at an index
 
-no-node : (a : Node) → _≡_ {A = Option Node} Option.none (some a) → ⊥
+pub no-node : (a : Node) → _≡_ {A = Option Node} Option.none (some a) → ⊥
 no-node a e = let z : _≡_ {A = ℕ} 0 1 = cc in omega arith
 
 pub index-below : (ns : List Node) (j : ℕ) (a : Node) → getElem? ns j ≡ some a → j < length ns
@@ -43,10 +43,6 @@ pub record Stands (P : Params) (level index : ℕ) (a : Node) : Type 0 where
   pub pads : p ≤ 4096
   pub full : length block ≡ 64
   pub blockWords : Below (2 ^ 64) block
-
-digit-le : (b : Bool) → digit b ≤ 1
-digit-le true = omega arith
-digit-le false = omega arith
 
 same-some : (a b : Node) → some a ≡ some b → b ≡ a
 same-some a b e = cc

@@ -26,6 +26,19 @@ outputBits = 1024
 abbrev pub mostLevels : ℕ
 mostLevels = 27
 
+-- the ranges of document 01's table: the bytes of a key, the bits d of a digest, the height limit L and the rounds r at most
+abbrev pub mostKeyBytes : ℕ
+mostKeyBytes = 64
+
+abbrev pub mostDigestBits : ℕ
+mostDigestBits = 512
+
+abbrev pub mostLimit : ℕ
+mostLimit = 64
+
+abbrev pub mostRounds : ℕ
+mostRounds = 255
+
 -- the key's bytes, the digest size in bits d, the height limit L and the rounds r
 pub record Params : Type 0 where
   pub key : List ℕ
@@ -36,11 +49,11 @@ pub record Params : Type 0 where
 -- the ranges of the parameters
 pub record Valid (P : Params) : Type 0 where
   pub bytes : Below 256 (P .key)
-  pub keyBytes : length (P .key) ≤ 64
+  pub keyBytes : length (P .key) ≤ mostKeyBytes
   pub dLow : 1 ≤ P .d
-  pub dHigh : P .d ≤ 512
-  pub limitHigh : P .limit ≤ 64
-  pub roundsHigh : P .rounds ≤ 255
+  pub dHigh : P .d ≤ mostDigestBits
+  pub limitHigh : P .limit ≤ mostLimit
+  pub roundsHigh : P .rounds ≤ mostRounds
 
 -- "A node's input is its K, U, V and B": 8 words, two words, and 64 words
 pub record Node : Type 0 where
@@ -148,11 +161,22 @@ abbrev pub root : Params → List Bool → Node
 root P M = rootOf (tree P M)
 
 -- "The digest is the last d bits of the root's output, first bit in the high bit of the first byte, unused low bits zero."
+abbrev pub rootBits : Params → Node → List Bool
+rootBits P m = drop (outputBits - P .d) (output (P .rounds) m)
+
+-- the bytes of a digest of d bits
+abbrev pub digestBytes : ℕ → ℕ
+digestBytes d = (d + 7) / 8
+
+-- the digest that a root gives, and that of a message
+abbrev pub digestOf : Params → Node → List ℕ
+digestOf P m = numbers 8 (digestBytes (P .d)) (rootBits P m ++ replicate 7 false)
+
 abbrev pub digestBits : Params → List Bool → List Bool
-digestBits P M = drop (outputBits - P .d) (output (P .rounds) (root P M))
+digestBits P M = rootBits P (root P M)
 
 abbrev pub digest : Params → List Bool → List ℕ
-digest P M = numbers 8 ((P .d + 7) / 8) (digestBits P M ++ replicate 7 false)
+digest P M = digestOf P (root P M)
 
 -- ---- the order of nodes
 

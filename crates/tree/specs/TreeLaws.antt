@@ -9,7 +9,7 @@ use Prim.Native.Nat.{ℕ, zero, suc, _+_, _-_, _*_, _/_, _%_, _^_, _≤_, _<_, m
 use native.Mathlib.Nat.{div-add-mod, mod-lt, mul-le-mul-left, mul-suc}
 use native.Mathlib.Omega.{arith}
 use borrow.Author.Tests.{eqb-true, eqb-false, ne-eqb}
-use lib.Dec.{eqb, eqb→eq, eqb-refl, eqb·suc-suc, lit<, T}
+use lib.Dec.{eqb, eqb→eq, eqb·suc-suc, lit<, T}
 use lib.ListN.{length, drop, replicate, getElem?, length-append, length-replicate}
 use lib.Seq.{drop-drop, take-all}
 use Rattle.lists.specs.Append.{append-split, cons-eq}
@@ -159,13 +159,6 @@ onlyIf false x = 0
 abbrev pub lastOnly : ℕ → ℕ → ℕ → ℕ
 lastOnly n j x = onlyIf (eqb (suc j) n) x
 
-pub lastOnly-last : (n j x : ℕ) → suc j ≡ n → lastOnly n j x ≡ x
-lastOnly-last n j x e = rw (← e) (go (eqb (suc j) (suc j)) (eqb-refl (suc j)))
-  where
-    go : (b : Bool) → T b → onlyIf b x ≡ x
-    go true t = refl
-    go false t = absurd t
-
 pub lastOnly-before : (n j x : ℕ) → suc j < n → lastOnly n j x ≡ 0
 lastOnly-before n j x h = go (eqb (suc j) n) (eqb→eq (suc j) n)
   where
@@ -298,13 +291,6 @@ module _ (P : Params) where
   pub length-seqBlock : (c X : List Bool) → length (words 16 c ++ words 48 X) ≡ 64
   length-seqBlock c X = simp (length-append, length-numbers)
 
-  pub length-chainAt : (level i : ℕ) (c X : List Bool) (j : ℕ) → length c ≡ 1024 → length (chainAt level i c X j) ≡ 1024
-  length-chainAt level i c X zero h = ap length (chainAt-zero level i c X) ∙ h
-  length-chainAt level i c X (suc j) h =
-      ap length (chainAt-suc level i c X j)
-      ∙ length-output-node (P .rounds) level (i + j) 0 0 (words 16 (chainAt level i c X j) ++ words 48 (drop (3072 * j) X))
-      (length-seqBlock (chainAt level i c X j) (drop (3072 * j) X))
-
   unfoldable pub par-sized : (level z p i n : ℕ) (X : List Bool) → Sized (P .rounds) (par P level z p i n X)
   par-sized level z p i zero X = nil
   par-sized level z p i (suc zero) X = cons (length-output-node (P .rounds) level i z p (words 64 X) (length-numbers 64 64 X)) nil
@@ -321,9 +307,6 @@ module _ (P : Params) where
 
   unfoldable pub parallel-sized : (level : ℕ) (alone : Bool) (M : List Bool) → Sized (P .rounds) (parallel P level alone M)
   parallel-sized level alone M = par-sized level (digit alone) (padding 4096 (length M)) 0 (blocks 4096 (length M)) (padded 4096 M)
-
-  pub sequential-sized : (level : ℕ) (M : List Bool) → Sized (P .rounds) (sequential P level M)
-  sequential-sized level M = seq-sized level (padding 3072 (length M)) 0 noChain (blocks 3072 (length M)) (padded 3072 M)
 
   pub length-parallel : (level : ℕ) (alone : Bool) (M : List Bool) → length (parallel P level alone M) ≡ blocks 4096 (length M)
   length-parallel level alone M = length-par level (digit alone) (padding 4096 (length M)) 0 (blocks 4096 (length M)) (padded 4096 M)
@@ -353,9 +336,6 @@ module _ (P : Params) where
       seq-at level (padding 3072 (length M)) 0 noChain (blocks 3072 (length M)) (padded 3072 M) j h ∙ rw (e, padding-at 3072 (length M) j (omega arith))
 
   -- ---- the levels
-
-  pub levels-zero : (level : ℕ) (M : List Bool) → levels P 0 level M ≡ sequential P level M ∷ []
-  levels-zero level M = refl
 
   -- one node only: no level above it
   pub levels-one : (n level : ℕ) (M : List Bool) → blocks 4096 (length M) ≡ 1 → levels P (suc n) level M ≡ parallel P level true M ∷ []

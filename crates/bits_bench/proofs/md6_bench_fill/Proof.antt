@@ -1,8 +1,7 @@
-use mathlib.Core.Path.{_≡_, ap, _∙_}
+use mathlib.Core.Path.{_≡_}
 use Prim.Native.Nat.{_≤_, _-_}
 use lib.ListN.{length}
 use borrow.Author.Needs.{needs}
-use native.Mathlib.Omega.{arith}
 use Rattle.bits_bench.proofs.md6_bench_fill.Statement.{statement}
 use Rattle.bits_bench.proofs.md6_bench_fill.Tie as tie
 use Rattle.bits_bench.proofs.md6_bench_fill.Reads as reads

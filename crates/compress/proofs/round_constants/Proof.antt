@@ -8,7 +8,7 @@ use native.Mathlib.Nat.{add-zero, zero-add, add-suc, suc-add, le-of-suc-le-suc, 
 use lib.Dec.{T, eqb, eqb→eq}
 use lib.ListN.{length, getD}
 use Rattle.compress.specs.Compress.{S, nextS, RoundTable}
-use Rattle.lists.specs.Table.{both, both-left, both-right}
+use Rattle.lists.specs.Both.{both, both-left, both-right}
 use Rattle.compress.proofs.round_constants.Statement.{statement}
 use Rattle.compress.proofs.round_constants.Tie as tie
 

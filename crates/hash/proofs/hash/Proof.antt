@@ -1,10 +1,11 @@
 -- `hash::hash` meets its contract: one equation for every input. Assumes nothing.
 use Rattle.hash.specs.HashLaws.{Accepted, number-sized, number-accepted, refused-answer, accepted-answer}
-use Rattle.hash.specs.declared.Params.{Params}
+use Rattle.node.specs.declared.Params.{Params}
 use Rattle.hash.specs.Ready.{paramsOf}
-use Rattle.hash.specs.Value.{sized}
-use Rattle.hash.specs.Hash.{pieceBits, digestBytes, hashNumber}
-use Rattle.tree.specs.Tree.{digest}
+use Rattle.node.specs.Words.{sized}
+use Rattle.tree.specs.Refusals.{pieceBits}
+use Rattle.hash.specs.Hash.{hashNumber}
+use Rattle.tree.specs.Tree.{digest, digestBytes}
 use Rattle.tree.specs.Tree as Tree
 use lib.ListN.{length, drop, replicate}
 use mathlib.Core.List.{_++_}

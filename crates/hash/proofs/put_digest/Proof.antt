@@ -1,11 +1,11 @@
 -- `hash::put_digest` meets its contract: the root worked out node by node is the root of the levels. Assumes nothing.
 use Rattle.hash.specs.HashLaws.{digest-root, common-key}
-use Rattle.hash.specs.BlockLaws.{length-pieceBits}
+use Rattle.tree.specs.RefusalLaws.{length-pieceBits}
 use Rattle.hash.specs.Ready.{shared, paramsOf}
-use Rattle.hash.specs.Value.{common, commonOf}
-use Rattle.hash.specs.Hash.{pieceBits, digestBytes}
+use Rattle.node.specs.Words.{common, commonOf}
+use Rattle.tree.specs.Refusals.{pieceBits}
 use Rattle.tree.specs.TreeLaws.{length-keyWords}
-use Rattle.tree.specs.Tree.{Valid, keyWords}
+use Rattle.tree.specs.Tree.{Valid, keyWords, digestBytes}
 use Rattle.lists.specs.Slices.{bytes-below}
 use lib.ListN.{length, drop}
 use Prim.Native.Nat.{ℕ}

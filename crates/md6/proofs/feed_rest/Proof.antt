@@ -1,4 +1,4 @@
--- `md6::feed_rest` is safe and ends. The measure is the number of turns that are left; what is lent keeps its length.
+-- `md6::feed_rest` is safe and ends. The buffer keeps its length; the measure is the number of turns that are left.
 -- Assumes nothing.
 use mathlib.Core.Path.{_≡_}
 use lib.ListN.{length}
@@ -7,7 +7,7 @@ use Rattle.md6.proofs.feed_rest.Statement.{statement}
 use Rattle.md6.proofs.feed_rest.Tie as tie
 
 abbrev Inv-loop : tie.InvT-loop
-Inv-loop area₀ buf₀ log₀ turns₀ area buf log turns = (length area ≡ length area₀) × (length buf ≡ length buf₀) × (length log ≡ length log₀)
+Inv-loop area₀ buf₀ log₀ turns₀ area buf log turns = length buf ≡ length buf₀
 
 abbrev μ-loop : tie.MeasureT-loop
 μ-loop area₀ buf₀ log₀ turns₀ area buf log turns = turns
@@ -15,41 +15,38 @@ abbrev μ-loop : tie.MeasureT-loop
 loop-holds : tie.Need-loop-holds Inv-loop μ-loop
 loop-holds c = search needs
 
-feed-some-requires : tie.Need-feed-some-requires Inv-loop μ-loop
-feed-some-requires c κs = search needs
-
-enum-told : tie.Need-enum-told Inv-loop μ-loop
-enum-told c = search needs
+read-requires : tie.Need-read-requires Inv-loop μ-loop
+read-requires c κs = search needs
 
 same-length : tie.Need-same-length Inv-loop μ-loop
 same-length c = search needs
 
-same-length-2 : tie.Need-same-length-2 Inv-loop μ-loop
-same-length-2 c = search needs
-
-same-length-3 : tie.Need-same-length-3 Inv-loop μ-loop
-same-length-3 c = search needs
-
 returns : tie.Need-returns Inv-loop μ-loop
 returns c = search needs
 
-enum-told-2 : tie.Need-enum-told-2 Inv-loop μ-loop
-enum-told-2 c = search needs
-
-same-length-4 : tie.Need-same-length-4 Inv-loop μ-loop
-same-length-4 c = search needs
-
-same-length-5 : tie.Need-same-length-5 Inv-loop μ-loop
-same-length-5 c = search needs
-
-same-length-6 : tie.Need-same-length-6 Inv-loop μ-loop
-same-length-6 c = search needs
+same-length-2 : tie.Need-same-length-2 Inv-loop μ-loop
+same-length-2 c = search needs
 
 returns-2 : tie.Need-returns-2 Inv-loop μ-loop
 returns-2 c = search needs
 
-enum-told-3 : tie.Need-enum-told-3 Inv-loop μ-loop
-enum-told-3 c = search needs
+count-requires : tie.Need-count-requires Inv-loop μ-loop
+count-requires c κs = search needs
+
+slice-reshare-prefix-feed-piece : tie.Need-slice-reshare-prefix-feed-piece Inv-loop μ-loop
+slice-reshare-prefix-feed-piece c = search needs
+
+slice-aggregate-feed-piece : tie.Need-slice-aggregate-feed-piece Inv-loop μ-loop
+slice-aggregate-feed-piece c = search needs
+
+feed-piece-requires : tie.Need-feed-piece-requires Inv-loop μ-loop
+feed-piece-requires c κs = search needs
+
+same-length-3 : tie.Need-same-length-3 Inv-loop μ-loop
+same-length-3 c = search needs
+
+returns-3 : tie.Need-returns-3 Inv-loop μ-loop
+returns-3 c = search needs
 
 sub-turns : tie.Need-sub-turns Inv-loop μ-loop
 sub-turns c = search needs
@@ -60,17 +57,11 @@ loop-less c = search needs
 loop-again : tie.Need-loop-again Inv-loop μ-loop
 loop-again c = search needs
 
-same-length-7 : tie.Need-same-length-7 Inv-loop μ-loop
-same-length-7 c = search needs
+same-length-4 : tie.Need-same-length-4 Inv-loop μ-loop
+same-length-4 c = search needs
 
-same-length-8 : tie.Need-same-length-8 Inv-loop μ-loop
-same-length-8 c = search needs
-
-same-length-9 : tie.Need-same-length-9 Inv-loop μ-loop
-same-length-9 c = search needs
-
-returns-3 : tie.Need-returns-3 Inv-loop μ-loop
-returns-3 c = search needs
+returns-4 : tie.Need-returns-4 Inv-loop μ-loop
+returns-4 c = search needs
 
 pub feed-rest-spec : {M : Type 1} → statement M
 feed-rest-spec =
@@ -79,22 +70,19 @@ feed-rest-spec =
     Inv-loop
     μ-loop
     loop-holds
-    feed-some-requires
-    enum-told
+    read-requires
     same-length
-    same-length-2
-    same-length-3
     returns
-    enum-told-2
-    same-length-4
-    same-length-5
-    same-length-6
+    same-length-2
     returns-2
-    enum-told-3
+    count-requires
+    slice-reshare-prefix-feed-piece
+    slice-aggregate-feed-piece
+    feed-piece-requires
+    same-length-3
+    returns-3
     sub-turns
     loop-less
     loop-again
-    same-length-7
-    same-length-8
-    same-length-9
-    returns-3)
+    same-length-4
+    returns-4)

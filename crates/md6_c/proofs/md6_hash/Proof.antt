@@ -1,7 +1,6 @@
 -- `md6_c::md6_hash` meets its contract: that of `tree::hash`, less the count. Assumes nothing.
 use Rattle.hash.specs.Hash.{Answer}
-use mathlib.Core.Path.{_≡_, ap}
-use native.Mathlib.Omega.{arith}
+use mathlib.Core.Path.{ap}
 use borrow.Author.Needs.{needs}
 use Rattle.md6_c.proofs.md6_hash.Statement.{statement}
 use Rattle.md6_c.proofs.md6_hash.Tie as tie

@@ -1,95 +1,68 @@
-use mathlib.Core.Path.{_≡_, refl, sym, ap, _∙_}
-use mathlib.Core.List.{List}
-use Prim.Native.Nat.{ℕ, _+_, _-_, _*_, _/_, _%_, _≤_, _<_}
-use lib.ListN.{length, take, set, getD, length-set}
-use lib.Seq.{sets, length-sets}
-use borrow.Author.Tests.{not-true, not-false}
-use Rattle.lists.specs.Slices.{words-below}
-use Rattle.bits.specs.Bits.{bitsOf}
-use Rattle.tree.specs.Tree.{Params}
-use Rattle.hash.specs.Hash.{pieceBits}
-use Rattle.area.specs.Area.{levelsOf, withLevels, openCount, paramsOf, keyOf}
-use Rattle.area.specs.Calls.{Made, logOf, feedBits, fedBits}
-use Rattle.stream.specs.MakeLaws.{paramsFrom, Ready}
-use Rattle.stream.specs.CountLaws.{lt-at, le-at}
-use Rattle.stream.specs.FeedLaws.{sized-levels, sized-bits, length-with-levels}
-use Rattle.stream.specs.FeedCall.{Accepted, accepted, params-read, ready-read, key-copied, fed-is, half-double, openCount-mono, number-ended, number-bits, number-total, number-log, number-none, feed-short, feed-unsound, feed-refused, feed-accepted, fed-written, log-written, count-fits}
+-- `stream::feed` meets its contract: one equation for every area, piece and log. Assumes nothing.
 use native.Mathlib.Omega.{arith}
-use borrow.Author.Needs.{needs}
+use mathlib.Core.Path.{sym, _∙_}
+use Rattle.area.specs.CallLaws.{feed-passed}
+use Rattle.stream.specs.FeedLaws.{answer-refused, answer-accepted}
 use Rattle.stream.proofs.feed.Statement.{statement}
 use Rattle.stream.proofs.feed.Tie as tie
-use Rattle.stream.proofs.feed.Reads as reads
-use Rattle.stream.proofs.feed.Lts as lts
-use Rattle.stream.proofs.piece.feed_number.Reads as feed-number-reads
-use Rattle.stream.proofs.piece.feed_piece.Reads as feed-piece-reads
-use Rattle.stream.proofs.sound.is_sound.Reads as is-sound-reads
-
-returns : tie.Need-returns
-returns c = let a = c .before .before .before .before .args in feed-short (a .area .now) (a .piece .now) (a .log .now) (a .bits) (c .if1 .taken)
-
-is-sound-requires : tie.Need-is-sound-requires
-is-sound-requires c κs = search needs
-
-same-length : tie.Need-same-length
-same-length c = search needs
-
-returns-2 : tie.Need-returns-2
-returns-2 c =
-    let a = c .before .before .before .before .before .before .before .args in
-    feed-unsound (a .area .now) (a .piece .now) (a .log .now) (a .bits) (c .before .before .before .if1 .left) (sym (c .before .is-sound .ensures) ∙ not-true (c .before .is-sound .result) (c .if2 .taken))
-
-slice-read-feed-number : tie.Need-slice-read-feed-number
-slice-read-feed-number c = search needs
-
-slice-read-feed-number-2 : tie.Need-slice-read-feed-number-2
-slice-read-feed-number-2 c = search needs
-
-slice-read-feed-number-3 : tie.Need-slice-read-feed-number-3
-slice-read-feed-number-3 c = search needs
 
 feed-number-requires : tie.Need-feed-number-requires
-feed-number-requires c κs = search needs
+feed-number-requires c κs = omega arith
+
+refused-requires : tie.Need-refused-requires
+refused-requires c κs = omega arith
+
+same-length : tie.Need-same-length
+same-length c = omega arith
 
 same-length-2 : tie.Need-same-length-2
-same-length-2 c = search needs
+same-length-2 c = omega arith
 
-returns-3 : tie.Need-returns-3
-returns-3 c =
-    let a = c .before .before .before .before .before .before .before .before .before .before .before .before .args in
-    feed-refused (a .area .now) (a .piece .now) (a .log .now) (a .bits) (c .before .feed-number .result) (c .before .before .before .before .before .before .before .before .if1 .left) (sym (c .before .before .before .before .before .before .is-sound .ensures) ∙ not-false (c .before .before .before .before .before .before .is-sound .result) (c .before .before .before .before .before .if2 .left)) (c .before .feed-number .ensures) (c .if3 .taken)
+returns : tie.Need-returns
+returns c =
+    let number = c .before .before in
+    let a = number .before .before .before .before .before .before .args in
+    rw (c .refused .ensures .0, c .refused .ensures .1)
+    (answer-refused (a .area .now) (a .piece .now) (a .log .now) (a .bits) (number .feed-number .result) (number .feed-number .ensures) (c .before .if1 .taken))
 
 feed-piece-requires : tie.Need-feed-piece-requires
 feed-piece-requires c κs =
-    let a = c .before .before .before .before .before .before .before .before .before .before .before .before .before .before .args in
-    ((c .before .before .before .before .before .before .before .before .before .before .if1 .left, sym (c .before .before .before .before .before .before .before .before .is-sound .ensures) ∙ not-false (c .before .before .before .before .before .before .before .before .is-sound .result) (c .before .before .before .before .before .before .before .if2 .left)), accepted (a .area .now) (a .piece .now) (a .log .now) (a .bits) (c .before .before .before .before .before .before .before .before .before .before .if1 .left) (sym (c .before .before .before .feed-number .ensures) ∙ c .before .before .if3 .left))
+    let test = c .before .before in
+    let feed-number = test .before in
+    let number = feed-number in
+    let a = number .before .before .before .before .before .before .args in
+    feed-passed (a .area .now) (a .piece .now) (a .bits) (a .log .now) (sym (number .feed-number .ensures) ∙ test .if1 .left)
+
+accepted-requires : tie.Need-accepted-requires
+accepted-requires c κs = omega arith
 
 same-length-3 : tie.Need-same-length-3
-same-length-3 c = search needs
+same-length-3 c = omega arith
 
 same-length-4 : tie.Need-same-length-4
-same-length-4 c = search needs
+same-length-4 c = omega arith
 
-returns-4 : tie.Need-returns-4
-returns-4 c =
-    let a = c .before .before .before .before .before .before .before .before .before .before .before .before .before .before .before .before .before .before .before .args in
-    let F = c .before .before .before .before .feed-piece .ensures in
-    feed-accepted (a .area .now) (a .piece .now) (a .log .now) (a .bits) _ _ _ (c .before .before .before .before .before .before .before .before .before .before .before .before .before .before .before .if1 .left) (sym (c .before .before .before .before .before .before .before .before .before .before .before .before .before .is-sound .ensures) ∙ not-false (c .before .before .before .before .before .before .before .before .before .before .before .before .before .is-sound .result) (c .before .before .before .before .before .before .before .before .before .before .before .before .if2 .left)) (sym (c .before .before .before .before .before .before .before .before .feed-number .ensures) ∙ c .before .before .before .before .before .before .before .if3 .left) (F .0) (F .1 .0) (F .1 .1)
+returns-2 : tie.Need-returns-2
+returns-2 c =
+    let feed-piece = c .before .before .before .before .before in
+    let fed = feed-piece in
+    let number = fed .before .before .before .before in
+    let a = number .before .before .before .before .before .before .args in
+    let F = fed .feed-piece .ensures in
+    rw (c .accepted .ensures .0, c .accepted .ensures .1)
+    (answer-accepted (a .area .now) (a .piece .now) (a .log .now) (a .bits) (fed .feed-piece .result) _ _ (sym (number .feed-number .ensures) ∙ fed .before .before .before .if1 .left) (F .1 .1) (F .0) (F .1 .0))
 
 pub feed-spec : {M : Type 1} → statement M
 feed-spec =
     tie.close
     (tie.spec
-    returns
-    is-sound-requires
-    same-length
-    returns-2
-    slice-read-feed-number
-    slice-read-feed-number-2
-    slice-read-feed-number-3
     feed-number-requires
+    refused-requires
+    same-length
     same-length-2
-    returns-3
+    returns
     feed-piece-requires
+    accepted-requires
     same-length-3
     same-length-4
-    returns-4)
+    returns-2)

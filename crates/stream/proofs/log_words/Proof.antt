@@ -1,27 +1,40 @@
+-- `stream::log_words` meets its contract. Assumes nothing.
 use Rattle.area.specs.Calls.{logWordsOf}
 use native.Mathlib.Omega.{arith}
-use borrow.Author.Needs.{needs}
 use Rattle.stream.proofs.log_words.Statement.{statement}
 use Rattle.stream.proofs.log_words.Tie as tie
-use Rattle.stream.proofs.log_words.Reads as reads
-use Rattle.stream.proofs.log_words.Lts as lts
+
+accepted-requires : tie.Need-accepted-requires
+accepted-requires c κs = omega arith
 
 returns : tie.Need-returns
 unfolding logWordsOf
-returns c = omega arith
+returns c = (c .accepted .ensures .0, omega (arith, c .accepted .ensures .1))
 
-add-t5 : tie.Need-add-t5
-add-t5 c = search needs
+add-blocks : tie.Need-add-blocks
+add-blocks c = omega arith
 
-mul-t6 : tie.Need-mul-t6
-mul-t6 c = search needs
+mul-accepted : tie.Need-mul-accepted
+mul-accepted c = omega arith
 
-add-t7 : tie.Need-add-t7
-add-t7 c = search needs
+add-accepted : tie.Need-add-accepted
+add-accepted c = omega arith
+
+accepted-requires-2 : tie.Need-accepted-requires-2
+accepted-requires-2 c κs = omega arith
 
 returns-2 : tie.Need-returns-2
 unfolding logWordsOf
-returns-2 c = omega arith
+returns-2 c = (c .accepted2 .ensures .0, omega (arith, c .accepted2 .ensures .1))
 
 pub log-words-spec : {M : Type 1} → statement M
-log-words-spec = tie.close (tie.spec returns add-t5 mul-t6 add-t7 returns-2)
+log-words-spec =
+    tie.close
+    (tie.spec
+    accepted-requires
+    returns
+    add-blocks
+    mul-accepted
+    add-accepted
+    accepted-requires-2
+    returns-2)

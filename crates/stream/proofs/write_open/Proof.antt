@@ -1,18 +1,14 @@
-use mathlib.Core.Path.{_≡_, refl, sym, ap, _∙_}
+-- `stream::write_open` meets its contract. Assumes nothing.
+use mathlib.Core.Path.{ap, _∙_}
 use Prim.Native.Nat.{ℕ}
-use lib.ListN.{length, replicate, length-set}
+use lib.ListN.{replicate, length-set}
 use Rattle.stream.specs.OpenLaws.{open-written}
 use native.Mathlib.Omega.{arith}
-use borrow.Author.Needs.{needs}
 use Rattle.stream.proofs.write_open.Statement.{statement}
 use Rattle.stream.proofs.write_open.Tie as tie
-use Rattle.stream.proofs.write_open.Reads as reads
-use Rattle.stream.proofs.write_open.Lts as lts
-use Rattle.bits.proofs.fill.Reads as fill-reads
-use Rattle.stream.proofs.clear.Reads as clear-reads
 
 slice-write-area : tie.Need-slice-write-area
-slice-write-area c = search needs
+slice-write-area c = omega arith
 
 slice-write-area-2 : tie.Need-slice-write-area-2
 slice-write-area-2 c = simp length-set (omega arith)
@@ -30,40 +26,46 @@ slice-write-area-6 : tie.Need-slice-write-area-6
 slice-write-area-6 c = simp length-set (omega arith)
 
 sub-clear : tie.Need-sub-clear
-sub-clear c = search needs
+sub-clear c = omega arith
 
 part-clear-start : tie.Need-part-clear-start
-part-clear-start c = search needs
+part-clear-start c = omega arith
 
 part-clear-end : tie.Need-part-clear-end
 part-clear-end c = simp length-set (omega arith)
 
 clear-requires : tie.Need-clear-requires
-clear-requires c κs = search needs
+clear-requires c κs = omega arith
 
 sub-fill : tie.Need-sub-fill
-sub-fill c = search needs
+sub-fill c = omega arith
 
 part-fill-start : tie.Need-part-fill-start
-part-fill-start c = search needs
+part-fill-start c = omega arith
 
 part-fill-end : tie.Need-part-fill-end
 part-fill-end c = rw (c .before .area .given .1) (simp length-set (omega arith))
 
 mul-fill : tie.Need-mul-fill
-mul-fill c = search needs
+mul-fill c = omega arith
 
 fill-requires : tie.Need-fill-requires
-fill-requires c κs = search needs
+fill-requires c κs = omega arith
 
 same-length : tie.Need-same-length
-same-length c = c .before .area2 .given .1 ∙ c .before .before .before .before .before .area .given .1 ∙ simp length-set
+same-length c =
+    let left = c .before .before .before .before .before in
+    c .before .area2 .given .1 ∙ left .area .given .1 ∙ simp length-set
 
 returns : tie.Need-returns
 returns c =
-    let start = c .before .before .before .before .before .before .before .before .before .before in
-    let zs = c .before .before .before .before .before .before .clear .ensures ∙ ap (λ (n : ℕ). replicate n 0) (c .before .before .before .before .before .before .before .clear-arg .given .2) in
-    rw (c .before .before .fill .ensures, zs)
+    let fill = c .before .before in
+    let clear = fill .before .before .before .before in
+    let clear-arg = clear .before in
+    let start-2 = clear-arg .before .before .before in
+    let start = start-2 in
+    let zs = clear .clear .ensures ∙ ap (λ (n : ℕ). replicate n 0) (clear-arg .clear-arg .given .2) in
+    rw (fill .fill .ensures, zs)
     (open-written (start .args .area .now) (start .args .key .now) (start .args .d) (start .args .limit) (start .args .rounds) (start .pre .0) (start .pre .1))
 
 pub write-open-spec : {M : Type 1} → statement M

@@ -1,24 +1,23 @@
 -- `hash::value::value` meets its contract. The level falls at each call of itself. The loop's invariant: the block holds the values of the first j children. Assumes nothing.
-use Rattle.hash.specs.Value.{held}
+use Rattle.hash.specs.Value.{held, childWords}
 use lib.Seq.{paste}
 use Rattle.hash.specs.BlockLaws.{child-none, child-more, child-index, node-index, value-made, value-length}
 use Rattle.hash.specs.Ready.{shared}
 use Rattle.hash.specs.Value as spec
-use Rattle.hash.specs.Value.{childWords}
-use Rattle.hash.specs.Hash.{pieceBits}
+use Rattle.tree.specs.Refusals.{pieceBits}
 use lib.ListN.{length}
-use Prim.Native.Nat.{_≤_, _-_, _+_, _*_}
+use Prim.Native.Nat.{_≤_, _-_, _+_, _*_, _<_}
 use mathlib.Core.List.{List}
 use mathlib.Core.Path.{_≡_, refl, ap, sym, _∙_}
 use borrow.Author.Needs.{needs}
 use native.Mathlib.Omega.{arith}
-use Prim.Native.Nat.{ℕ, _<_}
+use Prim.Native.Nat.{ℕ}
 use borrow.Fn.Kinds.{In}
 use borrow.Fn.PlainCycle.{Measures, is, falls, and}
 use Rattle.hash.proofs.value.value.Reads as value
 use Rattle.hash.proofs.value.value.Kinds as value-kinds
 use Rattle.hash.proofs.value.+value.Lts-value as value-lts
-use Rattle.hash.proofs.node.put_words.Reads as put-words-reads
+use Rattle.node.proofs.put_words.Reads as put-words-reads
 use Rattle.hash.proofs.shape.nodes_at.Reads as nodes-at-reads
 use Rattle.hash.proofs.shape.taken.Reads as taken-reads
 use Rattle.hash.proofs.value.leaf.Reads as leaf-reads

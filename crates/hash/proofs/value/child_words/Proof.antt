@@ -4,7 +4,7 @@ use Rattle.hash.specs.BlockLaws.{child-none, child-more, value-length}
 use Rattle.hash.specs.Ready.{shared}
 use Rattle.hash.specs.Value as spec
 use Rattle.hash.specs.Value.{held, childWords}
-use Rattle.hash.specs.Hash.{pieceBits}
+use Rattle.tree.specs.Refusals.{pieceBits}
 use lib.Seq.{paste}
 use lib.ListN.{length}
 use Prim.Native.Nat.{ℕ, _+_, _-_, _*_, _≤_}

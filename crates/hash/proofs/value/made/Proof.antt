@@ -1,5 +1,5 @@
 -- `hash::value::made` meets its contract. Assumes nothing.
-use Rattle.hash.specs.Value.{nodeWords}
+use Rattle.node.specs.Words.{nodeWords}
 use mathlib.Core.Path.{_∙_}
 use borrow.Author.Needs.{needs}
 use Rattle.hash.proofs.value.made.Statement.{statement}

@@ -2,7 +2,7 @@
 use Rattle.hash.specs.SequentialLaws.{root-chain, root-parallel, top-some, first-node}
 use Rattle.hash.specs.Ready.{shared}
 use Rattle.hash.specs.Value as spec
-use Rattle.hash.specs.Hash.{pieceBits}
+use Rattle.tree.specs.Refusals.{pieceBits}
 use Prim.Native.Nat.{ℕ, _<_}
 use mathlib.Core.Path.{_∙_, ap}
 use native.Mathlib.Omega.{arith}

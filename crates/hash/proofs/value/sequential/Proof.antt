@@ -3,7 +3,7 @@ use Rattle.hash.specs.SequentialLaws.{chain-more}
 use Rattle.hash.specs.Ready.{shared}
 use Rattle.hash.specs.ValueLaws.{chain-zero, length-chain}
 use Rattle.hash.specs.Value.{sequentialNodes, chain}
-use Rattle.hash.specs.Hash.{pieceBits}
+use Rattle.tree.specs.Refusals.{pieceBits}
 use Rattle.bits.specs.Bits.{digit}
 use lib.ListN.{length}
 use lib.Dec.{eqb}

@@ -2,8 +2,9 @@
 use Rattle.hash.specs.SequentialLaws.{sequential-index, block-made}
 use Rattle.hash.specs.Ready.{shared}
 use Rattle.hash.specs.ValueLaws.{length-sequentialWords}
-use Rattle.hash.specs.Value.{nodeWords, sequentialPadding, sequentialWords}
-use Rattle.hash.specs.Hash.{pieceBits}
+use Rattle.node.specs.Words.{nodeWords}
+use Rattle.hash.specs.Value.{sequentialPadding, sequentialWords}
+use Rattle.tree.specs.Refusals.{pieceBits}
 use lib.Seq.{paste}
 use lib.ListN.{length}
 use Prim.Native.Nat.{ℕ, _+_}

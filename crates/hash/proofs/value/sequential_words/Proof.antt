@@ -1,7 +1,7 @@
 -- `hash::value::sequential_words` meets its contract. Assumes nothing.
 use Rattle.hash.specs.SequentialLaws.{words-message}
 use Rattle.hash.specs.Ready.{shared}
-use Rattle.hash.specs.Hash.{pieceBits}
+use Rattle.tree.specs.Refusals.{pieceBits}
 use mathlib.Core.Path.{_∙_}
 use native.Mathlib.Omega.{arith}
 use borrow.Author.Needs.{needs}

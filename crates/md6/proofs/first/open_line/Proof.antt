@@ -21,15 +21,12 @@ rounds-for-requires c κs = search needs
 open-with-requires : tie.Need-open-with-requires
 open-with-requires c κs =
     let d = c .before .before .before in
-    let r = c .before .before .before .before .before in
+    let r = d .before .before in
     let v = d .d .given .0 in
-    within (c .before .before .before .before .before .before .before .before .before .args .state) (v .0) (v .1 .0) (v .1 .1 .0) (v .1 .1 .1 .0) (sym (r .reading .ensures) ∙ d .d .given .1)
+    within (r .before .before .before .args .state) (v .0) (v .1 .0) (v .1 .1 .0) (v .1 .1 .1 .0) (sym (r .reading .ensures) ∙ d .d .given .1)
 
 returns : tie.Need-returns
 returns c = search needs
-
-same-length : tie.Need-same-length
-same-length c = search needs
 
 returns-2 : tie.Need-returns-2
 returns-2 c = search needs
@@ -44,5 +41,4 @@ open-line-spec =
     rounds-for-requires
     open-with-requires
     returns
-    same-length
     returns-2)

@@ -1,3 +1,4 @@
+-- `text::held::has_line`: each return is one of the cases of HeldAt.
 use Rattle.text.proofs.HeldAt.{held-ended, held-first, held-none, held-sequential, held-parallel}
 use native.Mathlib.Omega.{arith}
 use borrow.Author.Needs.{needs}
@@ -5,25 +6,28 @@ use Rattle.text.proofs.held.has_line.Statement.{statement}
 use Rattle.text.proofs.held.has_line.Tie as tie
 use Rattle.text.proofs.held.has_line.Reads as reads
 use Rattle.text.proofs.held.has_line.Lts as lts
-use Rattle.stream.proofs.count.done_blocks.Reads as done-blocks-reads
+use Rattle.sound.proofs.count.done_blocks.Reads as done-blocks-reads
+
+shared-slice-read-if1 : tie.Need-shared-slice-read-if1
+shared-slice-read-if1 c = search needs
 
 returns : tie.Need-returns
-returns c =
-    let a = c .before .args in
-    held-ended (a .phase) (a .limit) (a .total) (a .level) (c .if1 .taken)
+returns c = held-ended (c .before .before .before .args .area .now) (c .before .before .before .args .level) (c .if1 .taken)
+
+shared-slice-read-limit : tie.Need-shared-slice-read-limit
+shared-slice-read-limit c = search needs
+
+shared-slice-read-total : tie.Need-shared-slice-read-total
+shared-slice-read-total c = search needs
 
 returns-2 : tie.Need-returns-2
-returns-2 c =
-    let a = c .before .before .args in
-    held-first (a .phase) (a .limit) (a .total) (a .level) (c .before .if1 .left) (c .if2 .taken)
+returns-2 c = held-first (c .before .before .before .before .before .before .args .area .now) (c .before .before .before .before .before .before .args .level) (c .before .before .before .if1 .left) (c .if2 .taken)
 
 sub-if3 : tie.Need-sub-if3
 sub-if3 c = search needs
 
 returns-3 : tie.Need-returns-3
-returns-3 c =
-    let a = c .before .before .before .args in
-    held-none (a .phase) (a .limit) (a .total) (a .level) (c .before .before .if1 .left) (omega arith) (omega arith) (c .if3 .taken)
+returns-3 c = held-none (c .before .before .before .before .before .before .before .args .area .now) (c .before .before .before .before .before .before .before .args .level) (c .before .before .before .before .if1 .left) (omega arith) (omega arith) (c .if3 .taken)
 
 done-blocks-requires : tie.Need-done-blocks-requires
 done-blocks-requires c κs = search needs
@@ -38,22 +42,19 @@ shr-outputs : tie.Need-shr-outputs
 shr-outputs c = search needs
 
 returns-4 : tie.Need-returns-4
-returns-4 c =
-    let a = c .before .before .before .before .before .args in
-    rw (c .before .done-blocks .ensures)
-    (held-sequential (a .phase) (a .limit) (a .total) (a .level) (c .before .before .before .before .if1 .left) (omega arith) (omega arith) (omega arith) (c .if4 .taken))
+returns-4 c = rw (c .before .done-blocks .ensures) (held-sequential (c .before .before .before .before .before .before .before .before .before .args .area .now) (c .before .before .before .before .before .before .before .before .before .args .level) (c .before .before .before .before .before .before .if1 .left) (omega arith) (omega arith) (omega arith) (c .if4 .taken))
 
 returns-5 : tie.Need-returns-5
-returns-5 c =
-    let a = c .before .before .before .before .before .args in
-    rw (c .before .done-blocks .ensures)
-    (held-parallel (a .phase) (a .limit) (a .total) (a .level) (c .before .before .before .before .if1 .left) (omega arith) (omega arith) (omega arith))
+returns-5 c = rw (c .before .done-blocks .ensures) (held-parallel (c .before .before .before .before .before .before .before .before .before .args .area .now) (c .before .before .before .before .before .before .before .before .before .args .level) (c .before .before .before .before .before .before .if1 .left) (omega arith) (omega arith) (omega arith))
 
 pub has-line-spec : {M : Type 1} → statement M
 has-line-spec =
     tie.close
     (tie.spec
+    shared-slice-read-if1
     returns
+    shared-slice-read-limit
+    shared-slice-read-total
     returns-2
     sub-if3
     returns-3

@@ -1,12 +1,10 @@
-use mathlib.Core.Path.{_≡_, refl, sym, ap, _∙_}
-use mathlib.Core.Bool.{Bool}
-use mathlib.Core.List.{List}
-use mathlib.Core.Logic.{⊎-elim}
-use Prim.Native.Nat.{_+_, _-_, _*_, _≤_}
-use lib.ListN.{length, take, getD}
-use Rattle.text.specs.Text.{heldOf}
-use Rattle.text.specs.LengthLaws.{lines}
-use Rattle.text.proofs.HeldAt.{level-yes, level-no, level-room, level-most, level-all}
+-- `text::held::text_bytes`: the bytes so far and the lines still to come are the whole text.
+use mathlib.Core.Path.{_≡_, sym, ap, _∙_}
+use Prim.Native.Nat.{_+_, _-_, _≤_}
+use lib.ListN.{length}
+use Rattle.text.specs.Text.{textOf}
+use Rattle.text.specs.Lines.{linesAbove, above-no, length-yes, above-all, length-text}
+use Rattle.text.specs.LengthLaws.{text-most}
 use borrow.Author.Needs.{needs}
 use native.Mathlib.Omega.{arith}
 use Rattle.text.proofs.held.text_bytes.Statement.{statement}
@@ -16,62 +14,48 @@ use Rattle.text.proofs.held.text_bytes.Lts as lts
 use Rattle.text.proofs.held.has_line.Reads as has-line-reads
 
 abbrev Inv-loop : tie.InvT-loop
-Inv-loop area n₀ k₀ n k = (1 ≤ k) × (k ≤ 28) × (n ≡ 174 + 1027 * lines (take (k - 1) (heldOf area)))
+Inv-loop area n₀ k₀ n k = (k ≤ 27) × (n + length (linesAbove area k) ≡ length (textOf area))
 
 abbrev μ-loop : tie.MeasureT-loop
-μ-loop area n₀ k₀ n k = 28 - k
+μ-loop area n₀ k₀ n k = 27 - k
 
 loop-holds : tie.Need-loop-holds Inv-loop μ-loop
-loop-holds c = (omega arith, omega arith, refl)
+loop-holds c = (omega arith, sym (length-text (c .before .args .area .now) (omega arith)))
 
-shared-slice-read-has-line : tie.Need-shared-slice-read-has-line Inv-loop μ-loop
-shared-slice-read-has-line c = search needs
-
-shared-slice-read-has-line-2 : tie.Need-shared-slice-read-has-line-2 Inv-loop μ-loop
-shared-slice-read-has-line-2 c = search needs
-
-shared-slice-read-has-line-3 : tie.Need-shared-slice-read-has-line-3 Inv-loop μ-loop
-shared-slice-read-has-line-3 c = search needs
+add-k : tie.Need-add-k Inv-loop μ-loop
+add-k c = search needs
 
 has-line-requires : tie.Need-has-line-requires Inv-loop μ-loop
 has-line-requires c κs = search needs
 
 add-n : tie.Need-add-n Inv-loop μ-loop
 add-n c =
-    let z = c .before .before .before .before .before .before in
-    let l = z .before .before .args .area .now in
-    let p = getD l 0 0 in
-    let m = getD l 4 0 in
-    let t = getD l 1 0 in
+    let a = c .before .before .before .before .before .args .area .now in
     let e = sym (c .before .has-line .ensures) ∙ c .if1 .taken in
-    omega (arith, z .loop .inv .2, level-room p m t (z .loop .k) (omega arith) (omega arith) e, level-most p m t)
-
-add-k : tie.Need-add-k Inv-loop μ-loop
-add-k c = search needs
+    omega (arith, c .before .before .before .loop .inv .1, length-yes a (c .before .before .before .loop .k) (omega arith) (omega arith) e, text-most a (omega arith))
 
 loop-less : tie.Need-loop-less Inv-loop μ-loop
 loop-less c = search needs
 
 loop-again : tie.Need-loop-again Inv-loop μ-loop
 loop-again c =
-    let z = c .before .before .before .before .before .before in
-    let l = z .before .before .args .area .now in
-    let p = getD l 0 0 in
-    let m = getD l 4 0 in
-    let t = getD l 1 0 in (
-      omega arith,
-      omega arith,
-      ⊎-elim
-          (λ w. omega (arith, w .1, z .loop .inv .2, level-yes p m t (z .loop .k) (omega arith) (omega arith) (sym (c .before .has-line .ensures) ∙ w .0 .taken)))
-          (λ w. omega (arith, w .1, z .loop .inv .2, level-no p m t (z .loop .k) (omega arith) (omega arith) (sym (c .before .has-line .ensures) ∙ w .0 .left)))
-          (c .if1 .came),
-    )
+    let a = c .before .before .before .before .before .args .area .now in
+    let e = sym (c .before .has-line .ensures) ∙ c .if1 .taken in
+    (omega arith, omega (arith, c .before .before .before .loop .inv .1, length-yes a (c .before .before .before .loop .k) (omega arith) (omega arith) e))
+
+loop-less-2 : tie.Need-loop-less-2 Inv-loop μ-loop
+loop-less-2 c = search needs
+
+loop-again-2 : tie.Need-loop-again-2 Inv-loop μ-loop
+loop-again-2 c =
+    let a = c .before .before .before .before .before .args .area .now in
+    let e = sym (c .before .has-line .ensures) ∙ c .if1 .left in
+    (omega arith, omega (arith, c .before .before .before .loop .inv .1, ap length (above-no a (c .before .before .before .loop .k) (omega arith) e)))
 
 returns : tie.Need-returns Inv-loop μ-loop
 returns c =
-    let z = c .before in
-    let l = z .before .before .args .area .now in
-    z .loop .inv .2 ∙ ap (λ (hs : List Bool). 174 + 1027 * lines hs) (level-all (getD l 0 0) (getD l 4 0) (getD l 1 0) (z .loop .k) (omega arith))
+    let a = c .before .before .before .args .area .now in
+    omega (arith, c .before .loop .inv .1, ap length (above-all a (c .before .loop .k) (omega arith)))
 
 pub text-bytes-spec : {M : Type 1} → statement M
 text-bytes-spec =
@@ -80,12 +64,11 @@ text-bytes-spec =
     Inv-loop
     μ-loop
     loop-holds
-    shared-slice-read-has-line
-    shared-slice-read-has-line-2
-    shared-slice-read-has-line-3
+    add-k
     has-line-requires
     add-n
-    add-k
     loop-less
     loop-again
+    loop-less-2
+    loop-again-2
     returns)

@@ -1,191 +1,110 @@
-use mathlib.Core.Path.{ap, sym, _∙_}
-use lib.ListN.{length}
+-- `text::lines::put_line1` writes the fields of line 1, one after the other, and its end.
+use mathlib.Core.Path.{_≡_, refl, ap, _∙_}
+use mathlib.Core.List.{List, _++_}
+use Prim.Native.Nat.{ℕ, _+_, _-_, _≤_}
+use lib.ListN.{length, take, drop, set, length-take}
+use Rattle.text.specs.FieldLaws.{startOf, next-start, in-line}
 use Rattle.text.specs.LengthLaws.{length-line1}
-use Rattle.text.proofs.LineStores.{line1-stored}
-use native.Mathlib.Omega.{arith}
+use Rattle.text.proofs.LineStores.{digits1, field-stored, fields-length, line1-stored}
 use borrow.Author.Needs.{needs}
+use native.Mathlib.Omega.{arith}
 use Rattle.text.proofs.lines.put_line1.Statement.{statement}
 use Rattle.text.proofs.lines.put_line1.Tie as tie
 use Rattle.text.proofs.lines.put_line1.Reads as reads
 use Rattle.text.proofs.lines.put_line1.Lts as lts
-use Rattle.text.proofs.digits.put_digits.Reads as put-digits-reads
+use Rattle.digits.proofs.put_digits.Reads as put-digits-reads
+
+abbrev Inv-loop : tie.InvT-loop
+Inv-loop part₀ area a₀ i₀ part a i = (i ≤ 7) × (a ≡ startOf i) × (part ≡ take a (digits1 area) ++ drop a part₀) × (length part ≡ 45)
+
+abbrev μ-loop : tie.MeasureT-loop
+μ-loop part₀ area a₀ i₀ part a i = 7 - i
 
 -- what the stores leave
-stored : tie.Need-returns
+stored : tie.Need-returns Inv-loop μ-loop
 stored c =
-    let a = c .before .before .before .before .before .before .before .before .before .before .before .before .before .before .before .before .before .before .before .before .before .before .before .before .before .before .before .before .before .before .before .before .before .before .before .before .before .args in
-    line1-stored (a .part .now) (a .area .now)
-    (c .before .before .before .before .before .before .before .before .before .before .before .before .before .before .before .before .before .before .before .before .before .before .before .before .before .before .before .before .before .before .before .before .put-digits .last .0)
-    (c .before .before .before .before .before .before .before .before .before .before .before .before .before .before .before .before .before .before .before .before .before .before .before .before .before .before .before .put-digits2 .last .0)
-    (c .before .before .before .before .before .before .before .before .before .before .before .before .before .before .before .before .before .before .before .before .before .before .put-digits3 .last .0)
-    (c .before .before .before .before .before .before .before .before .before .before .before .before .before .before .before .before .before .put-digits4 .last .0)
-    (c .before .before .before .before .before .before .before .before .before .before .before .before .put-digits5 .last .0)
-    (c .before .before .before .before .before .before .before .put-digits6 .last .0)
-    (c .before .before .put-digits7 .last .0)
-    (c .before .before .before .before .before .before .before .before .before .before .before .before .before .before .before .before .before .before .before .before .before .before .before .before .before .before .before .before .before .before .before .before .before .before .before .before .before .pre .0)
-    (c .before .before .before .before .before .before .before .before .before .before .before .before .before .before .before .before .before .before .before .before .before .before .before .before .before .before .before .before .before .before .before .before .put-digits .ensures)
-    (c .before .before .before .before .before .before .before .before .before .before .before .before .before .before .before .before .before .before .before .before .before .before .before .before .before .before .before .put-digits2 .ensures)
-    (c .before .before .before .before .before .before .before .before .before .before .before .before .before .before .before .before .before .before .before .before .before .before .put-digits3 .ensures)
-    (c .before .before .before .before .before .before .before .before .before .before .before .before .before .before .before .before .before .put-digits4 .ensures)
-    (c .before .before .before .before .before .before .before .before .before .before .before .before .put-digits5 .ensures)
-    (c .before .before .before .before .before .before .before .put-digits6 .ensures)
-    (c .before .before .put-digits7 .ensures)
+    let z = c .before .loop in
+    let a = c .before .before .before .before .args in
+    ap (λ (x : List ℕ). set x 44 10) (z .inv .2) ∙ line1-stored (a .area .now) (a .part .now) (z .a) (z .i) (omega arith) (z .inv .1) (omega arith)
 
-sub-put-digits : tie.Need-sub-put-digits
-sub-put-digits c = search needs
+loop-holds : tie.Need-loop-holds Inv-loop μ-loop
+loop-holds c = (omega arith, refl, refl, omega arith)
 
-part-put-digits-start : tie.Need-part-put-digits-start
-part-put-digits-start c = search needs
+mul-w : tie.Need-mul-w Inv-loop μ-loop
+mul-w c = search needs
 
-part-put-digits-end : tie.Need-part-put-digits-end
-part-put-digits-end c = search needs
+array-read-w : tie.Need-array-read-w Inv-loop μ-loop
+array-read-w c = search needs
 
-shared-slice-read-put-digits : tie.Need-shared-slice-read-put-digits
-shared-slice-read-put-digits c = search needs
+mul-e : tie.Need-mul-e Inv-loop μ-loop
+mul-e c = search needs
 
-put-digits-requires : tie.Need-put-digits-requires
-put-digits-requires c κs = search needs
+array-read-e : tie.Need-array-read-e Inv-loop μ-loop
+array-read-e c = search needs
 
-sub-put-digits-2 : tie.Need-sub-put-digits-2
-sub-put-digits-2 c = search needs
+sub-put-digits : tie.Need-sub-put-digits Inv-loop μ-loop
+sub-put-digits c = omega (arith, in-line (c .before .loop .i) (omega arith) .order)
 
-part-put-digits-start-2 : tie.Need-part-put-digits-start-2
-part-put-digits-start-2 c = search needs
+part-put-digits-start : tie.Need-part-put-digits-start Inv-loop μ-loop
+part-put-digits-start c = omega (arith, in-line (c .before .loop .i) (omega arith) .order)
 
-part-put-digits-end-2 : tie.Need-part-put-digits-end-2
-part-put-digits-end-2 c = search needs
+part-put-digits-end : tie.Need-part-put-digits-end Inv-loop μ-loop
+part-put-digits-end c = omega (arith, in-line (c .before .loop .i) (omega arith) .fits)
 
-shared-slice-read-put-digits-2 : tie.Need-shared-slice-read-put-digits-2
-shared-slice-read-put-digits-2 c = search needs
+mul-put-digits : tie.Need-mul-put-digits Inv-loop μ-loop
+mul-put-digits c =
+    let w = in-line (c .before .before .loop .i) (omega arith) .word in
+    search needs
 
-put-digits-requires-2 : tie.Need-put-digits-requires-2
-put-digits-requires-2 c κs = search needs
+shared-slice-read-put-digits : tie.Need-shared-slice-read-put-digits Inv-loop μ-loop
+shared-slice-read-put-digits c = omega (arith, in-line (c .before .before .before .loop .i) (omega arith) .word)
 
-sub-put-digits-3 : tie.Need-sub-put-digits-3
-sub-put-digits-3 c = search needs
+put-digits-requires : tie.Need-put-digits-requires Inv-loop μ-loop
+put-digits-requires c κs = rw length-take (omega (arith, in-line (c .before .before .before .loop .i) (omega arith) .short, c .before .before .before .loop .inv .1))
 
-part-put-digits-start-3 : tie.Need-part-put-digits-start-3
-part-put-digits-start-3 c = search needs
+add-i : tie.Need-add-i Inv-loop μ-loop
+add-i c = search needs
 
-part-put-digits-end-3 : tie.Need-part-put-digits-end-3
-part-put-digits-end-3 c = search needs
+loop-less : tie.Need-loop-less Inv-loop μ-loop
+loop-less c = search needs
 
-shared-slice-read-put-digits-3 : tie.Need-shared-slice-read-put-digits-3
-shared-slice-read-put-digits-3 c = search needs
+loop-again : tie.Need-loop-again Inv-loop μ-loop
+loop-again c =
+    let z = c .before .before .before .before .before .before .loop in
+    let p = c .before .before .before .before .before .before .before .before .before .args .part .now in
+    let a = c .before .before .before .before .before .before .before .before .before .args .area .now in
+    let s = field-stored a p (z .part) (c .before .before .put-digits .last .0) (z .a) (z .i) (omega arith) (z .inv .1) (omega arith) (z .inv .2) (c .before .before .put-digits .ensures) in
+    (omega arith, next-start (z .i), s, ap length s ∙ fields-length a p (z .i) (omega arith) (omega arith))
 
-put-digits-requires-3 : tie.Need-put-digits-requires-3
-put-digits-requires-3 c κs = search needs
-
-sub-put-digits-4 : tie.Need-sub-put-digits-4
-sub-put-digits-4 c = search needs
-
-part-put-digits-start-4 : tie.Need-part-put-digits-start-4
-part-put-digits-start-4 c = search needs
-
-part-put-digits-end-4 : tie.Need-part-put-digits-end-4
-part-put-digits-end-4 c = search needs
-
-shared-slice-read-put-digits-4 : tie.Need-shared-slice-read-put-digits-4
-shared-slice-read-put-digits-4 c = search needs
-
-put-digits-requires-4 : tie.Need-put-digits-requires-4
-put-digits-requires-4 c κs = search needs
-
-sub-put-digits-5 : tie.Need-sub-put-digits-5
-sub-put-digits-5 c = search needs
-
-part-put-digits-start-5 : tie.Need-part-put-digits-start-5
-part-put-digits-start-5 c = search needs
-
-part-put-digits-end-5 : tie.Need-part-put-digits-end-5
-part-put-digits-end-5 c = search needs
-
-shared-slice-read-put-digits-5 : tie.Need-shared-slice-read-put-digits-5
-shared-slice-read-put-digits-5 c = search needs
-
-put-digits-requires-5 : tie.Need-put-digits-requires-5
-put-digits-requires-5 c κs = search needs
-
-sub-put-digits-6 : tie.Need-sub-put-digits-6
-sub-put-digits-6 c = search needs
-
-part-put-digits-start-6 : tie.Need-part-put-digits-start-6
-part-put-digits-start-6 c = search needs
-
-part-put-digits-end-6 : tie.Need-part-put-digits-end-6
-part-put-digits-end-6 c = search needs
-
-shared-slice-read-put-digits-6 : tie.Need-shared-slice-read-put-digits-6
-shared-slice-read-put-digits-6 c = search needs
-
-put-digits-requires-6 : tie.Need-put-digits-requires-6
-put-digits-requires-6 c κs = search needs
-
-sub-put-digits-7 : tie.Need-sub-put-digits-7
-sub-put-digits-7 c = search needs
-
-part-put-digits-start-7 : tie.Need-part-put-digits-start-7
-part-put-digits-start-7 c = search needs
-
-part-put-digits-end-7 : tie.Need-part-put-digits-end-7
-part-put-digits-end-7 c = search needs
-
-shared-slice-read-put-digits-7 : tie.Need-shared-slice-read-put-digits-7
-shared-slice-read-put-digits-7 c = search needs
-
-put-digits-requires-7 : tie.Need-put-digits-requires-7
-put-digits-requires-7 c κs = search needs
-
-slice-write-part : tie.Need-slice-write-part
+slice-write-part : tie.Need-slice-write-part Inv-loop μ-loop
 slice-write-part c = search needs
 
-same-length : tie.Need-same-length
-same-length c =
-    let a = c .before .before .before .before .before .before .before .before .before .before .before .before .before .before .before .before .before .before .before .before .before .before .before .before .before .before .before .before .before .before .before .before .before .before .before .before .before .args in
-    ap length (stored c) ∙ length-line1 (a .area .now) ∙ sym (c .before .before .before .before .before .before .before .before .before .before .before .before .before .before .before .before .before .before .before .before .before .before .before .before .before .before .before .before .before .before .before .before .before .before .before .before .before .pre .0)
+same-length : tie.Need-same-length Inv-loop μ-loop
+same-length c = ap length (stored c) ∙ length-line1 (c .before .before .before .before .args .area .now) ∙ omega arith
 
-returns : tie.Need-returns
+returns : tie.Need-returns Inv-loop μ-loop
 returns c = stored c
 
 pub put-line1-spec : {M : Type 1} → statement M
 put-line1-spec =
     tie.close
     (tie.spec
+    Inv-loop
+    μ-loop
+    loop-holds
+    mul-w
+    array-read-w
+    mul-e
+    array-read-e
     sub-put-digits
     part-put-digits-start
     part-put-digits-end
+    mul-put-digits
     shared-slice-read-put-digits
     put-digits-requires
-    sub-put-digits-2
-    part-put-digits-start-2
-    part-put-digits-end-2
-    shared-slice-read-put-digits-2
-    put-digits-requires-2
-    sub-put-digits-3
-    part-put-digits-start-3
-    part-put-digits-end-3
-    shared-slice-read-put-digits-3
-    put-digits-requires-3
-    sub-put-digits-4
-    part-put-digits-start-4
-    part-put-digits-end-4
-    shared-slice-read-put-digits-4
-    put-digits-requires-4
-    sub-put-digits-5
-    part-put-digits-start-5
-    part-put-digits-end-5
-    shared-slice-read-put-digits-5
-    put-digits-requires-5
-    sub-put-digits-6
-    part-put-digits-start-6
-    part-put-digits-end-6
-    shared-slice-read-put-digits-6
-    put-digits-requires-6
-    sub-put-digits-7
-    part-put-digits-start-7
-    part-put-digits-end-7
-    shared-slice-read-put-digits-7
-    put-digits-requires-7
+    add-i
+    loop-less
+    loop-again
     slice-write-part
     same-length
     returns)

@@ -1,8 +1,9 @@
+-- `text::spell::same_bytes` compares byte by byte.
 use mathlib.Core.Path.{_≡_, refl, sym, _∙_}
-use Prim.Native.Nat.{_+_, _-_, _≤_}
+use Prim.Native.Nat.{_-_, _≤_}
 use lib.ListN.{length, drop}
 use Rattle.text.specs.Text.{same}
-use Rattle.text.proofs.SameLaws.{same-other-length, same-yes, same-no, same-end}
+use Rattle.text.proofs.SameLaws.{same-yes, same-no, same-end}
 use borrow.Author.Needs.{needs}
 use native.Mathlib.Omega.{arith}
 use Rattle.text.proofs.spell.same_bytes.Statement.{statement}
@@ -11,29 +12,24 @@ use Rattle.text.proofs.spell.same_bytes.Reads as reads
 use Rattle.text.proofs.spell.same_bytes.Lts as lts
 
 abbrev Inv-loop : tie.InvT-loop
-Inv-loop x y i₀ i = (i ≤ length x) × (length x ≡ length y) × (same (drop i x) (drop i y) ≡ same x y)
+Inv-loop x y i₀ i = (i ≤ length x) × (same (drop i x) (drop i y) ≡ same x y)
 
 abbrev μ-loop : tie.MeasureT-loop
 μ-loop x y i₀ i = length x - i
 
-returns : tie.Need-returns Inv-loop μ-loop
-returns c = same-other-length (c .before .args .x .now) (c .before .args .y .now) (c .if1 .taken)
-
 loop-holds : tie.Need-loop-holds Inv-loop μ-loop
-loop-holds c = (omega arith, omega arith, refl)
+loop-holds c = (omega arith, refl)
 
-shared-slice-read-if2 : tie.Need-shared-slice-read-if2 Inv-loop μ-loop
-shared-slice-read-if2 c = search needs
+shared-slice-read-if1 : tie.Need-shared-slice-read-if1 Inv-loop μ-loop
+shared-slice-read-if1 c = search needs
 
-shared-slice-read-if2-2 : tie.Need-shared-slice-read-if2-2 Inv-loop μ-loop
-shared-slice-read-if2-2 c = search needs
+shared-slice-read-if1-2 : tie.Need-shared-slice-read-if1-2 Inv-loop μ-loop
+shared-slice-read-if1-2 c = search needs
 
-returns-2 : tie.Need-returns-2 Inv-loop μ-loop
-returns-2 c =
-    let z = c .before .before .before .before in
-    let x = z .before .before .args .x .now in
-    let y = z .before .before .args .y .now in
-    sym (same-no x y (z .loop .i) (omega arith) (omega arith) (c .if2 .taken)) ∙ z .loop .inv .2
+returns : tie.Need-returns Inv-loop μ-loop
+returns c =
+    let a = c .before .before .before .before .before .args in
+    sym (same-no (a .x .now) (a .y .now) (c .before .before .before .before .loop .i) (omega arith) (omega arith) (c .if1 .taken)) ∙ c .before .before .before .before .loop .inv .1
 
 add-i : tie.Need-add-i Inv-loop μ-loop
 add-i c = search needs
@@ -43,17 +39,13 @@ loop-less c = search needs
 
 loop-again : tie.Need-loop-again Inv-loop μ-loop
 loop-again c =
-    let z = c .before .before .before .before in
-    let x = z .before .before .args .x .now in
-    let y = z .before .before .args .y .now in
-    (omega arith, z .loop .inv .1, sym (same-yes x y (z .loop .i) (omega arith) (omega arith) (c .if2 .left)) ∙ z .loop .inv .2)
+    let a = c .before .before .before .before .before .args in
+    (omega arith, sym (same-yes (a .x .now) (a .y .now) (c .before .before .before .before .loop .i) (omega arith) (omega arith) (c .if1 .left)) ∙ c .before .before .before .before .loop .inv .1)
 
-returns-3 : tie.Need-returns-3 Inv-loop μ-loop
-returns-3 c =
-    let z = c .before in
-    let x = z .before .before .args .x .now in
-    let y = z .before .before .args .y .now in
-    sym (same-end x y (z .loop .i) (omega arith) (omega arith)) ∙ z .loop .inv .2
+returns-2 : tie.Need-returns-2 Inv-loop μ-loop
+returns-2 c =
+    let a = c .before .before .args in
+    sym (same-end (a .x .now) (a .y .now) (c .before .loop .i) (omega arith) (omega arith)) ∙ c .before .loop .inv .1
 
 pub same-bytes-spec : {M : Type 1} → statement M
 same-bytes-spec =
@@ -61,12 +53,11 @@ same-bytes-spec =
     (tie.spec
     Inv-loop
     μ-loop
-    returns
     loop-holds
-    shared-slice-read-if2
-    shared-slice-read-if2-2
-    returns-2
+    shared-slice-read-if1
+    shared-slice-read-if1-2
+    returns
     add-i
     loop-less
     loop-again
-    returns-3)
+    returns-2)

@@ -1,213 +1,139 @@
-use mathlib.Core.Path.{ap, _∙_}
-use lib.ListN.{length}
-use Rattle.text.proofs.LineStores.{room-stored, head-spelt, head-length}
-use lib.ListN.{length-set}
-use native.Mathlib.Omega.{arith}
+-- `text::spell::spell_head` stores the fields of line 1 in their words, then those of K.
+use mathlib.Core.Path.{_≡_, refl, sym, ap, _∙_}
+use mathlib.Core.List.{List}
+use Prim.Native.Nat.{ℕ, _-_, _≤_}
+use borrow.Rule.Slice.PartMut.{midOf, putMid}
+use lib.ListN.{length, take, drop, set, length-take, length-drop, length-replicate}
+use Rattle.digits.specs.Digits.{speltWords}
+use Rattle.text.specs.FieldLaws.{wordOf, startOf, next-start, in-line}
+use Rattle.text.proofs.LineStores.{stores, stores-none, stores-more, length-stores, head-stored-words}
+use Rattle.text.proofs.Readable.{head-size}
 use borrow.Author.Needs.{needs}
+use native.Mathlib.Omega.{arith}
 use Rattle.text.proofs.spell.spell_head.Statement.{statement}
 use Rattle.text.proofs.spell.spell_head.Tie as tie
 use Rattle.text.proofs.spell.spell_head.Reads as reads
 use Rattle.text.proofs.spell.spell_head.Lts as lts
-use Rattle.text.proofs.digits.number.Reads as number-reads
-use Rattle.text.proofs.digits.spell_words.Reads as spell-words-reads
+use Rattle.digits.proofs.number.Reads as number-reads
+use Rattle.digits.proofs.spell_words.Reads as spell-words-reads
+
+abbrev Inv-loop : tie.InvT-loop
+Inv-loop area₀ text a₀ i₀ area a i = (i ≤ 7) × (a ≡ startOf i) × (area ≡ stores text i)
+
+abbrev μ-loop : tie.MeasureT-loop
+μ-loop area₀ text a₀ i₀ area a i = 7 - i
 
 -- what the stores leave
-stored : tie.Need-returns
+stored : tie.Need-returns Inv-loop μ-loop
 stored c =
-    let a = c .before .before .before .before .before .before .before .before .before .before .before .before .before .before .before .before .before .before .before .before .before .args in
+    let z = c .before .before .before .before .before .before .loop in
+    let t = c .before .before .before .before .before .before .before .before .before .args .text .now in
     let w = c .before .before .spell-words in
-    head-spelt (a .area .now) (a .text .now) (w .last .0)
-    (c .before .before .before .before .before .before .before .before .before .before .before .before .before .before .before .before .before .number .result) (c .before .before .before .before .before .before .before .number6 .result) (c .before .before .before .before .before .before .before .before .before .before .before .number4 .result) (c .before .before .before .before .before .before .before .before .before .number5 .result) (c .before .before .before .before .before .before .before .before .before .before .before .before .before .number3 .result) (c .before .before .before .before .before .before .before .before .before .before .before .before .before .before .before .number2 .result)
-    (omega arith) (w .ensures) (c .before .before .before .before .before .number7 .result)
-    (c .before .before .before .before .before .before .before .before .before .before .before .before .before .before .before .before .before .number .ensures) (c .before .before .before .before .before .before .before .number6 .ensures) (c .before .before .before .before .before .before .before .before .before .before .before .number4 .ensures) (c .before .before .before .before .before .before .before .before .before .number5 .ensures) (c .before .before .before .before .before .before .before .before .before .before .before .before .before .number3 .ensures) (c .before .before .before .before .before .before .before .before .before .before .before .before .before .before .before .number2 .ensures) (c .before .before .before .before .before .number7 .ensures)
+    ap (λ (x : List ℕ). putMid 6 8 x (w .last .0)) (z .inv .2)
+    ∙ head-stored-words t (w .last .0) (z .i) (omega arith) (w .ensures ∙ ap (λ (x : List ℕ). speltWords (length (midOf 6 8 x)) (take 128 (drop 45 t))) (z .inv .2))
 
-sub-number : tie.Need-sub-number
-sub-number c = search needs
+loop-holds : tie.Need-loop-holds Inv-loop μ-loop
+loop-holds c = (omega arith, refl, c .before .before .pre .0 ∙ stores-none (c .before .before .args .text .now))
 
-part-number-start : tie.Need-part-number-start
-part-number-start c = search needs
+mul-w : tie.Need-mul-w Inv-loop μ-loop
+mul-w c = search needs
 
-part-number-end : tie.Need-part-number-end
-part-number-end c = search needs
+array-read-w : tie.Need-array-read-w Inv-loop μ-loop
+array-read-w c = search needs
 
-number-requires : tie.Need-number-requires
-number-requires c κs = search needs
+mul-e : tie.Need-mul-e Inv-loop μ-loop
+mul-e c = search needs
 
-sub-number-2 : tie.Need-sub-number-2
-sub-number-2 c = search needs
+array-read-e : tie.Need-array-read-e Inv-loop μ-loop
+array-read-e c = search needs
 
-part-number-start-2 : tie.Need-part-number-start-2
-part-number-start-2 c = search needs
+sub-number : tie.Need-sub-number Inv-loop μ-loop
+sub-number c = omega (arith, in-line (c .before .loop .i) (omega arith) .order)
 
-part-number-end-2 : tie.Need-part-number-end-2
-part-number-end-2 c = search needs
+part-number-start : tie.Need-part-number-start Inv-loop μ-loop
+part-number-start c = omega (arith, in-line (c .before .loop .i) (omega arith) .order)
 
-number-requires-2 : tie.Need-number-requires-2
-number-requires-2 c κs = search needs
+part-number-end : tie.Need-part-number-end Inv-loop μ-loop
+part-number-end c = omega (arith, in-line (c .before .loop .i) (omega arith) .fits)
 
-sub-number-3 : tie.Need-sub-number-3
-sub-number-3 c = search needs
+number-requires : tie.Need-number-requires Inv-loop μ-loop
+number-requires c κs = rw length-take (omega (arith, in-line (c .before .before .loop .i) (omega arith) .short, c .before .before .loop .inv .1))
 
-part-number-start-3 : tie.Need-part-number-start-3
-part-number-start-3 c = search needs
+mul-area : tie.Need-mul-area Inv-loop μ-loop
+mul-area c =
+    let w = in-line (c .before .before .before .loop .i) (omega arith) .word in
+    search needs
 
-part-number-end-3 : tie.Need-part-number-end-3
-part-number-end-3 c = search needs
+slice-write-area : tie.Need-slice-write-area Inv-loop μ-loop
+slice-write-area c =
+    let z = c .before .before .before .loop in
+    omega (arith, in-line (z .i) (omega arith) .word, ap length (z .inv .2), length-stores (c .before .before .before .before .before .before .args .text .now) (z .i))
 
-number-requires-3 : tie.Need-number-requires-3
-number-requires-3 c κs = search needs
+add-i : tie.Need-add-i Inv-loop μ-loop
+add-i c = search needs
 
-sub-number-4 : tie.Need-sub-number-4
-sub-number-4 c = search needs
+loop-less : tie.Need-loop-less Inv-loop μ-loop
+loop-less c = search needs
 
-part-number-start-4 : tie.Need-part-number-start-4
-part-number-start-4 c = search needs
+loop-again : tie.Need-loop-again Inv-loop μ-loop
+loop-again c =
+    let z = c .before .before .before .loop in
+    let t = c .before .before .before .before .before .before .args .text .now in (
+      omega arith,
+      next-start (z .i),
+      ap (λ (x : List ℕ). set x (wordOf (z .i)) (c .number .result)) (z .inv .2) ∙ ap (set (stores t (z .i)) (wordOf (z .i))) (c .number .ensures)
+          ∙ stores-more t (z .a) (z .i) (z .inv .1),
+    )
 
-part-number-end-4 : tie.Need-part-number-end-4
-part-number-end-4 c = search needs
-
-number-requires-4 : tie.Need-number-requires-4
-number-requires-4 c κs = search needs
-
-sub-number-5 : tie.Need-sub-number-5
-sub-number-5 c = search needs
-
-part-number-start-5 : tie.Need-part-number-start-5
-part-number-start-5 c = search needs
-
-part-number-end-5 : tie.Need-part-number-end-5
-part-number-end-5 c = search needs
-
-number-requires-5 : tie.Need-number-requires-5
-number-requires-5 c κs = search needs
-
-sub-number-6 : tie.Need-sub-number-6
-sub-number-6 c = search needs
-
-part-number-start-6 : tie.Need-part-number-start-6
-part-number-start-6 c = search needs
-
-part-number-end-6 : tie.Need-part-number-end-6
-part-number-end-6 c = search needs
-
-number-requires-6 : tie.Need-number-requires-6
-number-requires-6 c κs = search needs
-
-sub-number-7 : tie.Need-sub-number-7
-sub-number-7 c = search needs
-
-part-number-start-7 : tie.Need-part-number-start-7
-part-number-start-7 c = search needs
-
-part-number-end-7 : tie.Need-part-number-end-7
-part-number-end-7 c = search needs
-
-number-requires-7 : tie.Need-number-requires-7
-number-requires-7 c κs = search needs
-
-slice-write-area : tie.Need-slice-write-area
-slice-write-area c = search needs
-
-slice-write-area-2 : tie.Need-slice-write-area-2
-slice-write-area-2 c = simp length-set (omega arith)
-
-slice-write-area-3 : tie.Need-slice-write-area-3
-slice-write-area-3 c = simp length-set (omega arith)
-
-slice-write-area-4 : tie.Need-slice-write-area-4
-slice-write-area-4 c = simp length-set (omega arith)
-
-slice-write-area-5 : tie.Need-slice-write-area-5
-slice-write-area-5 c = simp length-set (omega arith)
-
-slice-write-area-6 : tie.Need-slice-write-area-6
-slice-write-area-6 c = simp length-set (omega arith)
-
-sub-spell-words : tie.Need-sub-spell-words
+sub-spell-words : tie.Need-sub-spell-words Inv-loop μ-loop
 sub-spell-words c = search needs
 
-part-spell-words-start : tie.Need-part-spell-words-start
+part-spell-words-start : tie.Need-part-spell-words-start Inv-loop μ-loop
 part-spell-words-start c = search needs
 
-part-spell-words-end : tie.Need-part-spell-words-end
-part-spell-words-end c = simp length-set (omega arith)
+part-spell-words-end : tie.Need-part-spell-words-end Inv-loop μ-loop
+part-spell-words-end c = omega (arith, ap length (c .before .loop .inv .2), length-stores (c .before .before .before .before .args .text .now) (c .before .loop .i))
 
-sub-spell-words-2 : tie.Need-sub-spell-words-2
+sub-spell-words-2 : tie.Need-sub-spell-words-2 Inv-loop μ-loop
 sub-spell-words-2 c = search needs
 
-part-spell-words-start-2 : tie.Need-part-spell-words-start-2
+part-spell-words-start-2 : tie.Need-part-spell-words-start-2 Inv-loop μ-loop
 part-spell-words-start-2 c = search needs
 
-part-spell-words-end-2 : tie.Need-part-spell-words-end-2
+part-spell-words-end-2 : tie.Need-part-spell-words-end-2 Inv-loop μ-loop
 part-spell-words-end-2 c = search needs
 
-spell-words-requires : tie.Need-spell-words-requires
-spell-words-requires c κs = search needs
+spell-words-requires : tie.Need-spell-words-requires Inv-loop μ-loop
+spell-words-requires c κs =
+    let z = c .before .before .before .loop in
+    simp (length-take, length-drop) (omega (arith, ap length (z .inv .2), length-stores (c .before .before .before .before .before .before .args .text .now) (z .i)))
 
-slice-write-area-7 : tie.Need-slice-write-area-7
-slice-write-area-7 c =
-    let a = c .before .before .before .before .before .before .before .before .before .before .before .before .before .before .before .before .before .before .before .before .before .args in
-    let w = c .before .before .spell-words in
-    let r = room-stored (a .area .now) (a .text .now) (w .last .0)
-    (c .before .before .before .before .before .before .before .before .before .before .before .before .before .before .before .before .before .number .result) (c .before .before .before .before .before .before .before .number6 .result) (c .before .before .before .before .before .before .before .before .before .before .before .number4 .result) (c .before .before .before .before .before .before .before .before .before .number5 .result) (c .before .before .before .before .before .before .before .before .before .before .before .before .before .number3 .result) (c .before .before .before .before .before .before .before .before .before .before .before .before .before .before .before .number2 .result)
-    (omega arith) (w .ensures) in
-    omega (arith, r)
+same-length : tie.Need-same-length Inv-loop μ-loop
+same-length c = head-size (c .before .before .before .before .before .before .before .before .before .args .text .now) _ (stored c) ∙ sym (ap length (c .before .before .before .before .before .before .before .before .before .pre .0) ∙ length-replicate {A = ℕ} 1744 0)
 
-slice-write-area-8 : tie.Need-slice-write-area-8
-slice-write-area-8 c =
-    let a = c .before .before .before .before .before .before .before .before .before .before .before .before .before .before .before .before .before .before .before .before .before .args in
-    let w = c .before .before .spell-words in
-    let r = room-stored (a .area .now) (a .text .now) (w .last .0)
-    (c .before .before .before .before .before .before .before .before .before .before .before .before .before .before .before .before .before .number .result) (c .before .before .before .before .before .before .before .number6 .result) (c .before .before .before .before .before .before .before .before .before .before .before .number4 .result) (c .before .before .before .before .before .before .before .before .before .number5 .result) (c .before .before .before .before .before .before .before .before .before .before .before .before .before .number3 .result) (c .before .before .before .before .before .before .before .before .before .before .before .before .before .before .before .number2 .result)
-    (omega arith) (w .ensures) in
-    simp length-set (omega (arith, r))
-
-same-length : tie.Need-same-length
-same-length c =
-    let a = c .before .before .before .before .before .before .before .before .before .before .before .before .before .before .before .before .before .before .before .before .before .args in
-    ap length (stored c) ∙ head-length (a .area .now) (a .text .now) (omega arith)
-
-returns : tie.Need-returns
+returns : tie.Need-returns Inv-loop μ-loop
 returns c = stored c
 
 pub spell-head-spec : {M : Type 1} → statement M
 spell-head-spec =
     tie.close
     (tie.spec
+    Inv-loop
+    μ-loop
+    loop-holds
+    mul-w
+    array-read-w
+    mul-e
+    array-read-e
     sub-number
     part-number-start
     part-number-end
     number-requires
-    sub-number-2
-    part-number-start-2
-    part-number-end-2
-    number-requires-2
-    sub-number-3
-    part-number-start-3
-    part-number-end-3
-    number-requires-3
-    sub-number-4
-    part-number-start-4
-    part-number-end-4
-    number-requires-4
-    sub-number-5
-    part-number-start-5
-    part-number-end-5
-    number-requires-5
-    sub-number-6
-    part-number-start-6
-    part-number-end-6
-    number-requires-6
-    sub-number-7
-    part-number-start-7
-    part-number-end-7
-    number-requires-7
+    mul-area
     slice-write-area
-    slice-write-area-2
-    slice-write-area-3
-    slice-write-area-4
-    slice-write-area-5
-    slice-write-area-6
+    add-i
+    loop-less
+    loop-again
     sub-spell-words
     part-spell-words-start
     part-spell-words-end
@@ -215,7 +141,5 @@ spell-head-spec =
     part-spell-words-start-2
     part-spell-words-end-2
     spell-words-requires
-    slice-write-area-7
-    slice-write-area-8
     same-length
     returns)

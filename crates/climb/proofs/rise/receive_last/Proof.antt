@@ -1,0 +1,87 @@
+-- `climb::rise::receive_last` meets its contract. Assumes nothing.
+use Rattle.climb.specs.ReceiveLaws.{last-held, last-room, last-chained}
+use lib.ListN.{length}
+use Rattle.climb.specs.MakeLaws.{paramsFrom}
+use native.Mathlib.Omega.{arith}
+use Rattle.climb.proofs.rise.receive_last.Statement.{statement}
+use Rattle.climb.proofs.rise.receive_last.Tie as tie
+
+mul-place : tie.Need-mul-place
+mul-place c = omega arith
+
+add-place : tie.Need-add-place
+add-place c = omega arith
+
+join-requires : tie.Need-join-requires
+join-requires c κs = omega arith
+
+same-length : tie.Need-same-length
+same-length c = omega arith
+
+returns : tie.Need-returns
+returns c =
+    let join = c .before .before .before in
+    let start = join .before .before .before .before .before .before .before in
+    let a = start .args in
+    let n = start .pre .1 .0 in
+    let r = last-held (paramsFrom (a .key .now) (a .params)) (a .level) (a .i) (a .out .now) (a .area .now) (a .log .now) (a .at) (n .0) (n .1) (n .2) (n .4) _ (c .if1 .taken) (join .join .ensures) in
+    (r .0, (r .1, r .2))
+
+make-level-requires : tie.Need-make-level-requires
+make-level-requires c κs =
+    let test = c .before .before in
+    let start = test .before .before .before .before .before .before .before .before .before .before in
+    let a = start .args in
+    let n = start .pre .1 .0 in
+    let room = last-room (paramsFrom (a .key .now) (a .params)) (a .level) (a .i) (a .out .now) (a .area .now) (a .log .now) (a .at) (n .0) (n .1) (n .2) (n .4) (length (a .log .now)) (test .if1 .left) (start .pre .1 .1) in
+    (start .pre .0, (omega arith, n .1, n .2, omega arith, omega (arith, room)))
+
+slice-aggregate-chain-level : tie.Need-slice-aggregate-chain-level
+slice-aggregate-chain-level c = omega arith
+
+chain-level-requires : tie.Need-chain-level-requires
+chain-level-requires c κs = omega arith
+
+add-result : tie.Need-add-result
+add-result c =
+    let test = c .before .before .before .before .before .before .before .before .before .before in
+    let start = test .before .before .before .before .before .before .before .before .before .before in
+    let a = start .args in
+    let n = start .pre .1 .0 in
+    let room = last-room (paramsFrom (a .key .now) (a .params)) (a .level) (a .i) (a .out .now) (a .area .now) (a .log .now) (a .at) (n .0) (n .1) (n .2) (n .4) (length (a .log .now)) (test .if1 .left) (start .pre .1 .1) in
+    omega (arith, room, start .good)
+
+same-length-2 : tie.Need-same-length-2
+same-length-2 c = omega arith
+
+same-length-3 : tie.Need-same-length-3
+same-length-3 c = omega arith
+
+returns-2 : tie.Need-returns-2
+returns-2 c =
+    let chain-level = c .before .before in
+    let make-level = chain-level .before .before .before .before .before in
+    let test = make-level .before .before .before in
+    let join = test .before .before .before in
+    let start = join .before .before .before .before .before .before .before in
+    let a = start .args in
+    let n = start .pre .1 .0 in
+    let r = last-chained (paramsFrom (a .key .now) (a .params)) (a .level) (a .i) (a .out .now) (a .area .now) (a .log .now) (a .at) (n .0) (n .1) (n .2) (n .4) _ _ _ _ (test .if1 .left) (join .join .ensures) (make-level .make-level .ensures .0) (make-level .make-level .ensures .1) (chain-level .chain-level .ensures) in
+    (r .0, (r .1, r .2))
+
+pub receive-last-spec : {M : Type 1} → statement M
+receive-last-spec =
+    tie.close
+    (tie.spec
+    mul-place
+    add-place
+    join-requires
+    same-length
+    returns
+    make-level-requires
+    slice-aggregate-chain-level
+    chain-level-requires
+    add-result
+    same-length-2
+    same-length-3
+    returns-2)

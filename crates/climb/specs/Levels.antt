@@ -1,0 +1,185 @@
+-- An area as its levels: one level replaced, and all levels from one on. The contracts of the code's own steps cite these.
+-- Assumes nothing.
+use mathlib.Core.Path.{_≡_, refl, sym, ap, _∙_}
+use mathlib.Core.List.{List, _∷_, _++_, append-assoc}
+use Prim.Native.Nat.{ℕ, zero, suc, _+_, _-_, _*_, _≤_, _<_}
+use native.Mathlib.Omega.{arith}
+use lib.ListN.{length, take, drop, replicate, length-append, length-take, length-drop, take-append-drop}
+use lib.Seq.{paste, take-at, drop-at, take-all, drop-drop, length-take-le}
+use Rattle.lists.specs.Concat.{concat}
+use Rattle.lists.specs.Part.{put}
+use Rattle.area.specs.Area.{headWords, blockWords, areaWords, levelWords, levelsFrom, levelsOf, withLevels, emptyLevel}
+use Rattle.area.specs.FeedLaws.{concat-from}
+
+-- the first word of a level
+abbrev pub levelAt : ℕ → ℕ
+levelAt k = headWords + blockWords * (k - 1)
+
+-- an area with other words in a level
+abbrev pub withLevel : List ℕ → ℕ → List ℕ → List ℕ
+withLevel area k ws = put (levelAt k) 64 area ws
+
+-- an area with other levels from a level on
+abbrev pub upArea : List ℕ → ℕ → List (List ℕ) → List ℕ
+upArea area k levels = take (levelAt k) area ++ (concat levels ++ drop areaWords area)
+
+-- ---- a part of a list replaced
+
+module _ (a : ℕ) (l ws : List ℕ) (fits : a + 64 ≤ length l) (size : length ws ≡ 64) where
+  front : length (take a l) ≡ a
+  front = length-take-le a l (omega arith)
+
+  front-part : length (take a l ++ ws) ≡ a + 64
+  front-part = length-append (take a l) ws ∙ omega (arith, front)
+
+  put-assoc : put a 64 l ws ≡ (take a l ++ ws) ++ drop 64 (drop a l)
+  put-assoc = sym (append-assoc (take a l) ws (drop 64 (drop a l)))
+
+  length-put : length (put a 64 l ws) ≡ length l
+  length-put = simp (length-append, length-take, length-drop) (omega arith)
+
+  take-put : take a (put a 64 l ws) ≡ take a l
+  take-put = take-at (take a l) (ws ++ drop 64 (drop a l)) a front
+
+  part-put : take 64 (drop a (put a 64 l ws)) ≡ ws
+  part-put = ap (take 64) (drop-at (take a l) (ws ++ drop 64 (drop a l)) a front) ∙ take-at ws (drop 64 (drop a l)) 64 size
+
+  take-past : take (a + 64) (put a 64 l ws) ≡ take a l ++ ws
+  take-past = ap (take (a + 64)) put-assoc ∙ take-at (take a l ++ ws) (drop 64 (drop a l)) (a + 64) front-part
+
+  drop-past : drop (a + 64) (put a 64 l ws) ≡ drop (a + 64) l
+  drop-past = ap (drop (a + 64)) put-assoc ∙ drop-at (take a l ++ ws) (drop 64 (drop a l)) (a + 64) front-part ∙ drop-drop 64 a l
+
+  drop-put : (j : ℕ) → a + 64 ≤ j → drop j (put a 64 l ws) ≡ drop j l
+  drop-put j h =
+      let e : j ≡ a + 64 + (j - (a + 64)) = omega arith in
+      let r : ℕ = j - (a + 64) in
+      ap (λ (n : ℕ). drop n (put a 64 l ws)) e
+      ∙ sym (drop-drop r (a + 64) (put a 64 l ws)) ∙ ap (drop r) drop-past ∙ drop-drop r (a + 64) l
+      ∙ ap (λ (n : ℕ). drop n l) (sym e)
+
+  put-put : (vs : List ℕ) → put a 64 (put a 64 l ws) vs ≡ put a 64 l vs
+  put-put vs =
+      let t : drop 64 (drop a (put a 64 l ws)) ≡ drop 64 (drop a l) = drop-drop 64 a (put a 64 l ws) ∙ drop-past ∙ sym (drop-drop 64 a l) in
+      ap (λ (x : List ℕ). x ++ (vs ++ drop 64 (drop a (put a 64 l ws)))) take-put ∙ ap (λ (x : List ℕ). take a l ++ (vs ++ x)) t
+
+-- a copy of a whole list is that list put into its place
+pub paste-put : (d : List ℕ) (at n : ℕ) (s : List ℕ) → length s ≡ n → paste d at s (length s) ≡ put at n d s
+paste-put d at n s h =
+    let t : take (length s) s ≡ s = take-all (length s) s (omega arith) in
+    let e : at + length s ≡ at + n = omega arith in
+    rw (t, e) (append-assoc (take at d) s (drop (at + n) d) ∙ ap (λ (x : List ℕ). take at d ++ (s ++ x)) (sym (drop-drop n at d)))
+
+-- ---- one level replaced
+
+module _ (area : List ℕ) (k : ℕ) (ws : List ℕ) (long : areaWords ≤ length area) (low : 1 ≤ k) (high : k ≤ 27) (size : length ws ≡ 64) where
+  fits : levelAt k + 64 ≤ length area
+  fits = omega arith
+
+  pub length-with : length (withLevel area k ws) ≡ length area
+  length-with = length-put (levelAt k) area ws fits size
+
+  pub level-with : levelWords (withLevel area k ws) k ≡ ws
+  level-with = part-put (levelAt k) area ws fits size
+
+  pub with-with : (vs : List ℕ) → withLevel (withLevel area k ws) k vs ≡ withLevel area k vs
+  with-with vs = put-put (levelAt k) area ws fits size vs
+
+  pub other-with : (m j : ℕ) → k < j → levelsFrom (withLevel area k ws) m j ≡ levelsFrom area m j
+  other-with zero j h = refl
+  other-with (suc m) j h =
+      let e : levelWords (withLevel area k ws) j ≡ levelWords area j = ap (take 64) (drop-put (levelAt k) area ws fits size (levelAt j) (omega arith)) in
+      ap (λ (x : List ℕ). x ∷ levelsFrom (withLevel area k ws) m (suc j)) e ∙ ap (λ (x : List (List ℕ)). levelWords area j ∷ x) (other-with m (suc j) (omega arith))
+
+  pub up-step : (L : List (List ℕ)) → upArea area k (ws ∷ L) ≡ upArea (withLevel area k ws) (k + 1) L
+  up-step L =
+      let e : levelAt (k + 1) ≡ levelAt k + 64 = omega arith in
+      let t : take (levelAt (k + 1)) (withLevel area k ws) ≡ take (levelAt k) area ++ ws =
+      ap (λ (n : ℕ). take n (withLevel area k ws)) e ∙ take-past (levelAt k) area ws fits size in
+      let d : drop areaWords (withLevel area k ws) ≡ drop areaWords area = drop-put (levelAt k) area ws fits size areaWords (omega arith) in
+      sym
+      (ap (λ (x : List ℕ). x ++ (concat L ++ drop areaWords (withLevel area k ws))) t
+      ∙ ap (λ (x : List ℕ). (take (levelAt k) area ++ ws) ++ (concat L ++ x)) d
+      ∙ append-assoc (take (levelAt k) area) ws (concat L ++ drop areaWords area)
+      ∙ ap (λ (x : List ℕ). take (levelAt k) area ++ x) (sym (append-assoc ws (concat L) (drop areaWords area))))
+
+-- ---- the levels of an area
+
+-- an area is made of its own levels
+pub up-same : (area : List ℕ) (k : ℕ) → 1 ≤ k → k ≤ 28 → upArea area k (levelsFrom area (28 - k) k) ≡ area
+up-same area k h g =
+    let a : ℕ = levelAt k in
+    let n : ℕ = 64 * (28 - k) in
+    let e : a + n ≡ 1744 = omega arith in
+    let d : drop 1744 area ≡ drop n (drop a area) = ap (λ (j : ℕ). drop j area) (sym e) ∙ sym (drop-drop n a area) in
+    rw (concat-from area (28 - k) k h, d) (ap (λ (x : List ℕ). take a area ++ x) (take-append-drop n (drop a area)) ∙ take-append-drop a area)
+
+-- a level replaced, those above it as they are
+pub up-level : (area : List ℕ) (k : ℕ) (ws : List ℕ) → areaWords ≤ length area → 1 ≤ k → k ≤ 27 → length ws ≡ 64
+    → upArea area k (ws ∷ levelsFrom area (28 - (k + 1)) (k + 1)) ≡ withLevel area k ws
+up-level area k ws long low high size =
+    up-step area k ws long low high size (levelsFrom area (28 - (k + 1)) (k + 1))
+    ∙ ap (upArea (withLevel area k ws) (k + 1)) (sym (other-with area k ws long low high size (28 - (k + 1)) (k + 1) (omega arith)))
+    ∙ up-same (withLevel area k ws) (k + 1) (omega arith) (omega arith)
+
+pub levels-cons : (area : List ℕ) (k : ℕ) → k ≤ 27 → levelsFrom area (28 - k) k ≡ levelWords area k ∷ levelsFrom area (28 - (k + 1)) (k + 1)
+levels-cons area k h =
+    let e : 28 - k ≡ suc (28 - (k + 1)) = omega arith in
+    let q : k + 1 ≡ suc k = omega arith in
+    rw (e, q)
+
+pub length-level : (area : List ℕ) (k : ℕ) → areaWords ≤ length area → 1 ≤ k → k ≤ 27 → length (levelWords area k) ≡ 64
+length-level area k long low high = simp (length-take, length-drop) (omega arith)
+
+-- all levels
+pub with-up : (area : List ℕ) (L : List (List ℕ)) → withLevels area L ≡ upArea area 1 L
+unfolding withLevels
+with-up area L = refl
+
+-- ---- a level lent by the code
+
+pub lent-put : (area : List ℕ) (k : ℕ) (ws : List ℕ) → put (levelAt k) ((levelAt k + 64) - levelAt k) area ws ≡ withLevel area k ws
+lent-put area k ws = let e : (levelAt k + 64) - levelAt k ≡ 64 = omega arith in rw e
+
+pub lent-size : (k : ℕ) → (levelAt k + 64) - levelAt k ≡ 64
+lent-size k = omega arith
+
+pub length-joined : (place : ℕ) (ws out : List ℕ) → length ws ≡ 64 → length out ≡ 16 → place + 16 ≤ 64 → length (put place 16 ws out) ≡ 64
+length-joined place ws out h g f = simp (length-append, length-take, length-drop) (omega arith)
+
+-- words copied into a lent level
+pub lent-join : (area : List ℕ) (k place : ℕ) (out : List ℕ) → length out ≡ 16
+    → put (levelAt k) ((levelAt k + 64) - levelAt k) area (paste (take ((levelAt k + 64) - levelAt k) (drop (levelAt k) area)) place out (length out))
+    ≡ withLevel area k (put place 16 (levelWords area k) out)
+lent-join area k place out h =
+    lent-put area k (paste (take ((levelAt k + 64) - levelAt k) (drop (levelAt k) area)) place out (length out))
+    ∙ ap (λ (n : ℕ). withLevel area k (paste (take n (drop (levelAt k) area)) place out (length out))) (lent-size k)
+    ∙ ap (withLevel area k) (paste-put (levelWords area k) place 16 out h)
+
+pub length-empty : length emptyLevel ≡ 64
+unfolding emptyLevel
+length-empty = refl
+
+-- a level cleared, and an output put in front
+pub chain-made : (area : List ℕ) (k : ℕ) (out : List ℕ) → areaWords ≤ length area → 1 ≤ k → k ≤ 27
+    → withLevel (withLevel area k emptyLevel) k (put 0 16 (levelWords (withLevel area k emptyLevel) k) out) ≡ withLevel area k (out ++ replicate 48 0)
+unfolding emptyLevel
+chain-made area k out long low high =
+    ap (λ (x : List ℕ). withLevel (withLevel area k emptyLevel) k (put 0 16 x out)) (level-with area k emptyLevel long low high refl)
+    ∙ with-with area k emptyLevel long low high refl (out ++ replicate 48 0)
+
+-- ---- level 1
+
+pub low₁ : 1 ≤ 1
+low₁ = omega arith
+
+pub high₁ : 1 ≤ 27
+high₁ = omega arith
+
+pub levels-split : (area : List ℕ) → levelsOf area ≡ levelWords area 1 ∷ levelsFrom area 26 2
+unfolding levelsOf
+levels-split area = refl
+
+-- level 1 replaced, the others as they are
+pub with-first : (area ws : List ℕ) → areaWords ≤ length area → length ws ≡ 64 → withLevels area (ws ∷ levelsFrom area 26 2) ≡ withLevel area 1 ws
+with-first area ws long size = with-up area (ws ∷ levelsFrom area 26 2) ∙ up-level area 1 ws long low₁ high₁ size

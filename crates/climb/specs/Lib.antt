@@ -1,0 +1,5 @@
+pub mod FlushLaws
+pub mod Levels
+pub mod MakeLaws
+pub mod OpenArea
+pub mod ReceiveLaws

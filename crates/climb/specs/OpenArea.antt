@@ -1,0 +1,66 @@
+-- What the words of a sound open area give: parameters in range, K, and the compressions done.
+-- Assumes nothing.
+use mathlib.Core.Path.{_≡_, refl, sym, _∙_}
+use mathlib.Core.Bool.{true}
+use mathlib.Core.List.{List}
+use Prim.Native.Nat.{ℕ, _^_, _≤_}
+use native.Mathlib.Omega.{arith}
+use lib.ListN.{length, getD, length-take, length-drop}
+use borrow.Author.Tests.{eqb-true}
+use Rattle.lists.specs.Below.{Below}
+use Rattle.compress.specs.Compress.{RoundTable}
+use Rattle.node.specs.declared.Params as declared
+use Rattle.tree.specs.Tree.{Params}
+use Rattle.tree.specs.Refusals.{refusedParams}
+use Rattle.area.specs.Area.{areaWords, phaseOf, totalOf, keyOf, compressionsOf, paramsOf, openCount, countFor, sound}
+use Rattle.area.specs.Moved.{sound-tests, sound-key}
+use Rattle.sound.specs.SoundLaws.{refused-words, in-range-words, InRange, count-open}
+use Rattle.climb.specs.MakeLaws.{paramsFrom, Ready}
+
+-- an area that is long enough, sound and open
+pub record OpenArea (area : List ℕ) : Type 0 where
+  pub long : areaWords ≤ length area
+  pub sound : sound area ≡ true
+  pub phase : phaseOf area ≡ 2 → ⊥
+
+-- the parameters as the code reads them
+abbrev pub numbered : List ℕ → declared.Params
+numbered area = record { key = getD area 2 0; d = getD area 3 0; limit = getD area 4 0; rounds = getD area 5 0 }
+
+pub params-read : (area : List ℕ) → paramsFrom (keyOf area) (numbered area) ≡ paramsOf area
+unfolding paramsFrom paramsOf
+params-read area = refl
+
+pub limit-read : (area : List ℕ) → paramsOf area .limit ≡ getD area 4 0
+unfolding paramsOf
+limit-read area = refl
+
+pub size-read : (area : List ℕ) → paramsOf area .d ≡ getD area 3 0
+unfolding paramsOf
+size-read area = refl
+
+module _ {area : List ℕ} (o : OpenArea area) where
+  pub open-range : InRange (getD area 2 0) (getD area 3 0) (getD area 4 0) (getD area 5 0)
+  open-range =
+      let e = eqb-true (refusedParams (paramsOf area) 0) 0 (sound-tests area (o .sound) .params) in
+      in-range-words (getD area 2 0) (getD area 3 0) (getD area 4 0) (getD area 5 0) (sym (refused-words area 0) ∙ e)
+
+  pub open-done : compressionsOf area ≡ openCount (getD area 4 0) (totalOf area)
+  unfolding paramsOf
+  open-done =
+      eqb-true (compressionsOf area) (countFor (phaseOf area) (paramsOf area .limit) (totalOf area)) (sound-tests area (o .sound) .count)
+      ∙ count-open (phaseOf area) (getD area 4 0) (totalOf area) (o .phase)
+
+  pub length-keyOf : length (keyOf area) ≡ 8
+  length-keyOf = simp (length-take, length-drop) (omega (arith, o .long))
+
+  -- a node can be made
+  pub open-ready : (table : List ℕ) → Below (2 ^ 64) area → RoundTable table → 255 ≤ length table → Ready (keyOf area) (numbered area) table
+  unfolding paramsFrom paramsOf
+  open-ready table b r h = record {
+    range = open-range;
+    words = length-keyOf;
+    key = sound-key area (o .long) b (o .sound);
+    rule = r;
+    rows = h;
+  }

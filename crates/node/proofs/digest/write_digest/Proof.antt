@@ -1,0 +1,74 @@
+-- `node::digest::write_digest` meets its contract. Assumes nothing.
+use Rattle.node.specs.DigestLaws.{digest-bytes}
+use Rattle.bits.specs.Bits.{bitsOf, numbers, filled}
+use lib.ListN.{drop, replicate}
+use Prim.Native.Nat.{ℕ, _+_, _-_, _*_, _/_, _%_}
+use mathlib.Core.List.{List, _++_, append-nil}
+use mathlib.Core.Path.{_≡_, ap, _∙_}
+use native.Mathlib.Omega.{arith}
+use borrow.Author.Needs.{needs}
+use Rattle.node.proofs.digest.write_digest.Statement.{statement}
+use Rattle.node.proofs.digest.write_digest.Tie as tie
+
+slice-aggregate-put-bytes : tie.Need-slice-aggregate-put-bytes
+slice-aggregate-put-bytes c = search needs
+
+put-bytes-requires : tie.Need-put-bytes-requires
+put-bytes-requires c κs = search needs
+
+sub-start : tie.Need-sub-start
+sub-start c = search needs
+
+slice-aggregate-fill : tie.Need-slice-aggregate-fill
+slice-aggregate-fill c = search needs
+
+slice-aggregate-fill-2 : tie.Need-slice-aggregate-fill-2
+slice-aggregate-fill-2 c = search needs
+
+fill-requires : tie.Need-fill-requires
+fill-requires c κs = search needs
+
+add-n : tie.Need-add-n
+add-n c = search needs
+
+slice-aggregate-put-bytes-2 : tie.Need-slice-aggregate-put-bytes-2
+slice-aggregate-put-bytes-2 c = search needs
+
+put-bytes-requires-2 : tie.Need-put-bytes-requires-2
+put-bytes-requires-2 c κs = search needs
+
+same-length : tie.Need-same-length
+same-length c = search needs
+
+returns : tie.Need-returns
+returns c =
+    let put2 = c .before .before in
+    let fill = put2 .before .before .before .before in
+    let put1 = fill .before .before .before .before in
+    let s = put1 .before .before .before .before in
+    let root = s .args .root .now in
+    let d = s .args .d in
+    let start = 1024 - d in
+    let n = (d + 7) / 8 in
+    let bytes : put1 .put-bytes .last .0 ≡ numbers 8 128 (bitsOf 64 root) = put1 .put-bytes .ensures ∙ append-nil (numbers 8 128 (bitsOf 64 root)) in
+    let last : fill .fill .last .0 ≡ filled (replicate 8 0) 0 (numbers 8 128 (bitsOf 64 root)) (8 * (start / 8) + start % 8) d =
+    fill .fill .ensures ∙ ap (λ (w : List ℕ). filled (replicate 8 0) 0 w (8 * (start / 8) + start % 8) d) bytes in
+    put2 .put-bytes2 .ensures
+    ∙ ap (λ (w : List ℕ). numbers 8 n (bitsOf 64 w) ++ drop n (s .args .out .now)) last
+    ∙ ap (λ (w : List ℕ). w ++ drop n (s .args .out .now)) (digest-bytes root d (8 * (start / 8) + start % 8) (s .pre .0) (s .pre .1) (s .pre .2) (omega arith))
+
+pub write-digest-spec : {M : Type 1} → statement M
+write-digest-spec =
+    tie.close
+    (tie.spec
+    slice-aggregate-put-bytes
+    put-bytes-requires
+    sub-start
+    slice-aggregate-fill
+    slice-aggregate-fill-2
+    fill-requires
+    add-n
+    slice-aggregate-put-bytes-2
+    put-bytes-requires-2
+    same-length
+    returns)

@@ -1,0 +1,6 @@
+pub mod Words
+pub mod WordLaws
+pub mod NodeLaws
+pub mod DigestLaws
+pub mod CountLaws
+pub mod NumberLaws

@@ -1,0 +1,198 @@
+-- The steps of a feed: the bits that level 1 takes, copied at once, and what comes of them where it is full. That these are what
+-- `feedBits` of Calls makes, which goes bit by bit.
+-- Assumes nothing.
+use mathlib.Core.Path.{_≡_, refl, sym, ap, _∙_}
+use mathlib.Core.Bool.{Bool, true, false}
+use mathlib.Core.List.{List, [], _∷_, append-nil}
+use Prim.Native.Nat.{ℕ, zero, suc, _+_, _-_, _*_, _^_, _≤_, _<_, min}
+use native.Mathlib.Omega.{arith}
+use mir.Syntax.{w64}
+use mir.Val.{Fits}
+use lib.Dec.{ltb}
+use lib.ListN.{length, take, drop, getD}
+use lib.Seq.{drop-cons}
+use borrow.Author.Tests.{eq-eqb, lt-ltb, le-ltb, ltb-true, ltb-false}
+use Rattle.lists.specs.Below.{Below, below-append, below-zeros}
+use Rattle.bits.specs.Bits.{bitsOf, filled}
+use Rattle.bits.specs.BitsLaws.{length-bitsOf, numbers-below}
+use Rattle.bits.specs.FilledLaws.{length-filled, filled-below, filled-more}
+use Rattle.tree.specs.Tree.{Params, Node, node, output, blockBits, sequentialBits}
+use Rattle.area.specs.Area.{emptyLevel, doneBlocks, heldBits}
+use Rattle.area.specs.Calls.{Made, withBit, outWords, feedBit, feedBits}
+use Rattle.area.specs.FeedLaws.{withBits-filled, fill-parallel, fill-sequential}
+use Rattle.area.specs.Machine
+use Rattle.climb.specs.Levels.{length-empty}
+use Rattle.climb.specs.ReceiveLaws.{made}
+use Rattle.climb.specs.FlushLaws.{flushed}
+use Rattle.piece.specs.Widths.{length-chained}
+
+-- the bits that level 1 takes, and the bit of its words at which they begin
+abbrev pub sizeOf : ℕ → ℕ
+sizeOf zero = sequentialBits
+sizeOf (suc n) = blockBits
+
+abbrev pub baseOf : ℕ → ℕ
+baseOf limit = blockBits - sizeOf limit
+
+-- ---- numbers
+
+pub held-le : (limit T : ℕ) → heldBits (sizeOf limit) T ≤ sizeOf limit
+held-le zero T = omega arith
+held-le (suc n) T = omega arith
+
+held-first : (limit T : ℕ) → heldBits (sizeOf limit) T ≡ sizeOf limit → heldBits (sizeOf limit) (suc T) ≡ 1
+held-first zero T h = omega arith
+held-first (suc n) T h = omega arith
+
+base-size : (limit : ℕ) → baseOf limit + sizeOf limit ≡ 4096
+base-size zero = refl
+base-size (suc n) = refl
+
+-- ---- bits that fit level 1
+
+module _ (P : Params) where
+  pub chunk : (count T start : ℕ) (ws bytes : List ℕ) (up : List (List ℕ)) → Below (2 ^ 64) ws → length ws ≡ 64
+      → heldBits (sizeOf (P .limit)) T + count ≤ sizeOf (P .limit) → start + count ≤ 8 * length bytes
+      → feedBits P T (take count (drop start (bitsOf 8 bytes))) (ws ∷ up)
+      ≡ made (filled ws (baseOf (P .limit) + heldBits (sizeOf (P .limit)) T) bytes start count ∷ up) []
+  chunk count T start ws bytes up bw lw h g = by (P .limit) refl h
+    where
+      by : (limit : ℕ) → P .limit ≡ limit → heldBits (sizeOf limit) T + count ≤ sizeOf limit
+          → feedBits P T (take count (drop start (bitsOf 8 bytes))) (ws ∷ up) ≡ made (filled ws (baseOf limit + heldBits (sizeOf limit) T) bytes start count ∷ up) []
+      by zero e h = fill-sequential P T ws up bytes start count e bw lw h g
+      by (suc n) e h =
+          let z : 0 + heldBits blockBits T ≡ heldBits blockBits T = omega arith in
+          fill-parallel P n T ws up bytes start count e bw lw h g ∙ ap (λ (x : ℕ). made (filled ws x bytes start count ∷ up) []) (sym z)
+
+-- ---- a full level 1
+
+abbrev pub firstOf : List (List ℕ) → List ℕ
+firstOf [] = []
+firstOf (ws ∷ up) = ws
+
+abbrev pub restOf : List (List ℕ) → List (List ℕ)
+restOf [] = []
+restOf (ws ∷ up) = up
+
+-- the bits of a piece, one and the rest
+bits-cons : (bytes : List ℕ) (start c : ℕ) → start < 8 * length bytes
+    → take (suc c) (drop start (bitsOf 8 bytes)) ≡ getD (bitsOf 8 bytes) start false ∷ take c (drop (suc start) (bitsOf 8 bytes))
+bits-cons bytes start c h = rw (drop-cons (bitsOf 8 bytes) start false (rw length-bitsOf (omega arith)))
+
+-- a bit set in words is a bit copied into them
+bit-filled : (ws : List ℕ) (h : ℕ) (bytes : List ℕ) (start : ℕ) → Below (2 ^ 64) ws → h < 64 * length ws → start < 8 * length bytes
+    → withBit h (getD (bitsOf 8 bytes) start false) ws ≡ filled ws h bytes start 1
+bit-filled ws h bytes start b hw hs = rw (bits-cons bytes start 0 hs) at (withBits-filled ws h bytes start 1 b (omega arith) (omega arith))
+
+first-size : (P : Params) (limit T : ℕ) (ws : List ℕ) (up : List (List ℕ)) → length (firstOf (flushed P limit T (ws ∷ up) .levels)) ≡ 64
+first-size P zero T ws up = length-chained P (node P 1 (doneBlocks sequentialBits T) 0 0 ws)
+first-size P (suc n) T ws up = length-empty
+
+first-below : (P : Params) (limit T : ℕ) (ws : List ℕ) (up : List (List ℕ)) → Below (2 ^ 64) (firstOf (flushed P limit T (ws ∷ up) .levels))
+unfolding outWords emptyLevel
+first-below P zero T ws up =
+    let m : Node = node P 1 (doneBlocks sequentialBits T) 0 0 ws in
+    below-append (numbers-below 64 16 (output (P .rounds) m)) (below-zeros (2 ^ 64) 48 (omega arith))
+first-below P (suc n) T ws up = below-zeros (2 ^ 64) 64 (omega arith)
+
+module _ (P : Params) where
+  bit-full : (T : ℕ) (b : Bool) (ws : List ℕ) (up : List (List ℕ)) → heldBits (sizeOf (P .limit)) T ≡ sizeOf (P .limit)
+      → feedBit P (P .limit) T b (ws ∷ up)
+      ≡ (let F : Made = flushed P (P .limit) T (ws ∷ up) in made (withBit (baseOf (P .limit)) b (firstOf (F .levels)) ∷ restOf (F .levels)) (F .nodes))
+  bit-full T b ws up h = by (P .limit) h
+    where
+      by : (limit : ℕ) → heldBits (sizeOf limit) T ≡ sizeOf limit
+          → feedBit P limit T b (ws ∷ up) ≡ (let F : Made = flushed P limit T (ws ∷ up) in made (withBit (baseOf limit) b (firstOf (F .levels)) ∷ restOf (F .levels)) (F .nodes))
+      by zero h = Machine.feed-seq-yes P T b ws up (eq-eqb (heldBits sequentialBits T) sequentialBits h)
+      by (suc n) h = Machine.feed-par-yes P n T b ws up (eq-eqb (heldBits blockBits T) blockBits h)
+
+  -- bits that come to a full level 1 and fit the next block
+  pub full-chunk : (count T start : ℕ) (ws bytes : List ℕ) (up : List (List ℕ)) → heldBits (sizeOf (P .limit)) T ≡ sizeOf (P .limit) → 1 ≤ count
+      → count ≤ sizeOf (P .limit) → start + count ≤ 8 * length bytes
+      → feedBits P T (take count (drop start (bitsOf 8 bytes))) (ws ∷ up)
+      ≡ (let F : Made = flushed P (P .limit) T (ws ∷ up) in made (filled (firstOf (F .levels)) (baseOf (P .limit)) bytes start count ∷ restOf (F .levels)) (F .nodes))
+  full-chunk zero T start ws bytes up e l h g = absurd (omega arith)
+  full-chunk (suc c) T start ws bytes up e l h g =
+      let F : Made = flushed P (P .limit) T (ws ∷ up) in
+      let W : List ℕ = firstOf (F .levels) in
+      let S : ℕ = sizeOf (P .limit) in
+      let at : ℕ = baseOf (P .limit) in
+      let b : Bool = getD (bitsOf 8 bytes) start false in
+      let bs : List Bool = take c (drop (suc start) (bitsOf 8 bytes)) in
+      let room : at + S ≡ 4096 = base-size (P .limit) in
+      let lw : length W ≡ 64 = first-size P (P .limit) T ws up in
+      let one : withBit at b W ≡ filled W at bytes start 1 = bit-filled W at bytes start (first-below P (P .limit) T ws up) (omega arith) (omega arith) in
+      let full : feedBit P (P .limit) T b (ws ∷ up) ≡ made (filled W at bytes start 1 ∷ restOf (F .levels)) (F .nodes) =
+      bit-full T b ws up e ∙ ap (λ (x : List ℕ). made (x ∷ restOf (F .levels)) (F .nodes)) one in
+      let next : heldBits S (suc T) ≡ 1 = held-first (P .limit) T e in
+      let q : suc start ≡ start + 1 = omega arith in
+      let p : at + heldBits S (suc T) ≡ at + 1 = omega arith in
+      let t : 1 + c ≡ suc c = omega arith in
+      let lf : length (filled W at bytes start 1) ≡ 64 = length-filled W at bytes start 1 ∙ lw in
+      let rest = chunk P c (suc T) (suc start) (filled W at bytes start 1) bytes (restOf (F .levels)) (filled-below W at bytes start 1) lf (omega arith) (omega arith) in
+      let more : filled (filled W at bytes start 1) (at + heldBits S (suc T)) bytes (suc start) c ≡ filled W at bytes start (suc c) =
+      rw (p, q) (filled-more W at bytes start 1 c (omega arith) (omega arith)) ∙ ap (filled W at bytes start) t in
+      ap (λ (x : List Bool). feedBits P T x (ws ∷ up)) (bits-cons bytes start c (omega arith))
+      ∙ Machine.feedBits-more P T b bs (ws ∷ up)
+      ∙ rw (full, rest, more) (ap (made (filled W at bytes start (suc c) ∷ restOf (F .levels))) (append-nil (F .nodes)))
+
+-- ---- as the code does it
+
+-- the bits that level 1 takes before a node is made, or after it if it is full
+abbrev pub roomOf : ℕ → ℕ → ℕ
+roomOf limit T = elim (ltb (heldBits (sizeOf limit) T) (sizeOf limit)) [ true ↦ sizeOf limit - heldBits (sizeOf limit) T | false ↦ sizeOf limit ]
+
+pub room-free : (limit T : ℕ) → heldBits (sizeOf limit) T < sizeOf limit → roomOf limit T ≡ sizeOf limit - heldBits (sizeOf limit) T
+room-free limit T h = rw (lt-ltb (heldBits (sizeOf limit) T) (sizeOf limit) h, roomOf)
+
+pub room-full : (limit T : ℕ) → sizeOf limit ≤ heldBits (sizeOf limit) T → roomOf limit T ≡ sizeOf limit
+room-full limit T h = rw (le-ltb (heldBits (sizeOf limit) T) (sizeOf limit) h, roomOf)
+
+room-by : (limit T : ℕ) (b : Bool) → ltb (heldBits (sizeOf limit) T) (sizeOf limit) ≡ b → 1 ≤ roomOf limit T
+room-by limit T true e = rw (room-free limit T (ltb-true (heldBits (sizeOf limit) T) (sizeOf limit) e)) (omega (arith, ltb-true (heldBits (sizeOf limit) T) (sizeOf limit) e))
+room-by zero T false e = rw (room-full zero T (ltb-false (heldBits (sizeOf zero) T) (sizeOf zero) e)) (omega arith)
+room-by (suc n) T false e = rw (room-full (suc n) T (ltb-false (heldBits (sizeOf (suc n)) T) (sizeOf (suc n)) e)) (omega arith)
+
+pub room-some : (limit T : ℕ) → 1 ≤ roomOf limit T
+room-some limit T = room-by limit T (ltb (heldBits (sizeOf limit) T) (sizeOf limit)) refl
+
+pub size-none : (limit : ℕ) → limit < 1 → sizeOf limit ≡ sequentialBits
+size-none zero h = refl
+size-none (suc n) h = absurd (omega arith)
+
+pub size-some : (limit : ℕ) → 1 ≤ limit → sizeOf limit ≡ blockBits
+size-some zero h = absurd (omega arith)
+size-some (suc n) h = refl
+
+pub size-pos : (limit : ℕ) → (0 < sizeOf limit) × (sizeOf limit ≤ 4096)
+size-pos zero = (omega arith, omega arith)
+size-pos (suc n) = (omega arith, omega arith)
+
+-- places of bits in level 1: size bits in all, held of them filled, count more
+pub room-place : {held size count : ℕ} → held < size → size ≤ 4096 → count ≤ size - held → ((4096 - size) + held) + count ≤ 4096
+room-place h g f = omega arith
+
+pub base-place : {size count : ℕ} → size ≤ 4096 → count ≤ size → (4096 - size) + count ≤ 4096
+base-place h g = omega arith
+
+-- bits of a piece: done of them are fed, count come next, all in all
+pub below-left : {done all count : ℕ} → done < all → count ≤ all - done → done + count ≤ all
+below-left h g = omega arith
+
+pub some-less : {room all done count : ℕ} → min room (all - done) ≤ count → 1 ≤ room → done < all → 1 ≤ count
+some-less h g f = omega arith
+
+pub le-of : {a b c : ℕ} → a ≤ b → b ≤ c → a ≤ c
+le-of h g = omega arith
+
+pub less-left : {done all count : ℕ} → done < all → 1 ≤ count → all - (done + count) < all - done
+less-left h g = omega arith
+
+pub all-done : {done all : ℕ} → done ≤ all → all ≤ done → done ≡ all
+all-done h g = omega arith
+
+pub fits-sum : (total : ℕ) {all done : ℕ} → total + all < 2 ^ 64 → done < all → Fits w64 (total + done)
+fits-sum total h g = record { fits = omega arith }
+
+pub fits-le : {a b : ℕ} → a ≤ b → Fits w64 b → Fits w64 a
+fits-le h g = record { fits = omega (arith, g .fits) }

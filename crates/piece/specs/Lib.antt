@@ -1,0 +1,4 @@
+pub mod ChunkLaws
+pub mod FeedSteps
+pub mod PieceLaws
+pub mod Widths

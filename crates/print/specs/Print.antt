@@ -1,0 +1,29 @@
+-- What the program prints. Document 01, "Program": "It prints a line "U V" of 16 digits each for every node, then the digest,
+-- each line ended by byte 10". A text is a list of bytes.
+-- Assumes nothing.
+use mathlib.Core.List.{List, [], _∷_, _++_, map}
+use Prim.Native.Nat.{ℕ, zero, suc}
+use lib.ListN.{drop, getD}
+use Rattle.lists.specs.Concat.{concat}
+use Rattle.digits.specs.Digits.{digits, line}
+
+-- "U V", with a space (byte 32) between them
+unfoldable pub nodeLine : ℕ → ℕ → List ℕ
+nodeLine u v = line (digits 16 u ++ (32 ∷ digits 16 v))
+
+-- the bytes of a node's line
+abbrev pub lineBytes : ℕ
+lineBytes = 34
+
+-- the lines of the first n nodes of a log, which has U and V of each
+unfoldable pub nodeLines : ℕ → List ℕ → List ℕ
+nodeLines zero log = []
+nodeLines (suc n) log = nodeLine (getD log 0 0) (getD log 1 0) ++ nodeLines n (drop 2 log)
+
+-- two digits a byte
+abbrev pub byteDigits : List ℕ → List ℕ
+byteDigits bytes = concat (map (digits 2) bytes)
+
+-- the line of a digest
+unfoldable pub digestLine : List ℕ → List ℕ
+digestLine digest = line (byteDigits digest)

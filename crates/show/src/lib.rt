@@ -1,0 +1,47 @@
+// What the test programs print of a call: bytes in hexadecimal, the number and the count that it answered, and whether lent
+// words are as before.
+use libc::STDOUT_FILENO;
+
+fn wide(b: u8) -> u64 {
+    b as u64
+}
+
+// Writes bytes in hexadecimal.
+pub fn bytes(bytes: &[u8]) {
+    let mut i = 0;
+    while i < bytes.len() {
+        io::print_hex(STDOUT_FILENO, wide(bytes[i]), 2);
+        i += 1;
+    }
+}
+
+// Writes the number and the count of an answer.
+pub fn answer(number: u64, count: u64) {
+    io::print_decimal(STDOUT_FILENO, number);
+    io::write_all(STDOUT_FILENO, b" ");
+    io::print_decimal(STDOUT_FILENO, count);
+}
+
+// Whether words are those of a copy, from a place on.
+fn is_same(words: &[u64], before: &[u64], from: usize) -> bool {
+    let mut i = from;
+    while i < words.len() {
+        if before.len() <= i {
+            return false;
+        }
+        if words[i] != before[i] {
+            return false;
+        }
+        i += 1;
+    }
+    true
+}
+
+// Writes whether words are those of a copy, from a place on.
+pub fn same(words: &[u64], before: &[u64], from: usize) {
+    if is_same(words, before, from) {
+        io::write_all(STDOUT_FILENO, b" same");
+        return;
+    }
+    io::write_all(STDOUT_FILENO, b" changed");
+}

@@ -1,0 +1,39 @@
+-- `sound::count::open_count` meets its contract. Assumes nothing.
+use Prim.Native.Nat.{_-_}
+use mathlib.Core.Path.{sym, _∙_}
+use Rattle.sound.specs.CountLaws.{openCount-none, openCount-more, openAbove-le}
+use native.Mathlib.Omega.{arith}
+use Rattle.sound.proofs.count.open_count.Statement.{statement}
+use Rattle.sound.proofs.count.open_count.Tie as tie
+
+done-blocks-requires : tie.Need-done-blocks-requires
+done-blocks-requires c κs = omega arith
+
+returns : tie.Need-returns
+returns c = c .done-blocks .ensures ∙ sym (openCount-none _ _ (c .before .if1 .taken))
+
+done-blocks-requires-2 : tie.Need-done-blocks-requires-2
+done-blocks-requires-2 c κs = omega arith
+
+open-above-requires : tie.Need-open-above-requires
+open-above-requires c κs = omega arith
+
+add-result : tie.Need-add-result
+add-result c =
+    let done-blocks = c .before in
+    let start = done-blocks .before .before in
+    omega (arith, done-blocks .done-blocks2 .ensures, c .open-above .ensures, openAbove-le (start .args .limit - 1) (done-blocks .done-blocks2 .result))
+
+returns-2 : tie.Need-returns-2
+returns-2 c = rw (openCount-more _ _ (c .before .before .if1 .left), ← c .before .done-blocks2 .ensures, ← c .open-above .ensures)
+
+pub open-count-spec : {M : Type 1} → statement M
+open-count-spec =
+    tie.close
+    (tie.spec
+    done-blocks-requires
+    returns
+    done-blocks-requires-2
+    open-above-requires
+    add-result
+    returns-2)

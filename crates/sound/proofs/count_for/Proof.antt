@@ -1,0 +1,21 @@
+-- `sound::count_for` meets its contract. Assumes nothing.
+use native.Mathlib.Omega.{arith}
+use mathlib.Core.Path.{sym, _∙_}
+use Rattle.sound.specs.SoundLaws.{count-ended, count-open}
+use Rattle.sound.proofs.count_for.Statement.{statement}
+use Rattle.sound.proofs.count_for.Tie as tie
+
+tree-nodes-requires : tie.Need-tree-nodes-requires
+tree-nodes-requires c κs = omega arith
+
+returns : tie.Need-returns
+returns c = c .tree-nodes .ensures ∙ sym (count-ended (c .before .before .args .phase) (c .before .before .args .limit) (c .before .before .args .total) (c .before .if1 .taken))
+
+open-count-requires : tie.Need-open-count-requires
+open-count-requires c κs = omega arith
+
+returns-2 : tie.Need-returns-2
+returns-2 c = c .open-count .ensures ∙ sym (count-open (c .before .before .args .phase) (c .before .before .args .limit) (c .before .before .args .total) (c .before .if1 .left))
+
+pub count-for-spec : {M : Type 1} → statement M
+count-for-spec = tie.close (tie.spec tree-nodes-requires returns open-count-requires returns-2)

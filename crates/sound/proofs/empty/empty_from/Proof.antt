@@ -1,0 +1,53 @@
+-- `sound::empty::empty_from` meets its contract. Assumes nothing.
+use mathlib.Core.Path.{sym, _∙_}
+use Prim.Native.Nat.{_/_}
+use Rattle.sound.specs.EmptyLaws.{empty-end, empty-not, empty-rest}
+use native.Mathlib.Omega.{arith}
+use Rattle.sound.proofs.empty.empty_from.Statement.{statement}
+use Rattle.sound.proofs.empty.empty_from.Tie as tie
+
+returns : tie.Need-returns
+returns c = sym (empty-end (c .before .before .args .from) (c .before .before .args .part .now) (c .if1 .taken))
+
+mul-low : tie.Need-mul-low
+mul-low c = omega arith
+
+shared-slice-read-low : tie.Need-shared-slice-read-low
+shared-slice-read-low c = omega arith
+
+shl-low : tie.Need-shl-low
+shl-low c = omega arith
+
+returns-2 : tie.Need-returns-2
+returns-2 c =
+    let test = c .before .before in
+    let start = test .before .before in
+    let from = start .args .from in
+    sym (empty-not from (start .args .part .now) (test .if1 .left) (omega (arith, c .before .shared-slice-known2 .given (from / 64))) (c .if2 .taken))
+
+add-or-from : tie.Need-add-or-from
+add-or-from c = omega arith
+
+or-from-requires : tie.Need-or-from-requires
+or-from-requires c κs = omega arith
+
+returns-3 : tie.Need-returns-3
+returns-3 c =
+    let known = c .before .before in
+    let test = known .before in
+    let start = test .before .before in
+    let from = start .args .from in
+    c .or-from .ensures ∙ sym (empty-rest from (start .args .part .now) (test .if1 .left) (omega (arith, known .shared-slice-known2 .given (from / 64))) (c .before .if2 .left))
+
+pub empty-from-spec : {M : Type 1} → statement M
+empty-from-spec =
+    tie.close
+    (tie.spec
+    returns
+    mul-low
+    shared-slice-read-low
+    shl-low
+    returns-2
+    add-or-from
+    or-from-requires
+    returns-3)

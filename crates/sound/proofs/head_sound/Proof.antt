@@ -1,0 +1,89 @@
+-- `sound::head_sound` meets its contract. Assumes nothing.
+use native.Mathlib.Omega.{arith}
+use Rattle.node.specs.declared.Params.{Params}
+use Rattle.tree.specs.Refusals.{refusedParams}
+use Rattle.node.specs.Words.{sized}
+use mathlib.Core.Path.{sym, ap, _∙_}
+use lib.ListN.{getD}
+use borrow.Author.Tests.{not-true, not-false, eq-eqb, ne-eqb}
+use Rattle.sound.specs.SoundLaws.{refused-words, in-range-words, head-phase, head-params, head-more}
+use Rattle.sound.proofs.head_sound.Statement.{statement}
+use Rattle.sound.proofs.head_sound.Tie as tie
+
+shared-slice-read-is-phase : tie.Need-shared-slice-read-is-phase
+shared-slice-read-is-phase c = omega arith
+
+is-phase-requires : tie.Need-is-phase-requires
+is-phase-requires c κs = omega arith
+
+returns : tie.Need-returns
+returns c =
+    let is-phase = c .before in
+    let start = is-phase .before .before .before in
+    let area = start .args .area .now in
+    sym (head-phase area (sym (is-phase .is-phase .ensures) ∙ not-true (is-phase .is-phase .result) (c .if1 .taken)))
+
+shared-slice-read-new : tie.Need-shared-slice-read-new
+shared-slice-read-new c = omega arith
+
+shared-slice-read-new-2 : tie.Need-shared-slice-read-new-2
+shared-slice-read-new-2 c = omega arith
+
+shared-slice-read-new-3 : tie.Need-shared-slice-read-new-3
+shared-slice-read-new-3 c = omega arith
+
+shared-slice-read-new-4 : tie.Need-shared-slice-read-new-4
+shared-slice-read-new-4 c = omega arith
+
+new-requires : tie.Need-new-requires
+new-requires c κs = omega arith
+
+params-number-requires : tie.Need-params-number-requires
+params-number-requires c κs = omega arith
+
+returns-2 : tie.Need-returns-2
+returns-2 c =
+    let number = c .before in
+    let new = number .before in
+    let phase = new .before .before .before .before .before in
+    let area = phase .before .before .before .before .args .area .now in
+    let p = sym (phase .before .is-phase .ensures) ∙ not-false (phase .before .is-phase .result) (phase .if1 .left) in
+    let q = refused-words area 0 ∙ ap (λ (x : Params). refusedParams (sized (x .key) (x .d) (x .limit) (x .rounds)) 0) (sym (new .new .ensures)) ∙ sym (number .params-number .ensures) in
+    sym (head-params area p (ne-eqb _ 0 (λ z. c .if2 .taken (sym q ∙ z))))
+
+rest-sound-requires : tie.Need-rest-sound-requires
+rest-sound-requires c κs =
+    let number = c .before in
+    let new = number .before in
+    let start = new .before .before .before .before .before .before .before .before .before in
+    let area = start .args .area .now in
+    let q = ap (λ (x : Params). refusedParams (sized (x .key) (x .d) (x .limit) (x .rounds)) 0) (sym (new .new .ensures)) ∙ sym (number .params-number .ensures) ∙ c .if2 .left in
+    let r = in-range-words (getD area 2 0) (getD area 3 0) (getD area 4 0) (getD area 5 0) q in
+    (start .pre, r .keyHigh, r .limitHigh)
+
+returns-3 : tie.Need-returns-3
+returns-3 c =
+    let number = c .before .before in
+    let new = number .before in
+    let phase = new .before .before .before .before .before in
+    let area = phase .before .before .before .before .args .area .now in
+    let p = sym (phase .before .is-phase .ensures) ∙ not-false (phase .before .is-phase .result) (phase .if1 .left) in
+    let q = refused-words area 0 ∙ ap (λ (x : Params). refusedParams (sized (x .key) (x .d) (x .limit) (x .rounds)) 0) (sym (new .new .ensures)) ∙ sym (number .params-number .ensures) ∙ c .before .if2 .left in
+    c .rest-sound .ensures ∙ sym (head-more area p (eq-eqb _ 0 q))
+
+pub head-sound-spec : {M : Type 1} → statement M
+head-sound-spec =
+    tie.close
+    (tie.spec
+    shared-slice-read-is-phase
+    is-phase-requires
+    returns
+    shared-slice-read-new
+    shared-slice-read-new-2
+    shared-slice-read-new-3
+    shared-slice-read-new-4
+    new-requires
+    params-number-requires
+    returns-2
+    rest-sound-requires
+    returns-3)

@@ -1,0 +1,4 @@
+pub mod CountLaws
+pub mod EmptyLaws
+pub mod LevelTests
+pub mod SoundLaws

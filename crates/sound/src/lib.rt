@@ -1,0 +1,108 @@
+// Whether an area is sound. Each word is read once; the words that must be zero are joined by `|`, so that the loop is quick.
+ghost use mathlib.Core.Path.{_≡_};
+ghost use mathlib.Core.Bool.{_||_};
+ghost use Prim.Native.Nat.{_≤_};
+ghost use lib.Dec.{eqb};
+ghost use lib.ListN.{length, getD};
+ghost use Rattle.lists.specs.Both.{both};
+ghost use Rattle.area.specs.Area.{areaWords, countFor, soundKey, soundCount, soundLast, sound};
+ghost use Rattle.sound.specs.SoundLaws.{soundHead};
+use node::Block;
+use node::Params;
+
+pub mod count; // count.rt: how many blocks are compressed, and how many nodes were made
+mod empty; // empty.rt: whether no bit of words is set
+mod levels; // levels.rt: whether the levels are sound
+
+// The area of a stream: words that the caller lends.
+pub struct Area {
+    pub words: usize,
+}
+
+impl Area {
+    // The words before the levels.
+    pub const HEAD: usize = 16;
+
+    // The words of a level.
+    pub const LEVEL: usize = 64;
+
+    // The words of an output.
+    pub const OUTPUT: usize = Block::OUTPUT_BITS as usize / 64;
+
+    // The first word past level 1.
+    pub const FIRST_END: usize = Area::HEAD + Area::LEVEL;
+
+    // The words of an area.
+    pub const WORDS: usize = Area::HEAD + Params::LEVELS as usize * Area::LEVEL;
+
+    // The size of an area.
+    pub fn new() -> Self
+        ensures { λ r. ⌜ r .words ≡ areaWords ⌝ }
+    {
+        Self { words: Area::WORDS }
+    }
+}
+
+// Whether a phase is 1 or 2: open or ended.
+fn is_phase(phase: u64) -> bool
+    ensures { λ r. ⌜ r ≡ (eqb phase 1 || eqb phase 2) ⌝ }
+{
+    if phase == 1 {
+        return true;
+    }
+    phase == 2
+}
+
+// The compressions that a phase, a height limit and a total give.
+fn count_for(phase: u64, limit: u64, total: u64) -> u64
+    requires { ⌜ limit ≤ 64 ⌝ }
+    ensures { λ r. ⌜ r ≡ countFor phase limit total ⌝ }
+{
+    if phase == 2 {
+        return node::count::tree_nodes(limit, total);
+    }
+    count::open_count(limit, total)
+}
+
+// Whether unused key bytes are zero, word 14 is right and word 15 is 0.
+fn rest_sound(area: &[u64]) -> bool
+    requires { ⌜ (areaWords ≤ length (now area)) × (getD (now area) 2 0 ≤ 64) × (getD (now area) 4 0 ≤ 64) ⌝ }
+    ensures { λ r. ⌜ r ≡ both (soundKey (now (area .entry))) (both (soundCount (now (area .entry))) (soundLast (now (area .entry)))) ⌝ }
+{
+    let from = 8 * area[2] as usize;
+    if !empty::empty_from(&area[6..14], from) {
+        return false;
+    }
+    let count = count_for(area[0], area[4], area[1]);
+    if area[14] != count {
+        return false;
+    }
+    area[15] == 0
+}
+
+// Whether the words before the levels are sound.
+fn head_sound(area: &[u64]) -> bool
+    requires { ⌜ areaWords ≤ length (now area) ⌝ }
+    ensures { λ r. ⌜ r ≡ soundHead (now (area .entry)) ⌝ }
+{
+    if !is_phase(area[0]) {
+        return false;
+    }
+    let params = Params::new(area[2], area[3], area[4], area[5]);
+    let number = node::number::params_number(params);
+    if number != 0 {
+        return false;
+    }
+    rest_sound(area)
+}
+
+// Whether an area that is long enough is sound.
+pub fn is_sound(area: &[u64]) -> bool
+    requires { ⌜ areaWords ≤ length (now area) ⌝ }
+    ensures { λ r. ⌜ r ≡ sound (now (area .entry)) ⌝ }
+{
+    if !head_sound(area) {
+        return false;
+    }
+    levels::levels_sound(area)
+}

@@ -1,0 +1,96 @@
+-- The lines of an area's levels, one level after the other, as the code goes through them.
+-- Assumes nothing.
+use mathlib.Core.Path.{_≡_, refl, sym, ap, _∙_}
+use mathlib.Core.Bool.{Bool, true, false}
+use mathlib.Core.List.{List, [], _∷_, _++_, append-assoc}
+use Prim.Native.Nat.{ℕ, suc, _+_, _-_, _*_, _≤_, _<_}
+use native.Mathlib.Numerals.{add-one}
+use native.Mathlib.Omega.{arith}
+use lib.ListN.{length, drop, getD, replicate, length-append, drop-of-length-le}
+use lib.Seq.{drop-cons}
+use Rattle.tree.specs.Tree.{mostLevels}
+use Rattle.area.specs.Area.{headWords, blockWords, areaWords, phaseOf, totalOf, levelWords, levelsFrom, levelsOf}
+use Rattle.text.specs.Text.{line1, line2, levelLine, heldOf, levelLines, textOf, line1Bytes, line2Bytes, levelBytes, speltArea, readable}
+use Rattle.text.specs.LayoutLaws.{length-levelWords}
+use Rattle.text.specs.LengthLaws.{length-line1, length-line2, length-levelLine, length-heldLevels, text-most}
+
+-- whether a level of an area has a line
+unfoldable pub hasLineAt : List ℕ → ℕ → Bool
+hasLineAt area level = getD (heldOf area) (level - 1) false
+
+-- the lines of the levels above the first k
+unfoldable pub linesAbove : List ℕ → ℕ → List ℕ
+linesAbove area k = levelLines (suc k) (drop k (heldOf area)) (levelsFrom area (mostLevels - k) (suc k))
+
+-- the words of levels that hold nothing
+unfoldable pub zeroLevels : List ℕ
+zeroLevels = replicate (mostLevels * blockWords) 0
+
+-- whether a text is as long as the text of the area that it spells; if so, that area is at hand
+pub record Spelt (r : Bool) (text area : List ℕ) : Type 0 where
+  pub yes : r ≡ true → (area ≡ speltArea text) × (length text ≡ length (textOf area))
+  pub no : r ≡ false → readable text ≡ false
+
+-- ---- one level more
+
+length-held : (area : List ℕ) → length (heldOf area) ≡ mostLevels
+length-held area = length-heldLevels (phaseOf area) (getD area 4 0) (totalOf area)
+
+-- the line of a level, if it has one
+lineOf : Bool → ℕ → List ℕ → List ℕ
+lineOf true level ws = levelLine level ws
+lineOf false level ws = []
+
+above-next : (area : List ℕ) (k : ℕ) → k < mostLevels
+    → linesAbove area k ≡ lineOf (getD (heldOf area) k false) (suc k) (levelWords area (suc k)) ++ linesAbove area (suc k)
+unfolding linesAbove lineOf
+above-next area k h =
+    let e : mostLevels - k ≡ suc (mostLevels - suc k) = omega arith in
+    rw (e, drop-cons (heldOf area) k false (omega (arith, length-held area))) (by (getD (heldOf area) k false))
+  where
+    by : (b : Bool) → levelLines (suc k) (b ∷ drop (suc k) (heldOf area)) (levelWords area (suc k) ∷ levelsFrom area (mostLevels - suc k) (suc (suc k)))
+        ≡ lineOf b (suc k) (levelWords area (suc k)) ++ levelLines (suc (suc k)) (drop (suc k) (heldOf area)) (levelsFrom area (mostLevels - suc k) (suc (suc k)))
+    by true = refl
+    by false = refl
+
+pub held-at : (area : List ℕ) (k : ℕ) → hasLineAt area (k + 1) ≡ getD (heldOf area) k false
+unfolding hasLineAt
+held-at area k = let e : k + 1 - 1 ≡ k = omega arith in ap (λ (i : ℕ). getD (heldOf area) i false) e
+
+module _ (area : List ℕ) (k : ℕ) (h : k < mostLevels) where
+  above-by : (b : Bool) → hasLineAt area (k + 1) ≡ b → linesAbove area k ≡ lineOf b (k + 1) (levelWords area (k + 1)) ++ linesAbove area (k + 1)
+  above-by b e =
+      above-next area k h ∙ ap (λ (t : Bool). lineOf t (suc k) (levelWords area (suc k)) ++ linesAbove area (suc k)) (sym (held-at area k) ∙ e)
+      ∙ ap (λ (i : ℕ). lineOf b i (levelWords area i) ++ linesAbove area i) (sym (add-one k))
+
+  pub above-yes : hasLineAt area (k + 1) ≡ true → linesAbove area k ≡ levelLine (k + 1) (levelWords area (k + 1)) ++ linesAbove area (k + 1)
+  unfolding lineOf
+  above-yes e = above-by true e
+
+  pub above-no : hasLineAt area (k + 1) ≡ false → linesAbove area k ≡ linesAbove area (k + 1)
+  unfolding lineOf
+  above-no e = above-by false e
+
+  pub length-yes : areaWords ≤ length area → hasLineAt area (k + 1) ≡ true → length (linesAbove area k) ≡ levelBytes + length (linesAbove area (k + 1))
+  length-yes l e =
+      ap length (above-yes e)
+      ∙ rw (length-append, length-levelLine (k + 1) (levelWords area (k + 1)) (length-levelWords area (k + 1) l (omega arith)))
+
+pub above-all : (area : List ℕ) (k : ℕ) → mostLevels ≤ k → linesAbove area k ≡ []
+unfolding linesAbove
+above-all area k h = rw (drop-of-length-le (heldOf area) {i = k} (omega (arith, length-held area)))
+
+-- ---- the whole text
+
+pub text-lines : (area : List ℕ) → textOf area ≡ (line1 area ++ line2 area) ++ linesAbove area 0
+unfolding textOf linesAbove levelsOf
+text-lines area = sym (append-assoc (line1 area) (line2 area) (levelLines 1 (heldOf area) (levelsOf area)))
+
+pub length-head : (area : List ℕ) → headWords ≤ length area → length (line1 area ++ line2 area) ≡ line1Bytes + line2Bytes
+length-head area h = rw (length-append (line1 area) (line2 area), length-line1 area, length-line2 area h)
+
+pub length-text : (area : List ℕ) → headWords ≤ length area → length (textOf area) ≡ line1Bytes + line2Bytes + length (linesAbove area 0)
+length-text area h = ap length (text-lines area) ∙ rw (length-append (line1 area ++ line2 area) (linesAbove area 0), length-head area h)
+
+pub above-most : (area : List ℕ) → areaWords ≤ length area → length (linesAbove area 0) ≤ mostLevels * levelBytes
+above-most area h = omega (arith, length-text area (omega arith), text-most area h)
