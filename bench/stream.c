@@ -38,7 +38,7 @@ static int time_pieces(const uint8_t *message)
     unsigned k;
     int bad = 0, differ;
 
-    for (k = 0; k < 3; k++) {
+    for (k = 0; k < 12; k++) {
         double t0 = seconds(), t1, t2;
         bad |= md6_hash(message, MESSAGE, 8 * (uint64_t)MESSAGE, NULL, 0, 256, 64, rounds, whole, sizeof whole) != 0;
         t1 = seconds();
