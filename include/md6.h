@@ -45,8 +45,8 @@ uint64_t md6_hash(const uint8_t *message, size_t message_bytes, uint64_t bits,
 /* The default rounds for a digest of d bits, 40 + d/4 rounded down, as count; or number 1 if d is not 1 to 512. */
 md6_answer md6_default_rounds(uint64_t d);
 
-/* Opens a stream in an area of at least MD6_AREA_WORDS words, whatever it held; words past those are never touched, by no
- * call. Refuses, the first that holds:
+/* Opens a stream in an area of at least MD6_AREA_WORDS words, whatever it held; no call reads or
+ * writes the words past those. Refuses, the first that holds:
  *   7  the area has fewer words
  *   1  d is not 1 to 512
  *   2  the key has over 64 bytes

@@ -1,7 +1,6 @@
--- Which calls are accepted: on an area that stands for a message, and with the told log words on any area.
--- Assumes nothing.
+-- Laws: which calls are accepted: on an area that stands for a message, and with the told log words on any area.
 use mathlib.Core.Path.{_≡_, refl, ap}
-use mathlib.Core.Bool.{Bool, true, false, not}
+use mathlib.Core.Bool.{Bool, true, false, not, cond}
 use mathlib.Core.List.{List, [], _++_}
 use Prim.Native.Nat.{ℕ, zero, suc, _+_, _-_, _*_, _^_, _≤_, _<_}
 use native.Mathlib.Nat.{zero-add}
@@ -10,7 +9,7 @@ use borrow.Author.Tests.{ltb-true, ltb-false, le-ltb, le-leb}
 use lib.Dec.{eqb, leb, ltb}
 use lib.ListN.{length, length-append}
 use Rattle.tree.specs.Tree.{Params, Node, mostLevels, order, digestBytes}
-use Rattle.tree.specs.Refusals.{pieceBits, orElse, refusedBits, refusedOutput}
+use Rattle.tree.specs.Refusals.{pieceBits, refusedBits, refusedOutput}
 use Rattle.tree.specs.Sizes.{treeNodes}
 use Rattle.area.specs.Area.{areaWords, phaseOf, totalOf, paramsOf, levelWords, levelsFrom, levelsOf, emptyLevels, openCount, sound}
 use Rattle.area.specs.Calls.{feedBits, refusedTotal, refusedLog, fedBits, feedNumber, closedBy, endNumber, shown, levelOf, logWordsOf}
@@ -18,7 +17,7 @@ use Rattle.area.specs.Marks.{allNodes, settled}
 use Rattle.area.specs.Machine
 use Rattle.area.specs.Counts
 use Rattle.tree.specs.RefusalLaws.{length-pieceBits}
-use Rattle.lists.specs.Both.{both-true}
+use Rattle.lists.specs.And.{and-intro}
 use Rattle.area.specs.Sound.{state-size}
 use Rattle.area.specs.Stands.{state-settled, state-all, Stands, Closed, stands-sound, closed-sound}
 
@@ -34,11 +33,7 @@ module _ (P : Params) (M : List Bool) (short : length M < 2 ^ 64) where
       let c = Counts.feedBits-count P 0 M emptyLevels (state-size P (P .limit) [] emptyLevels [] (Machine.state-open P (P .limit))) (omega arith) in
       let z : openCount (P .limit) (0 + length M) ≡ openCount (P .limit) (length M) = ap (openCount (P .limit)) (zero-add (length M)) in
       let s = ap length (state-settled P M (feedBits P 0 M emptyLevels .levels) (feedBits P 0 M emptyLevels .nodes) short fed) in
-      omega (arith, c, z, s, none (P .limit))
-    where
-      none : (limit : ℕ) → openCount limit 0 ≡ 0
-      none zero = refl
-      none (suc n) = omega (arith, Counts.openAbove-none n)
+      omega (arith, c, z, s, Counts.openCount-none (P .limit))
 
 -- ---- an area that stands for a message
 
@@ -86,7 +81,7 @@ module _ {P : Params} {M : List Bool} {area : List ℕ} (s : Closed P M area) wh
 shown-all : (area : List ℕ) (level : ℕ) → leb areaWords (length area) ≡ true → sound area ≡ true → leb 1 level ≡ true →
     leb level mostLevels ≡ true → shown area level ≡ true
 unfolding shown
-shown-all area level a b c d = both-true a (both-true b (both-true c d))
+shown-all area level a b c d = and-intro a (and-intro b (and-intro c d))
 
 pub level-shown : (area : List ℕ) (level : ℕ) → areaWords ≤ length area → sound area ≡ true → 1 ≤ level → level ≤ mostLevels →
     levelOf area level ≡ levelWords area level
@@ -118,26 +113,26 @@ closed-count area h = Counts.closing-count (paramsOf area) (paramsOf area .limit
 
 -- ---- log words
 
-orElse-other : (b : Bool) (k later m : ℕ) → (k ≡ m → ⊥) → orElse b k later ≡ m → (b ≡ false) × (later ≡ m)
-orElse-other true k later m h e = absurd (h e)
-orElse-other false k later m h e = (refl, e)
+other-number : (b : Bool) (k later m : ℕ) → (k ≡ m → ⊥) → cond b k later ≡ m → (b ≡ false) × (later ≡ m)
+other-number true k later m h e = absurd (h e)
+other-number false k later m h e = (refl, e)
 
-orElse-eight : (b : Bool) → orElse b 8 0 ≡ 8 → b ≡ true
-orElse-eight true e = refl
-orElse-eight false e = absurd (omega arith)
+number-eight : (b : Bool) → _≡_ {A = ℕ} (cond b 8 0) 8 → b ≡ true
+number-eight true e = refl
+number-eight false e = absurd (omega arith)
 
 -- for all areas, pieces and logs: with the told log words a feed of n bits does not answer 8
 pub told-enough : (area piece : List ℕ) (n : ℕ) (log : List ℕ) → logWordsOf n ≤ length log → feedNumber area piece n log ≡ 8 → ⊥
 unfolding feedNumber fedBits
 told-enough area piece n log h e =
     let Y : List Bool = pieceBits piece n in
-    let a = orElse-other (ltb (length area) areaWords) 7 _ 8 (omega arith) e in
-    let s = orElse-other (not (sound area)) 7 _ 8 (omega arith) (a .1) in
-    let p = orElse-other (eqb (phaseOf area) 2) 10 _ 8 (omega arith) (s .1) in
-    let b = orElse-other (ltb (8 * length piece) n) 5 _ 8 (omega arith) (p .1) in
-    let t = orElse-other (ltb (2 ^ 64 - 1) (totalOf area + n)) 6 _ 8 (omega arith) (b .1) in
+    let a = other-number (ltb (length area) areaWords) 7 _ 8 (omega arith) e in
+    let s = other-number (not (sound area)) 7 _ 8 (omega arith) (a .1) in
+    let p = other-number (eqb (phaseOf area) 2) 10 _ 8 (omega arith) (s .1) in
+    let b = other-number (ltb (8 * length piece) n) 5 _ 8 (omega arith) (p .1) in
+    let t = other-number (ltb (2 ^ 64 - 1) (totalOf area + n)) 6 _ 8 (omega arith) (b .1) in
     let nodes : List Node = feedBits (paramsOf area) (totalOf area) Y (levelsOf area) .nodes in
-    let few = ltb-true (length log) (2 * length nodes) (orElse-eight (ltb (length log) (2 * length nodes)) (t .1)) in
+    let few = ltb-true (length log) (2 * length nodes) (number-eight (ltb (length log) (2 * length nodes)) (t .1)) in
     let l : length Y ≡ n = length-pieceBits piece n (ltb-false (8 * length piece) n (b .0)) in
     let small : totalOf area + n < 2 ^ 64 = omega (arith, ltb-false (2 ^ 64 - 1) (totalOf area + n) (t .0)) in
     let c = Counts.feedBits-count (paramsOf area) (totalOf area) Y (levelsOf area) (levelsOf-size area) (rw l small) in
@@ -149,11 +144,11 @@ pub end-enough : (area out log : List ℕ) → 54 ≤ length log → endNumber a
 unfolding endNumber closedBy
 end-enough area out log h e =
     let nodes : List Node = Rattle.area.specs.Calls.closing (paramsOf area) (paramsOf area .limit) (totalOf area) (levelsOf area) in
-    let a = orElse-other (ltb (length area) areaWords) 7 _ 8 (omega arith) e in
-    let s = orElse-other (not (sound area)) 7 _ 8 (omega arith) (a .1) in
-    let p = orElse-other (eqb (phaseOf area) 2) 10 _ 8 (omega arith) (s .1) in
-    let o = orElse-other (ltb (length out) (digestBytes (paramsOf area .d))) 9 _ 8 (omega arith) (p .1) in
-    let few = ltb-true (length log) (2 * length nodes) (orElse-eight (ltb (length log) (2 * length nodes)) (o .1)) in
+    let a = other-number (ltb (length area) areaWords) 7 _ 8 (omega arith) e in
+    let s = other-number (not (sound area)) 7 _ 8 (omega arith) (a .1) in
+    let p = other-number (eqb (phaseOf area) 2) 10 _ 8 (omega arith) (s .1) in
+    let o = other-number (ltb (length out) (digestBytes (paramsOf area .d))) 9 _ 8 (omega arith) (p .1) in
+    let few = ltb-true (length log) (2 * length nodes) (number-eight (ltb (length log) (2 * length nodes)) (o .1)) in
     let z = levelsOf-size area in
     let g = Counts.closing-bound (paramsOf area) (paramsOf area .limit) (totalOf area) (levelsOf area) (omega arith) in
     omega arith

@@ -1,13 +1,10 @@
--- The stream's area. Document 01, "The stream's area": where each word stands, what a level holds, and soundness.
+-- Definitions: the stream's area. Document 01, "The stream's area": where each word stands, what a level holds, and soundness.
 -- An area is a list of words.
--- Assumes nothing.
-use mathlib.Core.Bool.{Bool, true, false, not, _||_}
-use mathlib.Core.List.{List, [], _∷_, _++_}
+use mathlib.Core.Bool.{Bool, true, false, not, _||_, _&&_}
+use mathlib.Core.List.{List, [], _∷_, _++_, flatten}
 use Prim.Native.Nat.{ℕ, zero, suc, _+_, _-_, _*_, _/_, _%_}
 use lib.Dec.{eqb, ltb}
 use lib.ListN.{take, drop, getD, replicate}
-use Rattle.lists.specs.Concat.{concat}
-use Rattle.lists.specs.Both.{both}
 use Rattle.bits.specs.Bits.{bitsOf, numbers}
 use Rattle.tree.specs.Tree.{Params, blockBits, sequentialBits, outputBits, mostLevels}
 use Rattle.tree.specs.Sizes.{treeNodes}
@@ -40,8 +37,8 @@ totalOf area = getD area 1 0
 abbrev pub keyBytesOf : List ℕ → ℕ
 keyBytesOf area = getD area 2 0
 
-abbrev pub keyOf : List ℕ → List ℕ
-keyOf area = take 8 (drop 6 area)
+abbrev pub kOf : List ℕ → List ℕ
+kOf area = take 8 (drop 6 area)
 
 abbrev pub compressionsOf : List ℕ → ℕ
 compressionsOf area = getD area 14 0
@@ -49,7 +46,7 @@ compressionsOf area = getD area 14 0
 -- the parameters that an area stands for; the key's bytes are the first of K
 unfoldable pub paramsOf : List ℕ → Params
 paramsOf area = record {
-  key = numbers 8 (keyBytesOf area) (bitsOf 64 (keyOf area));
+  key = numbers 8 (keyBytesOf area) (bitsOf 64 (kOf area));
   d = getD area 3 0;
   limit = getD area 4 0;
   rounds = getD area 5 0;
@@ -69,7 +66,7 @@ levelsOf area = levelsFrom area mostLevels 1
 
 -- an area with other levels; "words from 1,744 on are never touched"
 unfoldable pub withLevels : List ℕ → List (List ℕ) → List ℕ
-withLevels area levels = take headWords area ++ (concat levels ++ drop areaWords area)
+withLevels area levels = take headWords area ++ (flatten levels ++ drop areaWords area)
 
 unfoldable pub emptyLevel : List ℕ
 emptyLevel = replicate blockWords 0
@@ -143,16 +140,16 @@ countFor phase limit T = elim (eqb phase 2) [ true ↦ treeNodes limit T | false
 
 abbrev pub allFalse : List Bool → Bool
 allFalse [] = true
-allFalse (b ∷ bs) = both (not b) (allFalse bs)
+allFalse (b ∷ bs) = not b && allFalse bs
 
 -- "and so is every bit of a level that is neither held nor of a sequential output"
 abbrev pub clean : Hold → List ℕ → Bool
-clean h ws = both (h .output || allFalse (take (h .reserved) (bitsOf 64 ws))) (allFalse (drop (h .reserved + h .bits) (bitsOf 64 ws)))
+clean h ws = (h .output || allFalse (take (h .reserved) (bitsOf 64 ws))) && allFalse (drop (h .reserved + h .bits) (bitsOf 64 ws))
 
 abbrev pub cleanAll : List Hold → List (List ℕ) → Bool
 cleanAll [] levels = true
 cleanAll (h ∷ hs) [] = true
-cleanAll (h ∷ hs) (ws ∷ levels) = both (clean h ws) (cleanAll hs levels)
+cleanAll (h ∷ hs) (ws ∷ levels) = clean h ws && cleanAll hs levels
 
 abbrev pub soundLevels : List ℕ → Bool
 soundLevels area = cleanAll (holdsFor (phaseOf area) (paramsOf area .limit) (totalOf area)) (levelsOf area)
@@ -167,7 +164,7 @@ soundParams area = eqb (refusedParams (paramsOf area) 0) 0
 
 -- "unused key bytes are zero"
 abbrev pub soundKey : List ℕ → Bool
-soundKey area = allFalse (drop (8 * keyBytesOf area) (bitsOf 64 (keyOf area)))
+soundKey area = allFalse (drop (8 * keyBytesOf area) (bitsOf 64 (kOf area)))
 
 -- "word 14 is the count that total, L and phase give"
 abbrev pub soundCount : List ℕ → Bool
@@ -178,4 +175,4 @@ abbrev pub soundLast : List ℕ → Bool
 soundLast area = eqb (getD area 15 0) 0
 
 unfoldable pub sound : List ℕ → Bool
-sound area = both (soundPhase area) (both (soundParams area) (both (soundKey area) (both (soundCount area) (both (soundLast area) (soundLevels area)))))
+sound area = soundPhase area && (soundParams area && (soundKey area && (soundCount area && (soundLast area && soundLevels area))))

@@ -1,63 +1,62 @@
--- The words of an area and what they stand for: head, levels and tail are read back as they were written.
--- Assumes nothing.
+-- Laws: the words of an area and what they stand for: head, levels and tail are read back as they were written.
 use mathlib.Core.Path.{_≡_, refl, sym, ap, _∙_}
 use mathlib.Core.Bool.{Bool, true, false}
-use mathlib.Core.List.{List, [], _∷_, _++_, append-assoc, append-nil}
+use mathlib.Core.List.{List, [], _∷_, _++_, append-assoc, append-nil, flatten}
 use Prim.Native.Nat.{ℕ, zero, suc, _+_, _-_, _*_, _^_, _≤_, _<_}
 use native.Mathlib.Omega.{arith}
 use lib.ListN.{length, take, drop, getD, set, replicate, length-append, length-drop, length-replicate, length-set, take-append-drop}
 use lib.Seq.{take-at, drop-at, getD-take, drop-append-le, take-append-le, take-set-le, drop-set-lt, drop-set-add, getD-set-same, getD-set-other, length-take-le}
 use Rattle.lists.specs.Append.{cons-eq}
 use Rattle.lists.specs.Below.{Below}
-use Rattle.lists.specs.Concat.{concat}
 use Rattle.bits.specs.Bits.{bitsOf, numbers}
 use Rattle.bits.specs.BitsLaws.{length-bitsOf, length-numbers, bitsOf-append, bitsOf-zeros, bitsOf-numbers, numbers-bitsOf}
 use Rattle.tree.specs.Tree.{keyWords, mostLevels}
-use Rattle.area.specs.Area.{headWords, areaWords, keyOf, compressionsOf, paramsOf, levelWords, levelsFrom, levelsOf, withLevels, allFalse}
-use Rattle.area.specs.Rows.{AllLen, length-concat}
+use Rattle.area.specs.Area.{headWords, areaWords, kOf, compressionsOf, paramsOf, levelWords, levelsFrom, levelsOf, withLevels, allFalse}
+use Rattle.area.specs.Rows.{AllLen, length-flatten}
 
 -- ---- head, levels and tail
 
 levels-from : (pre : List ℕ) (st : List (List ℕ)) (tail : List ℕ) (k : ℕ) → AllLen 64 st → 0 < k → length pre ≡ 16 + 64 * (k - 1) →
-    levelsFrom (pre ++ (concat st ++ tail)) (length st) k ≡ st
+    levelsFrom (pre ++ (flatten st ++ tail)) (length st) k ≡ st
+unfolding flatten
 levels-from pre [] tail k a h e = refl
 levels-from pre (ws ∷ st) tail k a h e =
-    let s : pre ++ (ws ++ (concat st ++ tail)) ≡ (pre ++ ws) ++ (concat st ++ tail) = sym (append-assoc pre ws (concat st ++ tail)) in
+    let s : pre ++ (ws ++ (flatten st ++ tail)) ≡ (pre ++ ws) ++ (flatten st ++ tail) = sym (append-assoc pre ws (flatten st ++ tail)) in
     let l : length (pre ++ ws) ≡ 16 + 64 * (suc k - 1) = rw (length-append pre ws) (omega (arith, a .0)) in
-    let first : levelWords (pre ++ (ws ++ (concat st ++ tail))) k ≡ ws =
-    rw (drop-at pre (ws ++ (concat st ++ tail)) (16 + 64 * (k - 1)) e) (take-at ws (concat st ++ tail) 64 (a .0)) in
-    rw (append-assoc ws (concat st) tail)
+    let first : levelWords (pre ++ (ws ++ (flatten st ++ tail))) k ≡ ws =
+    rw (drop-at pre (ws ++ (flatten st ++ tail)) (16 + 64 * (k - 1)) e) (take-at ws (flatten st ++ tail) 64 (a .0)) in
+    rw (append-assoc ws (flatten st) tail)
     (cons-eq first (rw s (levels-from (pre ++ ws) st tail (suc k) (a .1) (omega arith) l)))
 
 -- the levels that stand after 16 words
 pub levelsOf-at : (pre : List ℕ) (st : List (List ℕ)) (tail : List ℕ) → length pre ≡ 16 → AllLen 64 st → length st ≡ mostLevels →
-    levelsOf (pre ++ (concat st ++ tail)) ≡ st
+    levelsOf (pre ++ (flatten st ++ tail)) ≡ st
 unfolding levelsOf
 levelsOf-at pre st tail e a n =
-    ap (λ (j : ℕ). levelsFrom (pre ++ (concat st ++ tail)) j 1) (sym n) ∙ levels-from pre st tail 1 a (omega arith) e
+    ap (λ (j : ℕ). levelsFrom (pre ++ (flatten st ++ tail)) j 1) (sym n) ∙ levels-from pre st tail 1 a (omega arith) e
 
 module _ (area : List ℕ) (st : List (List ℕ)) (long : areaWords ≤ length area) (a : AllLen 64 st) (n : length st ≡ mostLevels) where
   head-length : length (take headWords area) ≡ 16
   head-length = length-take-le 16 area (omega arith)
 
-  width : length (concat st) ≡ 1728
-  width = length-concat 64 st a ∙ rw n refl
+  width : length (flatten st) ≡ 1728
+  width = length-flatten 64 st a ∙ rw n refl
 
   pub length-withLevels : length (withLevels area st) ≡ length area
   unfolding withLevels
   length-withLevels =
-      length-append (take 16 area) (concat st ++ drop areaWords area)
-      ∙ rw (head-length, length-append (concat st) (drop areaWords area), width, length-drop areaWords area) (omega arith)
+      length-append (take 16 area) (flatten st ++ drop areaWords area)
+      ∙ rw (head-length, length-append (flatten st) (drop areaWords area), width, length-drop areaWords area) (omega arith)
 
   pub head-withLevels : take headWords (withLevels area st) ≡ take headWords area
   unfolding withLevels
-  head-withLevels = take-at (take 16 area) (concat st ++ drop areaWords area) 16 head-length
+  head-withLevels = take-at (take 16 area) (flatten st ++ drop areaWords area) 16 head-length
 
   pub tail-withLevels : drop areaWords (withLevels area st) ≡ drop areaWords area
   unfolding withLevels
   tail-withLevels =
-      rw (← append-assoc (take 16 area) (concat st) (drop areaWords area))
-      (drop-at (take 16 area ++ concat st) (drop areaWords area) areaWords (length-append (take 16 area) (concat st) ∙ rw (head-length, width) refl))
+      rw (← append-assoc (take 16 area) (flatten st) (drop areaWords area))
+      (drop-at (take 16 area ++ flatten st) (drop areaWords area) areaWords (length-append (take 16 area) (flatten st) ∙ rw (head-length, width) refl))
 
   pub levelsOf-withLevels : levelsOf (withLevels area st) ≡ st
   unfolding withLevels
@@ -68,7 +67,7 @@ module _ (area : List ℕ) (st : List (List ℕ)) (long : areaWords ≤ length a
 pub getD-head : (area : List ℕ) (i : ℕ) → i < headWords → getD area i 0 ≡ getD (take headWords area) i 0
 getD-head area i h = sym (getD-take 16 area i 0 h)
 
-pub key-head : (area : List ℕ) → headWords ≤ length area → keyOf area ≡ take 8 (drop 6 (take headWords area))
+pub key-head : (area : List ℕ) → headWords ≤ length area → kOf area ≡ take 8 (drop 6 (take headWords area))
 key-head area h =
     let l : length (take headWords area) ≡ 16 = length-take-le 16 area h in
     ap (λ (x : List ℕ). take 8 (drop 6 x)) (sym (take-append-drop 16 area))
@@ -79,11 +78,11 @@ key-head area h =
 pub same-word : (x y : List ℕ) → take headWords x ≡ take headWords y → (i : ℕ) → i < headWords → getD x i 0 ≡ getD y i 0
 same-word x y e i h = getD-head x i h ∙ rw e (sym (getD-head y i h))
 
-pub same-key : (x y : List ℕ) → headWords ≤ length x → headWords ≤ length y → take headWords x ≡ take headWords y → keyOf x ≡ keyOf y
+pub same-key : (x y : List ℕ) → headWords ≤ length x → headWords ≤ length y → take headWords x ≡ take headWords y → kOf x ≡ kOf y
 same-key x y hx hy e = key-head x hx ∙ rw e (sym (key-head y hy))
 
 -- the parameters go by the words 2 to 5 and K
-pub same-params : (x y : List ℕ) → keyOf x ≡ keyOf y → ((i : ℕ) → 2 ≤ i → i < 6 → getD x i 0 ≡ getD y i 0) → paramsOf x ≡ paramsOf y
+pub same-params : (x y : List ℕ) → kOf x ≡ kOf y → ((i : ℕ) → 2 ≤ i → i < 6 → getD x i 0 ≡ getD y i 0) → paramsOf x ≡ paramsOf y
 unfolding paramsOf
 same-params x y k f =
     let b = f 2 (omega arith) (omega arith) in
@@ -93,7 +92,7 @@ same-params x y k f =
     rw (k, b, d, l, r) refl
 
 -- K stays where a word before it, and word 14, are set
-pub key-set : (area : List ℕ) (i v w : ℕ) → i < 6 → keyOf (set (set area i v) 14 w) ≡ keyOf area
+pub key-set : (area : List ℕ) (i v w : ℕ) → i < 6 → kOf (set (set area i v) 14 w) ≡ kOf area
 key-set area i v w h =
     ap (take 8) (drop-set-add 6 (set area i v) 8 w) ∙ take-set-le 8 (drop 6 (set area i v)) 8 w (omega arith) ∙ ap (take 8) (drop-set-lt 6 area i v h)
 
@@ -150,7 +149,7 @@ pub record Changed (area : List ℕ) (i v w : ℕ) (st : List (List ℕ)) (to : 
   pub set : getD to i 0 ≡ v
   pub count : compressionsOf to ≡ w
   pub same : (j : ℕ) → j < headWords → (j ≡ i → ⊥) → (j ≡ 14 → ⊥) → getD to j 0 ≡ getD area j 0
-  pub key : keyOf to ≡ keyOf area
+  pub key : kOf to ≡ kOf area
   pub params : paramsOf to ≡ paramsOf area
   pub levels : levelsOf to ≡ st
   pub tail : drop areaWords to ≡ drop areaWords area
@@ -186,7 +185,7 @@ changed area i v w st long hi a n = record {
     same : (j : ℕ) → j < headWords → (j ≡ i → ⊥) → (j ≡ 14 → ⊥) → getD to j 0 ≡ getD area j 0
     same j h p q = word j h ∙ getD-set-other (set area i v) 14 j w 0 q ∙ getD-set-other area i j v 0 p
 
-    key : keyOf to ≡ keyOf area
+    key : kOf to ≡ kOf area
     key =
         same-key to x (rw (length-withLevels x st long′ a n) (omega (arith, long′))) (omega (arith, long′)) (head-withLevels x st long′ a n)
         ∙ key-set area i v w (omega arith)

@@ -1,5 +1,4 @@
--- The words of a block whose first bits are known: how a bit more, or an output more, is joined to them.
--- Assumes nothing.
+-- Laws: the words of a block whose first bits are known: how a bit more, or an output more, is joined to them.
 use mathlib.Core.Path.{_≡_, refl, sym, ap, _∙_}
 use mathlib.Core.Bool.{Bool, false}
 use mathlib.Core.List.{List, [], _∷_, _++_, append-assoc, append-nil}
@@ -7,7 +6,8 @@ use Prim.Native.Nat.{ℕ, zero, suc, _+_, _-_, _*_, _/_, _%_, _^_, _≤_, _<_}
 use native.Mathlib.Omega.{arith}
 use lib.ListN.{length, getD, set, replicate, length-append, length-replicate, length-set, replicate-append-replicate}
 use lib.Seq.{take-at, drop-at, take-all, set-at, set-append-left}
-use Rattle.lists.specs.Below.{Below, none, more, below-zeros}
+use Rattle.lists.specs.Below.{Below, none, more}
+use Rattle.lists.specs.BelowLaws.{below-zeros}
 use Rattle.lists.specs.Append.{cons-eq}
 use Rattle.lists.specs.Part.{put}
 use Rattle.bits.specs.Bits.{bits, bitsOf, spell, numbers}

@@ -1,7 +1,6 @@
--- What the calls answer, accepted and refused: the laws of their definitions.
--- Assumes nothing.
+-- Laws: what the calls answer, accepted and refused: the laws of their definitions.
 use mathlib.Core.Path.{_≡_, refl, sym, ap}
-use mathlib.Core.Bool.{Bool, true, false, not}
+use mathlib.Core.Bool.{Bool, true, false, not, cond}
 use mathlib.Core.List.{List, [], _∷_, _++_}
 use Prim.Native.Nat.{ℕ, zero, suc, _+_, _-_, _*_, _^_, _≤_, _<_}
 use native.Mathlib.Omega.{arith}
@@ -11,23 +10,23 @@ use lib.ListN.{length, take, drop}
 use lib.Seq.{take-at}
 use Rattle.tree.specs.Tree.{Params, Node, digestBytes}
 use Rattle.tree.specs.Refusals.{pieceBits}
-use Rattle.tree.specs.RefusalLaws.{orElse-passed}
+use Rattle.tree.specs.RefusalLaws.{test-passed}
 use Rattle.area.specs.Area.{areaWords, phaseOf, totalOf, paramsOf, sound}
-use Rattle.area.specs.Calls.{Made, logOf, logged, openNumber, openedArea, openAnswer, openOf, fedBits, feedNumber, fedArea, feedAnswer, feedOf, closedBy, endNumber, endedArea, digestOut, endAnswer, endOf}
+use Rattle.area.specs.Calls.{Made, nodeLog, logged, openNumber, openedArea, openAnswer, openOf, fedBits, feedNumber, fedArea, feedAnswer, feedOf, closedBy, endNumber, endedArea, digestOut, endAnswer, endOf}
 
 -- ---- the log
 
-pub length-logOf : (nodes : List Node) → length (logOf nodes) ≡ 2 * length nodes
-length-logOf [] = refl
-length-logOf (m ∷ nodes) = omega (arith, length-logOf nodes)
+pub length-nodeLog : (nodes : List Node) → length (nodeLog nodes) ≡ 2 * length nodes
+length-nodeLog [] = refl
+length-nodeLog (m ∷ nodes) = omega (arith, length-nodeLog nodes)
 
-pub logOf-append : (xs ys : List Node) → logOf (xs ++ ys) ≡ logOf xs ++ logOf ys
-logOf-append [] ys = refl
-logOf-append (x ∷ xs) ys = ap (λ (l : List ℕ). x .u ∷ x .v ∷ l) (logOf-append xs ys)
+pub nodeLog-append : (xs ys : List Node) → nodeLog (xs ++ ys) ≡ nodeLog xs ++ nodeLog ys
+nodeLog-append [] ys = refl
+nodeLog-append (x ∷ xs) ys = ap (λ (l : List ℕ). x .u ∷ x .v ∷ l) (nodeLog-append xs ys)
 
 -- the words of the log that a call wrote
-pub logged-front : (nodes : List Node) (log : List ℕ) → take (2 * length nodes) (logged nodes log) ≡ logOf nodes
-logged-front nodes log = take-at (logOf nodes) (drop (2 * length nodes) log) (2 * length nodes) (length-logOf nodes)
+pub logged-front : (nodes : List Node) (log : List ℕ) → take (2 * length nodes) (logged nodes log) ≡ nodeLog nodes
+logged-front nodes log = take-at (nodeLog nodes) (drop (2 * length nodes) log) (2 * length nodes) (length-nodeLog nodes)
 
 -- ---- open
 
@@ -85,12 +84,12 @@ not-no false e = sym e
 pub feed-passed : (area piece : List ℕ) (n : ℕ) (log : List ℕ) → feedNumber area piece n log ≡ 0 → FeedPassed area piece n log
 unfolding feedNumber
 feed-passed area piece n log e =
-    let a = orElse-passed (ltb (length area) areaWords) 6 _ e in
-    let s = orElse-passed (not (sound area)) 6 _ (a .1) in
-    let p = orElse-passed (eqb (phaseOf area) 2) 9 _ (s .1) in
-    let b = orElse-passed (ltb (8 * length piece) n) 4 _ (p .1) in
-    let t = orElse-passed (ltb (2 ^ 64 - 1) (totalOf area + n)) 5 _ (b .1) in
-    let r = orElse-passed (ltb (length log) (2 * length (fedBits area (pieceBits piece n) .nodes))) 7 0 (t .1) in
+    let a = test-passed (ltb (length area) areaWords) 6 _ e in
+    let s = test-passed (not (sound area)) 6 _ (a .1) in
+    let p = test-passed (eqb (phaseOf area) 2) 9 _ (s .1) in
+    let b = test-passed (ltb (8 * length piece) n) 4 _ (p .1) in
+    let t = test-passed (ltb (2 ^ 64 - 1) (totalOf area + n)) 5 _ (b .1) in
+    let r = test-passed (ltb (length log) (2 * length (fedBits area (pieceBits piece n) .nodes))) 7 0 (t .1) in
     record {
       long = ltb-false (length area) areaWords (a .0);
       sound = not-no (sound area) (s .0);
@@ -131,11 +130,11 @@ pub record EndPassed (area out log : List ℕ) : Type 0 where
 pub end-passed : (area out log : List ℕ) → endNumber area out log ≡ 0 → EndPassed area out log
 unfolding endNumber
 end-passed area out log e =
-    let a = orElse-passed (ltb (length area) areaWords) 6 _ e in
-    let s = orElse-passed (not (sound area)) 6 _ (a .1) in
-    let p = orElse-passed (eqb (phaseOf area) 2) 9 _ (s .1) in
-    let o = orElse-passed (ltb (length out) (digestBytes (paramsOf area .d))) 8 _ (p .1) in
-    let r = orElse-passed (ltb (length log) (2 * length (closedBy area))) 7 0 (o .1) in
+    let a = test-passed (ltb (length area) areaWords) 6 _ e in
+    let s = test-passed (not (sound area)) 6 _ (a .1) in
+    let p = test-passed (eqb (phaseOf area) 2) 9 _ (s .1) in
+    let o = test-passed (ltb (length out) (digestBytes (paramsOf area .d))) 8 _ (p .1) in
+    let r = test-passed (ltb (length log) (2 * length (closedBy area))) 7 0 (o .1) in
     record {
       long = ltb-false (length area) areaWords (a .0);
       sound = not-no (sound area) (s .0);

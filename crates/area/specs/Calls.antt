@@ -1,17 +1,14 @@
--- What each call on an area answers: number, count and all that was lent, on exit. Document 01, "The stream's area" and the
+-- Definitions: what each call on an area answers: number, count and all that was lent, on exit. Document 01, "The stream's area" and the
 -- table of numbers.
--- Assumes nothing.
-use mathlib.Core.Bool.{Bool, true, false, not}
-use mathlib.Core.List.{List, [], _∷_, _++_, map}
+use mathlib.Core.Bool.{Bool, true, false, not, _&&_, cond}
+use mathlib.Core.List.{List, [], _∷_, _++_, flatten}
 use Prim.Native.Nat.{ℕ, zero, suc, _+_, _-_, _*_, _/_, _%_, _^_}
 use lib.Dec.{eqb, leb, ltb}
 use lib.ListN.{length, drop, getD, set, replicate}
-use Rattle.lists.specs.Concat.{concat}
 use Rattle.lists.specs.Part.{put}
-use Rattle.lists.specs.Both.{both}
 use Rattle.bits.specs.Bits.{bits, spell}
-use Rattle.tree.specs.Tree.{Params, Node, blockBits, sequentialBits, outputBits, mostLevels, words, keyWords, node, output, lastOr, noNode, digestBytes, digestOf}
-use Rattle.tree.specs.Refusals.{pieceBits, orElse, refusedBits, refusedParams, refusedOutput}
+use Rattle.tree.specs.Tree.{Params, Node, blockBits, sequentialBits, outputBits, mostLevels, words, keyWords, node, output, lastOr, noNode, digestBytes, rootDigest}
+use Rattle.tree.specs.Refusals.{pieceBits, refusedBits, refusedParams, refusedOutput}
 use Rattle.area.specs.Area.{blockWords, outputWords, areaWords, phaseOf, totalOf, compressionsOf, paramsOf, levelWords, levelsOf, withLevels, emptyLevel, emptyLevels, doneBlocks, heldBits, heldParallel, heldSequential, sound}
 
 -- ---- one bit more
@@ -117,32 +114,33 @@ closing P (suc n) T (ws ∷ up) =
 
 -- "7, 0: area short or (except for open and read) unsound"
 abbrev pub refusedShort : List ℕ → ℕ → ℕ
-refusedShort area later = orElse (ltb (length area) areaWords) 7 later
+refusedShort area later = cond (ltb (length area) areaWords) 7 later
 
 abbrev pub refusedArea : List ℕ → ℕ → ℕ
-refusedArea area later = refusedShort area (orElse (not (sound area)) 7 later)
+refusedArea area later = refusedShort area (cond (not (sound area)) 7 later)
 
 -- "10, 0: area has ended"
 abbrev pub refusedEnded : List ℕ → ℕ → ℕ
-refusedEnded area later = orElse (eqb (phaseOf area) 2) 10 later
+refusedEnded area later = cond (eqb (phaseOf area) 2) 10 later
 
 -- "6, 0: total would pass 2^64 - 1"
 abbrev pub refusedTotal : List ℕ → ℕ → ℕ → ℕ
-refusedTotal area n later = orElse (ltb (2 ^ 64 - 1) (totalOf area + n)) 6 later
+refusedTotal area n later = cond (ltb (2 ^ 64 - 1) (totalOf area + n)) 6 later
 
 -- "8, 0: log shorter than 2 words a node made"
 abbrev pub refusedLog : List Node → List ℕ → ℕ → ℕ
-refusedLog nodes log later = orElse (ltb (length log) (2 * length nodes)) 8 later
+refusedLog nodes log later = cond (ltb (length log) (2 * length nodes)) 8 later
 
 -- ---- the log
 
 -- "U and V of each node, in order"
-abbrev pub logOf : List Node → List ℕ
-logOf nodes = concat (map (λ (m : Node). m .u ∷ m .v ∷ []) nodes)
+abbrev pub nodeLog : List Node → List ℕ
+nodeLog [] = []
+nodeLog (m ∷ ms) = m .u ∷ m .v ∷ nodeLog ms
 
 -- ".. to a lent log of words from its first; the rest of the log stays"
 abbrev pub logged : List Node → List ℕ → List ℕ
-logged nodes log = logOf nodes ++ drop (2 * length nodes) log
+logged nodes log = nodeLog nodes ++ drop (2 * length nodes) log
 
 -- ---- open (key, d, L, r)
 
@@ -158,7 +156,7 @@ openNumber area P = refusedShort area (refusedParams P 0)
 -- an open area with no bits, whatever it held
 unfoldable pub openedArea : List ℕ → Params → List ℕ
 openedArea area P =
-    1 ∷ 0 ∷ length (P .key) ∷ P .d ∷ P .limit ∷ P .rounds ∷ (keyWords (P .key) ++ (0 ∷ 0 ∷ (concat emptyLevels ++ drop areaWords area)))
+    1 ∷ 0 ∷ length (P .key) ∷ P .d ∷ P .limit ∷ P .rounds ∷ (keyWords (P .key) ++ (0 ∷ 0 ∷ (flatten emptyLevels ++ drop areaWords area)))
 
 abbrev pub openAnswer : ℕ → List ℕ → Params → Opened
 openAnswer zero area P = record { number = 0; count = 0; area = openedArea area P }
@@ -202,7 +200,7 @@ feedOf area piece n log = feedAnswer (feedNumber area piece n log) area n (fedBi
 
 -- ---- end (digest out)
 
-pub record Ended : Type 0 where
+pub record Finished : Type 0 where
   pub number : ℕ
   pub count : ℕ
   pub area : List ℕ
@@ -224,14 +222,14 @@ endedArea area nodes = withLevels (set (set area 0 2) 14 (compressionsOf area + 
 
 -- "Output bytes past the digest or text stay."
 unfoldable pub digestOut : List ℕ → List Node → List ℕ → List ℕ
-digestOut area nodes out = digestOf (paramsOf area) (lastOr noNode nodes) ++ drop (digestBytes (paramsOf area .d)) out
+digestOut area nodes out = rootDigest (paramsOf area) (lastOr noNode nodes) ++ drop (digestBytes (paramsOf area .d)) out
 
-abbrev pub endAnswer : ℕ → List ℕ → List Node → List ℕ → List ℕ → Ended
+abbrev pub endAnswer : ℕ → List ℕ → List Node → List ℕ → List ℕ → Finished
 endAnswer zero area nodes out log =
     record { number = 0; count = length nodes; area = endedArea area nodes; digest = digestOut area nodes out; log = logged nodes log }
 endAnswer (suc k) area nodes out log = record { number = suc k; count = 0; area = area; digest = out; log = log }
 
-unfoldable pub endOf : List ℕ → List ℕ → List ℕ → Ended
+unfoldable pub endOf : List ℕ → List ℕ → List ℕ → Finished
 endOf area out log = endAnswer (endNumber area out log) area (closedBy area) out log
 
 -- ---- show a level
@@ -239,7 +237,7 @@ endOf area out log = endAnswer (endNumber area out log) area (closedBy area) out
 -- "gives back that level's part of the caller's area, or an empty part if the area is short or unsound or the level outside
 -- 1 to 27"
 unfoldable pub shown : List ℕ → ℕ → Bool
-shown area level = both (leb areaWords (length area)) (both (sound area) (both (leb 1 level) (leb level mostLevels)))
+shown area level = leb areaWords (length area) && (sound area && (leb 1 level && leb level mostLevels))
 
 unfoldable pub levelOf : List ℕ → ℕ → List ℕ
 levelOf area level = elim (shown area level) [ true ↦ levelWords area level | false ↦ [] ]

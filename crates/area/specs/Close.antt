@@ -1,15 +1,14 @@
--- The end of a stream above level 1: the nodes that it makes are those of the tree's levels that reach the last bit.
--- Assumes nothing.
+-- Laws: the end of a stream above level 1: the nodes that it makes are those of the tree's levels that reach the last bit.
 use mathlib.Core.Path.{_≡_, refl, sym, ap, _∙_, subst}
 use mathlib.Core.Bool.{Bool, true, false}
-use mathlib.Core.List.{List, [], _∷_, _++_, map, append-assoc, append-nil}
+use mathlib.Core.List.{List, [], _∷_, _++_, map, append-assoc, append-nil, flatten}
 use Prim.Native.Nat.{ℕ, zero, suc, _-_, _*_, _/_, _%_, _^_, _<_}
 use native.Mathlib.Nat.{pow-succ'}
 use native.Mathlib.Omega.{arith}
 use borrow.Author.Tests.{eq-eqb, ne-eqb}
 use lib.Dec.{eqb}
 use lib.ListN.{length, length-map}
-use Rattle.lists.specs.Concat.{concat, map-append}
+use Rattle.lists.specs.Flatten.{map-append}
 use Rattle.tree.specs.Tree.{Params, Node, Mark, Subtree, outputBits, node, levels, lastOr, noNode, rootOf, listing, parent, parents, climb}
 use Rattle.tree.specs.TreeLaws.{length-output-node, levels-one, levels-more, levels-some, rootOf-cons}
 use Rattle.area.specs.Calls.{outWords, joinParallel, joinSequential, closeAbove}
@@ -48,20 +47,22 @@ module _ (P : Params) where
 
   -- ---- the bits of a level, cut into those of its groups
 
-  outs-groups : (G : List (List Subtree)) (t : List Subtree) → Receive.outs P (concat G ++ t) ≡ concat (map (Receive.outs P) G) ++ Receive.outs P t
+  outs-groups : (G : List (List Subtree)) (t : List Subtree) → Receive.outs P (flatten G ++ t) ≡ flatten (map (Receive.outs P) G) ++ Receive.outs P t
+  unfolding flatten
   outs-groups [] t = refl
   outs-groups (g ∷ G) t =
-      rw (append-assoc g (concat G) t, Receive.outs-append P g (concat G ++ t), outs-groups G t)
-      (sym (append-assoc (Receive.outs P g) (concat (map (Receive.outs P) G)) (Receive.outs P t)))
+      rw (append-assoc g (flatten G) t, Receive.outs-append P g (flatten G ++ t), outs-groups G t)
+      (sym (append-assoc (Receive.outs P g) (flatten (map (Receive.outs P) G)) (Receive.outs P t)))
 
-  groups-len : (k : ℕ) (G : List (List Subtree)) → Receive.Sized P (concat G) → AllLen k G → AllLen (k * outputBits) (map (Receive.outs P) G)
+  groups-len : (k : ℕ) (G : List (List Subtree)) → Receive.Sized P (flatten G) → AllLen k G → AllLen (k * outputBits) (map (Receive.outs P) G)
+  unfolding flatten
   groups-len k [] s a = tt
   groups-len k (g ∷ G) s a =
-      (Receive.length-outs P g (Receive.sized-left P g (concat G) s) ∙ rw (a .0) refl, groups-len k G (Receive.sized-right P g (concat G) s) (a .1))
+      (Receive.length-outs P g (Receive.sized-left P g (flatten G) s) ∙ rw (a .0) refl, groups-len k G (Receive.sized-right P g (flatten G) s) (a .1))
 
   pub groups : {k : ℕ} {X : List Subtree} {G : List (List Subtree)} {r : List Subtree} (x : Subtree) → Receive.Split P k X G r →
-      X ++ (x ∷ []) ≡ concat G ++ (r ++ (x ∷ []))
-  groups {k} {X} {G} {r} x s = ap (λ (l : List Subtree). l ++ (x ∷ [])) (s .whole) ∙ append-assoc (concat G) r (x ∷ [])
+      X ++ (x ∷ []) ≡ flatten G ++ (r ++ (x ∷ []))
+  groups {k} {X} {G} {r} x s = ap (λ (l : List Subtree). l ++ (x ∷ [])) (s .whole) ∙ append-assoc (flatten G) r (x ∷ [])
 
   pub level-cut : (k : ℕ) {X : List Subtree} {G : List (List Subtree)} {r : List Subtree} (x : Subtree) → Receive.Split P k X G r →
       length (Receive.outOf P x) ≡ outputBits →
@@ -70,7 +71,7 @@ module _ (P : Params) where
       let l = Receive.length-last P x s o in
       record {
         whole = ap (Receive.outs P) (groups x s) ∙ outs-groups G (r ++ (x ∷ []));
-        full = groups-len k G (Receive.sized-left P (concat G) r (rw (s .whole) at (s .sized))) (s .full);
+        full = groups-len k G (Receive.sized-left P (flatten G) r (rw (s .whole) at (s .sized))) (s .full);
         fits = omega (arith, l, s .few);
         some = λ e. absurd (omega (arith, l));
       }
@@ -152,14 +153,17 @@ module _ (P : Params) where
 
   -- before the first node no level has logged anything
   none-groups : {k : ℕ} (G : List (List Subtree)) (r : List Subtree) → Receive.Split P (suc k) [] G r → G ≡ []
+  unfolding flatten
   none-groups [] r s = refl
   none-groups ([] ∷ G) r s = absurd (omega (arith, s .full .0))
   none-groups ((g ∷ gs) ∷ G) r s = absurd (omega (arith, ap length (s .whole)))
 
   none-rest : {k : ℕ} (G : List (List Subtree)) (r : List Subtree) → Receive.Split P (suc k) [] G r → r ≡ []
+  unfolding flatten
   none-rest G r s = sym (s .whole ∙ rw (none-groups G r s) refl)
 
   pub inv-empty : (n level : ℕ) (st : List (List ℕ)) (lg : List Mark) → Receive.Inv P n level [] st lg → lg ≡ []
+  unfolding flatten
   inv-empty n level [] lg v = v .logged
   inv-empty zero level (ws ∷ up) lg v = v .logged ∙ rw (none-groups (v .G) (v .r) (v .sp), none-rest (v .G) (v .r) (v .sp)) refl
   inv-empty (suc n) level (ws ∷ up) lg v =
@@ -172,12 +176,14 @@ module _ (P : Params) where
 
   one-level : (n level : ℕ) {X : List Subtree} {r : List Subtree} (x : Subtree) → Receive.Split P 4 X [] r → length (Receive.outOf P x) ≡ outputBits →
       levels P (suc n) level (Receive.outs P (X ++ (x ∷ []))) ≡ (parLast level [] 1 (r ++ (x ∷ [])) ∷ []) ∷ []
+  unfolding flatten Rattle.tree.specs.Tree.keyWords blockOf
   one-level n level {X} {r} x s o =
       let c = level-cut 4 x s o in
       levels-one P n level (Receive.outs P (X ++ (x ∷ []))) (cut-blocks-4096 c) ∙ rw (c .whole, Rows.parallel-one P level (Receive.outs P (r ++ (x ∷ []))) (c .fits)) refl
 
   end-one : (n level : ℕ) (X : List Subtree) (ws : List ℕ) (up : List (List ℕ)) (lg : List Mark) (x : Subtree) (v : Receive.Inv P (suc n) level X (ws ∷ up) lg) → x .top .reaches ≡ true →
       length (Receive.outOf P x) ≡ outputBits → v .G ≡ [] → EndTree (suc n) level X (ws ∷ up) lg x
+  unfolding flatten
   end-one n level X ws up lg x v q o none =
       rw (
         close-one n level (length X) (Receive.wordsOf P x) ws up (eq-eqb (length X / 4) 0 (Receive.par-at P v ∙ rw none refl)),

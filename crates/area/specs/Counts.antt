@@ -1,6 +1,5 @@
--- How many nodes a feed and an end make: word 14 is the number of compressions, and the told log words are enough. It goes by
+-- Laws: how many nodes a feed and an end make: word 14 is the number of compressions, and the told log words are enough. It goes by
 -- the total and the limit alone, whatever the levels hold.
--- Assumes nothing.
 use mathlib.Core.Path.{_≡_, refl, ap, _∙_}
 use mathlib.Core.Bool.{Bool, true, false}
 use mathlib.Core.List.{List, [], _∷_}
@@ -21,6 +20,11 @@ use Rattle.area.specs.Machine
 pub openAbove-none : (n : ℕ) → openAbove n 0 ≡ 0
 openAbove-none zero = refl
 openAbove-none (suc n) = omega (arith, openAbove-none n)
+
+-- no bits, no nodes
+pub openCount-none : (limit : ℕ) → openCount limit 0 ≡ 0
+openCount-none zero = refl
+openCount-none (suc n) = omega (arith, openAbove-none n)
 
 -- level 1: when a block is full, and what the next bit makes
 pub full-4096 : (T : ℕ) → heldBits 4096 T ≡ 4096 → (suc T - 1) / 4096 ≡ suc ((T - 1) / 4096)

@@ -1,6 +1,5 @@
--- The area does not know how a message was cut: bits fed in two parts leave what they leave when fed at once. So the area
+-- Laws: the area does not know how a message was cut: bits fed in two parts leave what they leave when fed at once. So the area
 -- between two calls is the one that the message determines.
--- Assumes nothing.
 use mathlib.Core.Path.{_≡_, refl, sym, ap, _∙_}
 use mathlib.Core.Bool.{Bool}
 use mathlib.Core.List.{List, [], _∷_, _++_, append-assoc, append-nil}
@@ -23,7 +22,7 @@ use Rattle.area.specs.CallLaws.{feed-passed, feed-number, feed-accepted}
 use Rattle.area.specs.Stands.{Stands}
 use Rattle.area.specs.FeedLaws.{feedBits-append, feed-nothing}
 use Rattle.area.specs.WriteLaws.{withLevels-again, set-withLevels}
-use Rattle.area.specs.Meets.{Piece, message, feeds, areaAfter, Accepted, feed-one, open-one}
+use Rattle.area.specs.Meets.{Piece, message, feeds, areaAfterFeeds, Accepted, feed-one, open-one}
 
 -- words 1 and 14 and the levels written twice
 written-twice : (area : List ℕ) (a b c d : ℕ) (one two : List (List ℕ)) → areaWords ≤ length area → AllLen 64 one → length one ≡ mostLevels →
@@ -114,7 +113,7 @@ module _ (P : Params) (opened : List ℕ) (start : Stands P [] opened) where
       ∙ ap (λ (a : List ℕ). fedArea a (length Y) (fedBits a Y)) e ∙ fed-twice opened M Y (start .head .long) w m
 
   more-pieces : (M : List Bool) (area : List ℕ) (ps : List Piece) → Stands P M area → area ≡ areaFor opened M → Accepted (feeds area ps) →
-      areaAfter area (feeds area ps) ≡ areaFor opened (M ++ message ps)
+      areaAfterFeeds area (feeds area ps) ≡ areaFor opened (M ++ message ps)
   more-pieces M area [] s e a = rw (append-nil M) e
   more-pieces M area (p ∷ ps) s e a =
       let Y : List Bool = pieceBits (p .bytes) (p .bits) in
@@ -124,6 +123,6 @@ module _ (P : Params) (opened : List ℕ) (start : Stands P [] opened) where
 
 -- however the message was cut
 pub area-determined : (area : List ℕ) (P : Params) (ps : List Piece) → Below 256 (P .key) → openOf area P .number ≡ 0 →
-    (let opened : List ℕ = openOf area P .area in Accepted (feeds opened ps) → areaAfter opened (feeds opened ps) ≡ areaFor opened (message ps))
+    (let opened : List ℕ = openOf area P .area in Accepted (feeds opened ps) → areaAfterFeeds opened (feeds opened ps) ≡ areaFor opened (message ps))
 area-determined area P ps b e a =
     more-pieces P (openOf area P .area) (open-one area P b e) [] (openOf area P .area) ps (open-one area P b e) (sym (feed-nothing (openOf area P .area))) a

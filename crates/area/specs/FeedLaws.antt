@@ -1,15 +1,13 @@
--- Many bits at once: bits that fit into level 1 fill it and make no node; bits fed in two parts; no bits change nothing.
--- Assumes nothing.
+-- Laws: many bits at once: bits that fit into level 1 fill it and make no node; bits fed in two parts; no bits change nothing.
 use mathlib.Core.Path.{_≡_, refl, sym, ap, _∙_}
 use mathlib.Core.Bool.{Bool}
-use mathlib.Core.List.{List, [], _∷_, _++_, append-assoc}
+use mathlib.Core.List.{List, [], _∷_, _++_, append-assoc, flatten}
 use Prim.Native.Nat.{ℕ, zero, suc, _+_, _-_, _*_, _^_, _≤_, _<_}
 use native.Mathlib.Omega.{arith}
 use borrow.Author.Tests.{ne-eqb}
 use lib.ListN.{length, take, drop, set, length-drop, take-append-drop}
 use lib.Seq.{paste, paste-zero, length-take-le, take-take, take-add, take-suc-set, drop-set-lt, drop-drop, set-getD}
 use Rattle.lists.specs.Below.{Below}
-use Rattle.lists.specs.Concat.{concat}
 use Rattle.bits.specs.Bits.{bitsOf, filled}
 use Rattle.bits.specs.BitsLaws.{length-bitsOf, bitsOf-inj}
 use Rattle.bits.specs.FilledLaws.{length-filled, filled-below, bitsOf-filled}
@@ -128,17 +126,18 @@ module _ (P : Params) where
 
 -- ---- the levels of an area, read and written back
 
-pub concat-from : (area : List ℕ) (n k : ℕ) → 0 < k → concat (levelsFrom area n k) ≡ take (64 * n) (drop (headWords + 64 * (k - 1)) area)
-concat-from area zero k h = refl
-concat-from area (suc n) k h =
+pub flatten-from : (area : List ℕ) (n k : ℕ) → 0 < k → flatten (levelsFrom area n k) ≡ take (64 * n) (drop (headWords + 64 * (k - 1)) area)
+unfolding flatten
+flatten-from area zero k h = refl
+flatten-from area (suc n) k h =
     let e : 64 * suc n ≡ 64 + 64 * n = omega arith in
     let a : headWords + 64 * (suc k - 1) ≡ headWords + 64 * (k - 1) + 64 = omega arith in
-    rw (concat-from area n (suc k) (omega arith), e, a, take-add 64 (64 * n) (drop (headWords + 64 * (k - 1)) area), drop-drop 64 (headWords + 64 * (k - 1)) area) refl
+    rw (flatten-from area n (suc k) (omega arith), e, a, take-add 64 (64 * n) (drop (headWords + 64 * (k - 1)) area), drop-drop 64 (headWords + 64 * (k - 1)) area) refl
 
 pub withLevels-same : (area : List ℕ) → withLevels area (levelsOf area) ≡ area
 unfolding withLevels levelsOf
 withLevels-same area =
-    rw (concat-from area 27 1 (omega arith))
+    rw (flatten-from area 27 1 (omega arith))
     (ap (λ (l : List ℕ). take 16 area ++ (take 1728 (drop 16 area) ++ l)) (sym (drop-drop 1728 16 area))
     ∙ rw (take-append-drop 1728 (drop 16 area)) (take-append-drop 16 area))
 

@@ -1,29 +1,28 @@
--- Accepted calls leave any sound area sound, whatever it holds.
--- Assumes nothing.
-use mathlib.Core.Path.{_≡_, refl, sym, ap, _∙_, subst}
+-- Laws: accepted calls leave any sound area sound, whatever it holds.
+use mathlib.Core.Path.{_≡_, refl, sym, _∙_, subst}
 use mathlib.Core.Bool.{Bool, true, false, _||_}
-use mathlib.Core.List.{List, [], _∷_, _++_}
-use Prim.Native.Nat.{ℕ, zero, suc, _+_, _-_, _*_, _/_, _^_, _≤_}
+use mathlib.Core.List.{List}
+use Prim.Native.Nat.{ℕ, zero, suc, _+_, _-_, _*_, _^_, _≤_}
 use native.Mathlib.Omega.{arith}
 use borrow.Author.Tests.{eqb-true, eq-eqb, ne-eqb}
 use lib.Dec.{eqb}
 use lib.ListN.{length, set, replicate}
-use Rattle.lists.specs.Below.{Below, below-at, below-take, below-drop}
+use Rattle.lists.specs.Below.{Below}
+use Rattle.lists.specs.BelowLaws.{below-at, below-take, below-drop}
 use Rattle.tree.specs.Refusals.{pieceBits}
 use Rattle.tree.specs.Sizes.{treeNodes}
-use Rattle.area.specs.Area.{areaWords, phaseOf, totalOf, keyBytesOf, keyOf, compressionsOf, paramsOf, levelsFrom, levelsOf, withLevels, emptyLevel, emptyLevels, holdsFor, openCount, countFor, cleanAll, soundParams, soundKey, soundCount, sound}
+use Rattle.area.specs.Area.{areaWords, phaseOf, totalOf, keyBytesOf, kOf, compressionsOf, paramsOf, levelsFrom, levelsOf, withLevels, emptyLevel, emptyLevels, holdsFor, openCount, countFor, cleanAll, soundParams, soundKey, soundCount, sound}
 use Rattle.area.specs.Calls.{Made, feedBits, fedBits, feedNumber, fedArea, feedOf, closedBy, endNumber, endedArea, endOf}
-use Rattle.area.specs.Block.{length-blockOf}
-use Rattle.area.specs.Rows.{AllLen}
 use Rattle.area.specs.Counts
-use Rattle.area.specs.AreaLaws.{Changed, changed}
-use Rattle.area.specs.Sound.{clean-empty, empty-widths}
+use Rattle.area.specs.AreaLaws.{Changed}
+use Rattle.area.specs.Sound.{clean-empty}
 use Rattle.tree.specs.RefusalLaws.{length-pieceBits}
 use Rattle.area.specs.CallLaws.{FeedPassed, feed-passed, feed-number, feed-accepted, EndPassed, end-passed, end-number, end-accepted}
 use Rattle.area.specs.Accepts.{levelsOf-size, closed-count}
 use Rattle.area.specs.WriteLaws.{levelsOf-widths}
 use Rattle.area.specs.Moved.{Tests, sound-tests, tests-sound, Words, nil, cons}
-use Rattle.area.specs.Kept.{HeldAbove, HeldOpen, open-held, open-clean, held-feedBits}
+use Rattle.area.specs.Tails.{feed-changed, end-changed}
+use Rattle.area.specs.Kept.{HeldOpen, open-held, open-clean, held-feedBits}
 
 levels-words : (area : List ℕ) (n k : ℕ) → Below (2 ^ 64) area → Words (levelsFrom area n k)
 levels-words area zero k b = nil
@@ -32,16 +31,6 @@ levels-words area (suc n) k b = cons (below-take 64 (below-drop (16 + 64 * (k - 
 levelsOf-words : (area : List ℕ) → Below (2 ^ 64) area → Words (levelsOf area)
 unfolding levelsOf
 levelsOf-words area b = levels-words area 27 1 b
-
-above-widths : (n i : ℕ) (st : List (List ℕ)) → HeldAbove n i st → AllLen 64 st
-above-widths n i [] h = tt
-above-widths zero i (ws ∷ up) h = (ap length (h .is) ∙ length-blockOf (h .chain ++ h .Y), rw (h .empty) (empty-widths (length up)))
-above-widths (suc n) i (ws ∷ up) h = (ap length (h .0 .is) ∙ length-blockOf (h .0 .Y), above-widths n (i / 4) up (h .1))
-
-open-widths : (limit T : ℕ) (st : List (List ℕ)) → HeldOpen limit T st → AllLen 64 st
-open-widths limit T [] h = tt
-open-widths zero T (ws ∷ up) h = (ap length (h .is) ∙ length-blockOf (h .chain ++ h .Y), rw (h .empty) (empty-widths (length up)))
-open-widths (suc n) T (ws ∷ up) h = (ap length (h .0 .is) ∙ length-blockOf (h .0 .Y), above-widths n _ up (h .1))
 
 -- an area that is sound and has not ended is open
 open-phase : (area : List ℕ) → sound area ≡ true → (phaseOf area ≡ 2 → ⊥) → phaseOf area ≡ 1
@@ -62,7 +51,7 @@ sound-held area long b s p =
 same-params-test : (x y : List ℕ) → paramsOf y ≡ paramsOf x → soundParams x ≡ true → soundParams y ≡ true
 same-params-test x y e t = rw e t
 
-same-key-test : (x y : List ℕ) → keyOf y ≡ keyOf x → keyBytesOf y ≡ keyBytesOf x → soundKey x ≡ true → soundKey y ≡ true
+same-key-test : (x y : List ℕ) → kOf y ≡ kOf x → keyBytesOf y ≡ keyBytesOf x → soundKey x ≡ true → soundKey y ≡ true
 same-key-test x y e f t = rw (e, f) t
 
 pub feed-keeps : (area piece : List ℕ) (n : ℕ) (log : List ℕ) → Below (2 ^ 64) area → feedOf area piece n log .number ≡ 0 →
@@ -108,8 +97,7 @@ feed-keeps area piece n log b e = rw (feed-accepted area piece n log z) (tests-s
     to = withLevels (set (set area 1 (totalOf area + n)) 14 (compressionsOf area + length (made .nodes))) (made .levels)
 
     c : Changed area 1 (totalOf area + n) (compressionsOf area + length (made .nodes)) (made .levels) to
-    c = changed area 1 (totalOf area + n) (compressionsOf area + length (made .nodes)) (made .levels) (q .long) (omega arith)
-        (open-widths (paramsOf area .limit) (totalOf area + n) (made .levels) held) size
+    c = feed-changed area piece n log z
 
     before : compressionsOf area ≡ openCount (paramsOf area .limit) (totalOf area)
     before = eqb-true (compressionsOf area) (openCount (paramsOf area .limit) (totalOf area))
@@ -148,7 +136,7 @@ end-keeps area out log b e = rw (end-accepted area out log z) (tests-sound to re
     to = withLevels (set (set area 0 2) 14 (compressionsOf area + length (closedBy area))) (replicate 27 emptyLevel)
 
     c : Changed area 0 2 (compressionsOf area + length (closedBy area)) (replicate 27 emptyLevel) to
-    c = changed area 0 2 (compressionsOf area + length (closedBy area)) (replicate 27 emptyLevel) (q .long) (omega arith) (empty-widths 27) refl
+    c = end-changed area out log z
 
     before : compressionsOf area ≡ openCount (paramsOf area .limit) (totalOf area)
     before = eqb-true (compressionsOf area) (openCount (paramsOf area .limit) (totalOf area))

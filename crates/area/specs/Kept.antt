@@ -1,5 +1,4 @@
--- Any sound area stays sound: what the levels of a sound area hold, whatever it is, and what a feed and an end make of it.
--- Assumes nothing.
+-- Laws: any sound area stays sound: what the levels of a sound area hold, whatever it is, and what a feed and an end make of it.
 use mathlib.Core.Path.{_≡_, refl, sym, ap, _∙_, subst}
 use mathlib.Core.Bool.{Bool, true, false, _||_}
 use mathlib.Core.List.{List, [], _∷_, _++_, append-assoc, append-nil}
@@ -25,7 +24,7 @@ use Rattle.area.specs.Machine
 use Rattle.area.specs.Counts.{full-4096, less-4096, full-3072, less-3072}
 use Rattle.area.specs.AreaLaws.{allFalse-is}
 use Rattle.area.specs.Sound.{clean-parallel, clean-sequential, clean-empty}
-use Rattle.lists.specs.Both.{both-true, both-parts}
+use Rattle.lists.specs.And.{and-intro, and-parts}
 use Rattle.area.specs.FeedLaws.{held-next-4096, held-next-3072, held-most-4096, held-most-3072}
 use Rattle.area.specs.Moved.{Words, cons}
 
@@ -72,7 +71,7 @@ HeldOpen (suc n) T (ws ∷ up) = ParHeld (heldBits 4096 T) ws × HeldAbove n (do
 
 par-held : (n : ℕ) (ws : List ℕ) → n ≤ blockBits → Below (2 ^ 64) ws → length ws ≡ 64 → clean (parallelHold n) ws ≡ true → ParHeld n ws
 par-held n ws h b w e =
-    let f = both-parts (false || allFalse (take 0 (bitsOf 64 ws))) (allFalse (drop (0 + n) (bitsOf 64 ws))) e .1 in
+    let f = and-parts (false || allFalse (take 0 (bitsOf 64 ws))) (allFalse (drop (0 + n) (bitsOf 64 ws))) e .1 in
     let z : 0 + n ≡ n = omega arith in
     record {
       Y = take n (bitsOf 64 ws);
@@ -84,7 +83,7 @@ empty-held : (up : List (List ℕ)) → Words up → AllLen 64 up → cleanAll (
     up ≡ replicate (length up) emptyLevel
 empty-held [] w a e = refl
 empty-held (ws ∷ up) (cons b w) a e =
-    let p = both-parts (clean (parallelHold 0) ws) (cleanAll (replicate (length up) (parallelHold 0)) up) e in
+    let p = and-parts (clean (parallelHold 0) ws) (cleanAll (replicate (length up) (parallelHold 0)) up) e in
     let k = par-held 0 ws (omega arith) b (a .0) (p .0) in
     cons-eq (k .is ∙ none (k .Y) (k .size)) (empty-held up w (a .1) (p .1))
   where
@@ -102,7 +101,7 @@ seq-held : (c n : ℕ) (ws : List ℕ) (up : List (List ℕ)) → n ≤ sequenti
 seq-held c n ws up h (cons b w) a e g =
     let X : List Bool = bitsOf 64 ws in
     let l : length X ≡ 4096 = length-bitsOf 64 ws ∙ rw (a .0) refl in
-    let p = both-parts (ltb 0 c || allFalse (take outputBits X)) (allFalse (drop (outputBits + n) X)) e in
+    let p = and-parts (ltb 0 c || allFalse (take outputBits X)) (allFalse (drop (outputBits + n) X)) e in
     let t : length (take outputBits X) ≡ outputBits = length-take-le outputBits X (omega arith) in
     record {
       chain = take outputBits X;
@@ -117,10 +116,10 @@ seq-held c n ws up h (cons b w) a e g =
 above-held : (n i : ℕ) (st : List (List ℕ)) → Words st → AllLen 64 st → cleanAll (holdsAbove (length st) n i) st ≡ true → HeldAbove n i st
 above-held n i [] w a e = tt
 above-held zero i (ws ∷ up) w a e =
-    let p = both-parts (clean (sequentialHold (i / 3) (outputBits * (i % 3))) ws) (cleanAll (replicate (length up) (parallelHold 0)) up) e in
+    let p = and-parts (clean (sequentialHold (i / 3) (outputBits * (i % 3))) ws) (cleanAll (replicate (length up) (parallelHold 0)) up) e in
     seq-held (i / 3) (outputBits * (i % 3)) ws up (omega arith) w a (p .0) (p .1)
 above-held (suc n) i (ws ∷ up) (cons b w) a e =
-    let p = both-parts (clean (parallelHold (outputBits * (i % 4))) ws) (cleanAll (holdsAbove (length up) n (i / 4)) up) e in
+    let p = and-parts (clean (parallelHold (outputBits * (i % 4))) ws) (cleanAll (holdsAbove (length up) n (i / 4)) up) e in
     (par-held (outputBits * (i % 4)) ws (omega arith) b (a .0) (p .0), above-held n (i / 4) up w (a .1) (p .1))
 
 pub open-held : (limit T : ℕ) (st : List (List ℕ)) → length st ≡ 27 → Words st → AllLen 64 st → cleanAll (openHolds limit T) st ≡ true →
@@ -128,11 +127,11 @@ pub open-held : (limit T : ℕ) (st : List (List ℕ)) → length st ≡ 27 → 
 open-held limit T [] s w a e = tt
 open-held zero T (ws ∷ up) s w a e =
     let u : 26 ≡ length up = omega arith in
-    let p = both-parts (clean (sequentialHold (doneBlocks 3072 T) (heldBits 3072 T)) ws) (cleanAll (replicate 26 (parallelHold 0)) up) e in
+    let p = and-parts (clean (sequentialHold (doneBlocks 3072 T) (heldBits 3072 T)) ws) (cleanAll (replicate 26 (parallelHold 0)) up) e in
     seq-held (doneBlocks 3072 T) (heldBits 3072 T) ws up (held-most-3072 T) w a (p .0) (subst (λ (k : ℕ). cleanAll (replicate k (parallelHold 0)) up ≡ true) u (p .1))
 open-held (suc n) T (ws ∷ up) s (cons b w) a e =
     let u : 26 ≡ length up = omega arith in
-    let p = both-parts (clean (parallelHold (heldBits 4096 T)) ws) (cleanAll (holdsAbove 26 n (doneBlocks 4096 T)) up) e in
+    let p = and-parts (clean (parallelHold (heldBits 4096 T)) ws) (cleanAll (holdsAbove 26 n (doneBlocks 4096 T)) up) e in
     (par-held (heldBits 4096 T) ws (held-most-4096 T) b (a .0) (p .0), above-held n (doneBlocks 4096 T) up w (a .1) (subst (λ (k : ℕ). cleanAll (holdsAbove k n (doneBlocks 4096 T)) up ≡ true) u (p .1)))
 
 -- ---- and levels that hold it are sound
@@ -141,20 +140,20 @@ above-clean : (n i : ℕ) (st : List (List ℕ)) → HeldAbove n i st → cleanA
 above-clean n i [] h = refl
 above-clean zero i (ws ∷ up) h =
     rw (h .is, h .empty, length-replicate (length up) emptyLevel)
-    (both-true (clean-sequential (i / 3) (outputBits * (i % 3)) (h .chain) (h .Y) (h .chained) (omega (arith, h .size)) (h .size) (h .before)) (clean-empty (length up)))
+    (and-intro (clean-sequential (i / 3) (outputBits * (i % 3)) (h .chain) (h .Y) (h .chained) (omega (arith, h .size)) (h .size) (h .before)) (clean-empty (length up)))
 above-clean (suc n) i (ws ∷ up) h =
-    rw (h .0 .is) (both-true (clean-parallel (outputBits * (i % 4)) (h .0 .Y) (omega (arith, h .0 .size)) (h .0 .size)) (above-clean n (i / 4) up (h .1)))
+    rw (h .0 .is) (and-intro (clean-parallel (outputBits * (i % 4)) (h .0 .Y) (omega (arith, h .0 .size)) (h .0 .size)) (above-clean n (i / 4) up (h .1)))
 
 pub open-clean : (limit T : ℕ) (st : List (List ℕ)) → length st ≡ 27 → HeldOpen limit T st → cleanAll (openHolds limit T) st ≡ true
 open-clean limit T [] s h = absurd (omega arith)
 open-clean zero T (ws ∷ up) s h =
     let u : length up ≡ 26 = omega arith in
     rw (h .is, h .empty, u)
-    (both-true (clean-sequential (doneBlocks 3072 T) (heldBits 3072 T) (h .chain) (h .Y) (h .chained) (omega (arith, h .size, held-most-3072 T)) (h .size) (h .before)) (clean-empty 26))
+    (and-intro (clean-sequential (doneBlocks 3072 T) (heldBits 3072 T) (h .chain) (h .Y) (h .chained) (omega (arith, h .size, held-most-3072 T)) (h .size) (h .before)) (clean-empty 26))
 open-clean (suc n) T (ws ∷ up) s h =
     let u : length up ≡ 26 = omega arith in
     rw (h .0 .is)
-    (both-true (clean-parallel (heldBits 4096 T) (h .0 .Y) (omega (arith, h .0 .size, held-most-4096 T)) (h .0 .size)) (rw u at (above-clean n (doneBlocks 4096 T) up (h .1))))
+    (and-intro (clean-parallel (heldBits 4096 T) (h .0 .Y) (omega (arith, h .0 .size, held-most-4096 T)) (h .0 .size)) (rw u at (above-clean n (doneBlocks 4096 T) up (h .1))))
 
 -- ---- a node that comes to the levels
 

@@ -1,5 +1,4 @@
--- Bits fed one by one, and the end, against the tree: the nodes made are the tree's, in order.
--- Assumes nothing.
+-- Laws: bits fed one by one, and the end, against the tree: the nodes made are the tree's, in order.
 use mathlib.Core.Path.{_≡_, refl, sym, ap, _∙_, subst}
 use mathlib.Core.Bool.{Bool, true, false}
 use mathlib.Core.List.{List, [], _∷_, _++_, append-assoc, append-nil}
@@ -10,7 +9,7 @@ use lib.Dec.{eqb}
 use lib.ListN.{length, replicate, length-append}
 use lib.Seq.{append-snoc}
 use Rattle.lists.specs.Append.{cons-eq}
-use Rattle.lists.specs.Concat.{map-append}
+use Rattle.lists.specs.Flatten.{map-append}
 use Rattle.tree.specs.Tree.{Params, Node, Mark, Subtree, blockBits, sequentialBits, outputBits, words, node, output, noChain, levels, lastOr, noNode, rootOf, root, leaves, listing, climb, subtrees, lastIndex}
 use Rattle.tree.specs.TreeLaws.{length-output-node, length-seqBlock, levels-one, levels-more, levels-some, rootOf-cons}
 use Rattle.bits.specs.BitsLaws.{length-numbers}
@@ -50,6 +49,7 @@ tops-quietLeaves [] = refl
 tops-quietLeaves (n ∷ ns) = cons-eq refl (tops-quietLeaves ns)
 
 listing-quietLeaves : (ns : List Node) → listing (quietLeaves ns) ≡ marked false ns
+unfolding mathlib.Core.List.flatten
 listing-quietLeaves [] = refl
 listing-quietLeaves (n ∷ ns) = cons-eq refl (listing-quietLeaves ns)
 
@@ -93,6 +93,7 @@ module _ (P : Params) where
   State (suc n) M st log = ParState n M st log
 
   nothing : (k : ℕ) → Cut k [] [] []
+  unfolding mathlib.Core.List.flatten
   nothing k = record { whole = refl; full = tt; fits = omega arith; some = λ e. refl }
 
   -- an opened stream
@@ -313,6 +314,7 @@ module _ (P : Params) where
     pub root : (d : Node) → rootOf (levels P limit 1 M) ≡ lastOr d last
 
   seq-done : (M : List Bool) (st : List (List ℕ)) (log : List Node) → SeqState M st log → Done 0 M log (closing P 0 (length M) st)
+  unfolding mathlib.Core.List.flatten
   seq-done M st log v =
       rw (v .is, closing-seq (length M) ws (v .up), cut-held-3072 (v .cut), cut-last-3072 (v .cut)) record {
         listed = ap (λ (T : List (List Node)). listing (subtrees 0 (length M) T)) level
@@ -333,6 +335,7 @@ module _ (P : Params) where
 
   par-one : (n : ℕ) (M : List Bool) (st : List (List ℕ)) (log : List Node) (v : ParState n M st log) → v .B ≡ [] →
       Done (suc n) M log (closing P (suc n) (length M) st)
+  unfolding mathlib.Core.List.flatten
   par-one n M st log v none =
       rw (
         v .is,

@@ -1,6 +1,5 @@
--- Which nodes of a tree's listing a log has. Document 01, "Runs": "all of them if an end was accepted, otherwise those that do
+-- Definitions: which nodes of a tree's listing a log has. Document 01, "Runs": "all of them if an end was accepted, otherwise those that do
 -- not reach the last bit".
--- Assumes nothing.
 use mathlib.Core.Bool.{true, false}
 use mathlib.Core.List.{List, [], _∷_, map}
 use Rattle.tree.specs.Tree.{Node, Mark}

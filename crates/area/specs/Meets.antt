@@ -1,6 +1,5 @@
--- The stream meets the tree, for every message and every cutting of it: the logs of the feeds are U and V of the tree's nodes
+-- Laws: the stream meets the tree, for every message and every cutting of it: the logs of the feeds are U and V of the tree's nodes
 -- that do not reach the last bit, in order; with the end's log, of all nodes; and the digest is the tree's.
--- Assumes nothing.
 use mathlib.Core.Path.{_≡_, refl, sym, ap, _∙_}
 use mathlib.Core.Bool.{Bool, true}
 use mathlib.Core.List.{List, [], _∷_, _++_, append-assoc, append-nil}
@@ -13,9 +12,9 @@ use Rattle.bits.specs.BitsLaws.{length-numbers}
 use Rattle.tree.specs.Tree.{Params, Mark, order, digest, digestBytes}
 use Rattle.tree.specs.Refusals.{pieceBits}
 use Rattle.area.specs.Area.{areaWords, sound}
-use Rattle.area.specs.Calls.{Made, Fed, Ended, logOf, openNumber, openOf, fedBits, feedNumber, fedArea, feedOf, closedBy, endNumber, endedArea, digestOut, endOf}
+use Rattle.area.specs.Calls.{Made, Fed, Finished, nodeLog, openNumber, openOf, fedBits, feedNumber, fedArea, feedOf, closedBy, endNumber, endedArea, digestOut, endOf}
 use Rattle.area.specs.Marks.{allNodes, settled}
-use Rattle.area.specs.CallLaws.{logOf-append, logged-front, open-number, open-accepted, feed-number, feed-accepted, end-number, end-accepted}
+use Rattle.area.specs.CallLaws.{nodeLog-append, logged-front, open-number, open-accepted, feed-number, feed-accepted, end-number, end-accepted}
 use Rattle.area.specs.Stands.{settled-opened, Stands, Closed, stands-sound, closed-sound, open-stands, FeedDone, feed-stands, EndDone, end-closed}
 
 -- ---- a cutting of a message
@@ -36,9 +35,9 @@ abbrev pub feeds : List ℕ → List Piece → List Fed
 feeds area [] = []
 feeds area (p ∷ ps) = let f : Fed = feedOf area (p .bytes) (p .bits) (p .log) in f ∷ feeds (f .area) ps
 
-abbrev pub areaAfter : List ℕ → List Fed → List ℕ
-areaAfter area [] = area
-areaAfter area (f ∷ fs) = areaAfter (f .area) fs
+abbrev pub areaAfterFeeds : List ℕ → List Fed → List ℕ
+areaAfterFeeds area [] = area
+areaAfterFeeds area (f ∷ fs) = areaAfterFeeds (f .area) fs
 
 abbrev pub Accepted : List Fed → Type 0
 Accepted [] = Unit {0}
@@ -56,14 +55,14 @@ counted (f ∷ fs) = f .count + counted fs
 -- ---- feeds
 
 pub record FedAll (P : Params) (M Y : List Bool) (area : List ℕ) (fs : List Fed) : Type 0 where
-  pub stands : Stands P (M ++ Y) (areaAfter area fs)
-  pub log : logOf (settled (order P (M ++ Y))) ≡ logOf (settled (order P M)) ++ joinedLog fs
+  pub stands : Stands P (M ++ Y) (areaAfterFeeds area fs)
+  pub log : nodeLog (settled (order P (M ++ Y))) ≡ nodeLog (settled (order P M)) ++ joinedLog fs
   pub count : length (settled (order P (M ++ Y))) ≡ length (settled (order P M)) + counted fs
 
 -- one accepted feed
 pub record FedOnce (P : Params) (M Y : List Bool) (area : List ℕ) (f : Fed) : Type 0 where
   pub stands : Stands P (M ++ Y) (f .area)
-  pub log : logOf (settled (order P (M ++ Y))) ≡ logOf (settled (order P M)) ++ take (2 * f .count) (f .log)
+  pub log : nodeLog (settled (order P (M ++ Y))) ≡ nodeLog (settled (order P M)) ++ take (2 * f .count) (f .log)
   pub count : length (settled (order P (M ++ Y))) ≡ length (settled (order P M)) + f .count
   pub size : length (f .area) ≡ length area
   pub tail : drop areaWords (f .area) ≡ drop areaWords area
@@ -72,7 +71,7 @@ pub feed-one : (P : Params) (M : List Bool) (area piece : List ℕ) (n : ℕ) (l
     FedOnce P M (pieceBits piece n) area (feedOf area piece n log)
 feed-one P M area piece n log s e = rw (feed-accepted area piece n log z) record {
   stands = d .stands;
-  log = ap logOf (d .added) ∙ logOf-append (settled (order P M)) (made .nodes) ∙ rw (logged-front (made .nodes) log);
+  log = ap nodeLog (d .added) ∙ nodeLog-append (settled (order P M)) (made .nodes) ∙ rw (logged-front (made .nodes) log);
   count = ap length (d .added) ∙ length-append (settled (order P M)) (made .nodes);
   size = d .size;
   tail = d .tail;
@@ -98,15 +97,15 @@ feeds-all P M area (p ∷ ps) s a =
     record {
       stands = rw (← append-assoc M Y (message ps)) (r .stands);
       log = rw (← append-assoc M Y (message ps))
-          (r .log ∙ rw (o .log) (append-assoc (logOf (settled (order P M))) (take (2 * f .count) (f .log)) (joinedLog (feeds (f .area) ps))));
+          (r .log ∙ rw (o .log) (append-assoc (nodeLog (settled (order P M))) (take (2 * f .count) (f .log)) (joinedLog (feeds (f .area) ps))));
       count = rw (← append-assoc M Y (message ps)) (omega (arith, r .count, o .count));
     }
 
 -- ---- an end
 
-pub record EndedOnce (P : Params) (M : List Bool) (area out : List ℕ) (e : Ended) : Type 0 where
+pub record EndedOnce (P : Params) (M : List Bool) (area out : List ℕ) (e : Finished) : Type 0 where
   pub closed : Closed P M (e .area)
-  pub log : logOf (allNodes (order P M)) ≡ logOf (settled (order P M)) ++ take (2 * e .count) (e .log)
+  pub log : nodeLog (allNodes (order P M)) ≡ nodeLog (settled (order P M)) ++ take (2 * e .count) (e .log)
   pub count : length (order P M) ≡ length (settled (order P M)) + e .count
   pub digest : e .digest ≡ digest P M ++ drop (digestBytes (P .d)) out
   pub size : length (e .area) ≡ length area
@@ -116,7 +115,7 @@ pub end-one : (P : Params) (M : List Bool) (area out log : List ℕ) → Stands 
     EndedOnce P M area out (endOf area out log)
 end-one P M area out log s e = rw (end-accepted area out log z) record {
   closed = d .closed;
-  log = ap logOf (d .all) ∙ logOf-append (settled (order P M)) (closedBy area) ∙ rw (logged-front (closedBy area) log);
+  log = ap nodeLog (d .all) ∙ nodeLog-append (settled (order P M)) (closedBy area) ∙ rw (logged-front (closedBy area) log);
   count = sym (length-map (order P M) (λ (m : Mark). m .node)) ∙ ap length (d .all) ∙ length-append (settled (order P M)) (closedBy area);
   digest = d .digest;
   size = d .size;
@@ -134,13 +133,13 @@ end-one P M area out log s e = rw (end-accepted area out log z) record {
 pub record MeetsOpen (P : Params) (M : List Bool) (fs : List Fed) (after : List ℕ) : Type 0 where
   pub stands : Stands P M after
   pub sound : sound after ≡ true
-  pub log : joinedLog fs ≡ logOf (settled (order P M))
+  pub log : joinedLog fs ≡ nodeLog (settled (order P M))
   pub count : counted fs ≡ length (settled (order P M))
 
-pub record MeetsEnded (P : Params) (M : List Bool) (fs : List Fed) (e : Ended) : Type 0 where
+pub record MeetsEnded (P : Params) (M : List Bool) (fs : List Fed) (e : Finished) : Type 0 where
   pub closed : Closed P M (e .area)
   pub sound : sound (e .area) ≡ true
-  pub log : joinedLog fs ++ take (2 * e .count) (e .log) ≡ logOf (allNodes (order P M))
+  pub log : joinedLog fs ++ take (2 * e .count) (e .log) ≡ nodeLog (allNodes (order P M))
   pub count : counted fs + e .count ≡ length (order P M)
   pub digest : take (digestBytes (P .d)) (e .digest) ≡ digest P M
 
@@ -151,7 +150,8 @@ open-one area P key e =
 
 -- before an end
 pub stream-meets-tree : (area : List ℕ) (P : Params) (ps : List Piece) → Below 256 (P .key) → openOf area P .number ≡ 0 →
-    (let fs : List Fed = feeds (openOf area P .area) ps in Accepted fs → MeetsOpen P (message ps) fs (areaAfter (openOf area P .area) fs))
+    (let fs : List Fed = feeds (openOf area P .area) ps in Accepted fs → MeetsOpen P (message ps) fs (areaAfterFeeds (openOf area P .area) fs))
+unfolding mathlib.Core.List.flatten
 stream-meets-tree area P ps key e a =
     let f = feeds-all P [] (openOf area P .area) ps (open-one area P key e) a in
     let none = settled-opened P in
@@ -165,11 +165,11 @@ stream-meets-tree area P ps key e a =
 -- with the end
 pub ended-meets-tree : (area : List ℕ) (P : Params) (ps : List Piece) (out log : List ℕ) → Below 256 (P .key) → openOf area P .number ≡ 0 →
     (let fs : List Fed = feeds (openOf area P .area) ps in
-    let e : Ended = endOf (areaAfter (openOf area P .area) fs) out log in Accepted fs → e .number ≡ 0 → MeetsEnded P (message ps) fs e)
+    let e : Finished = endOf (areaAfterFeeds (openOf area P .area) fs) out log in Accepted fs → e .number ≡ 0 → MeetsEnded P (message ps) fs e)
 ended-meets-tree area P ps out log key e a z =
     let m = stream-meets-tree area P ps key e a in
     let M : List Bool = message ps in
-    let l = end-one P M (areaAfter (openOf area P .area) (feeds (openOf area P .area) ps)) out log (m .stands) z in
+    let l = end-one P M (areaAfterFeeds (openOf area P .area) (feeds (openOf area P .area) ps)) out log (m .stands) z in
     record {
       closed = l .closed;
       sound = closed-sound (l .closed);

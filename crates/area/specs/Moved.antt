@@ -1,8 +1,7 @@
--- What an area stands for goes by its first 1,744 words, which are words of 64 bits.
--- Assumes nothing.
+-- Laws: what an area stands for goes by its first 1,744 words, which are words of 64 bits.
 use mathlib.Core.Path.{_≡_, refl, sym, ap, _∙_}
 use mathlib.Core.Bool.{Bool, true, false, _||_}
-use mathlib.Core.List.{List, [], _∷_, _++_}
+use mathlib.Core.List.{List, [], _∷_, _++_, flatten}
 use Prim.Native.Nat.{ℕ, zero, suc, _+_, _-_, _*_, _/_, _^_, _≤_, _<_}
 use native.Mathlib.Omega.{arith}
 use borrow.Author.Tests.{ltb-true, ltb-false, eqb-true}
@@ -10,16 +9,16 @@ use lib.Dec.{eqb, ltb}
 use lib.ListN.{length, take, drop, getD, replicate, length-drop}
 use lib.Seq.{take-take, getD-take, getD-drop, length-take-le, take-add}
 use Rattle.lists.specs.Append.{cons-eq}
-use Rattle.lists.specs.Below.{Below, none, below-append, below-all, below-at, below-take, below-drop, below-zeros}
-use Rattle.lists.specs.Concat.{concat}
-use Rattle.lists.specs.Both.{both-true, both-parts}
+use Rattle.lists.specs.Below.{Below, none}
+use Rattle.lists.specs.BelowLaws.{below-append, below-all, below-at, below-take, below-drop, below-zeros}
+use Rattle.lists.specs.And.{and-intro, and-parts}
 use Rattle.bits.specs.Bits.{bitsOf}
 use Rattle.bits.specs.BitsLaws.{length-numbers, numbers-below}
 use Rattle.tree.specs.Tree.{Params, Valid, Node, Mark, Subtree, keyWords, order}
 use Rattle.tree.specs.TreeLaws.{keyWords-below, length-keyWords}
 use Rattle.tree.specs.Refusals.{refusedParams}
 use Rattle.tree.specs.Count.{treeNodes-bound}
-use Rattle.area.specs.Area.{headWords, areaWords, phaseOf, totalOf, keyBytesOf, keyOf, compressionsOf, paramsOf, levelsFrom, levelsOf, emptyLevel, emptyLevels, openAbove, openCount, countFor, soundPhase, soundParams, soundKey, soundCount, soundLast, soundLevels, holdsFor, cleanAll, sound}
+use Rattle.area.specs.Area.{headWords, areaWords, phaseOf, totalOf, keyBytesOf, kOf, compressionsOf, paramsOf, levelsFrom, levelsOf, emptyLevel, emptyLevels, openAbove, openCount, countFor, soundPhase, soundParams, soundKey, soundCount, soundLast, soundLevels, holdsFor, cleanAll, sound}
 use Rattle.area.specs.Marks.{settled}
 use Rattle.area.specs.Block.{blockOf-below}
 use Rattle.area.specs.Rows.{over}
@@ -28,7 +27,7 @@ use Rattle.area.specs.Machine
 use Rattle.area.specs.Counts
 use Rattle.area.specs.AreaLaws.{same-word, same-key, same-params, key-words}
 use Rattle.tree.specs.RefusalLaws.{params-valid}
-use Rattle.area.specs.FeedLaws.{concat-from}
+use Rattle.area.specs.FeedLaws.{flatten-from}
 use Rattle.area.specs.Stands.{Head, Stands, Closed}
 
 -- ---- the tests of soundness
@@ -44,34 +43,34 @@ pub record Tests (area : List ℕ) : Type 0 where
 pub sound-tests : (area : List ℕ) → sound area ≡ true → Tests area
 unfolding sound
 sound-tests area e =
-    let a = both-parts (soundPhase area) _ e in
-    let b = both-parts (soundParams area) _ (a .1) in
-    let c = both-parts (soundKey area) _ (b .1) in
-    let d = both-parts (soundCount area) _ (c .1) in
-    let f = both-parts (soundLast area) _ (d .1) in
+    let a = and-parts (soundPhase area) _ e in
+    let b = and-parts (soundParams area) _ (a .1) in
+    let c = and-parts (soundKey area) _ (b .1) in
+    let d = and-parts (soundCount area) _ (c .1) in
+    let f = and-parts (soundLast area) _ (d .1) in
     record { phase = a .0; params = b .0; key = c .0; count = d .0; last = f .0; levels = f .1 }
 
 pub tests-sound : (area : List ℕ) → Tests area → sound area ≡ true
 unfolding sound
 tests-sound area t =
-    both-true (t .phase) (both-true (t .params) (both-true (t .key) (both-true (t .count) (both-true (t .last) (t .levels)))))
+    and-intro (t .phase) (and-intro (t .params) (and-intro (t .key) (and-intro (t .count) (and-intro (t .last) (t .levels)))))
 
 pub length-key : (area : List ℕ) → length (paramsOf area .key) ≡ keyBytesOf area
 unfolding paramsOf
-length-key area = length-numbers 8 (keyBytesOf area) (bitsOf 64 (keyOf area))
+length-key area = length-numbers 8 (keyBytesOf area) (bitsOf 64 (kOf area))
 
 -- the parameters of a sound area are in range
 pub sound-valid : (area : List ℕ) → sound area ≡ true → Valid (paramsOf area)
 unfolding paramsOf
 sound-valid area e =
-    params-valid (paramsOf area) (numbers-below 8 (keyBytesOf area) (bitsOf 64 (keyOf area))) (eqb-true (refusedParams (paramsOf area) 0) 0 (sound-tests area e .params))
+    params-valid (paramsOf area) (numbers-below 8 (keyBytesOf area) (bitsOf 64 (kOf area))) (eqb-true (refusedParams (paramsOf area) 0) 0 (sound-tests area e .params))
 
 -- K of a sound area is K of the key that it stands for
-pub sound-key : (area : List ℕ) → areaWords ≤ length area → Below (2 ^ 64) area → sound area ≡ true → keyWords (paramsOf area .key) ≡ keyOf area
+pub sound-key : (area : List ℕ) → areaWords ≤ length area → Below (2 ^ 64) area → sound area ≡ true → keyWords (paramsOf area .key) ≡ kOf area
 unfolding paramsOf
 sound-key area h b e =
     let v = sound-valid area e in
-    key-words (keyOf area) (keyBytesOf area) (below-take 8 (below-drop 6 b)) (length-take-le 8 (drop 6 area) (rw (length-drop 6 area) (omega arith)))
+    key-words (kOf area) (keyBytesOf area) (below-take 8 (below-drop 6 b)) (length-take-le 8 (drop 6 area) (rw (length-drop 6 area) (omega arith)))
     (omega (arith, v .keyBytes, length-key area)) (sound-tests area e .key)
 
 -- ---- the first 1,744 words
@@ -95,7 +94,7 @@ levelsOf-front area = levels-front area 27 1 (omega arith) (omega arith)
 -- two areas that agree in their first 1,744 words
 pub record Same (x y : List ℕ) : Type 0 where
   pub word : (i : ℕ) → i < headWords → getD x i 0 ≡ getD y i 0
-  pub key : keyOf x ≡ keyOf y
+  pub key : kOf x ≡ kOf y
   pub params : paramsOf x ≡ paramsOf y
   pub levels : levelsOf x ≡ levelsOf y
 
@@ -176,9 +175,10 @@ pub data Words : List (List ℕ) → Type 0 where
   nil : Words []
   cons : {ws : List ℕ} {st : List (List ℕ)} → Below (2 ^ 64) ws → Words st → Words (ws ∷ st)
 
-concat-below : {st : List (List ℕ)} → Words st → Below (2 ^ 64) (concat st)
-concat-below nil = none
-concat-below (cons b w) = below-append b (concat-below w)
+flatten-below : {st : List (List ℕ)} → Words st → Below (2 ^ 64) (flatten st)
+unfolding flatten
+flatten-below nil = none
+flatten-below (cons b w) = below-append b (flatten-below w)
 
 empty-words : (n : ℕ) → Words (replicate n emptyLevel)
 unfolding emptyLevel
@@ -207,7 +207,7 @@ openCount-small (suc n) T h = omega (arith, openAbove-most n ((T - 1) / 4096))
 module _ (P : Params) (M : List Bool) (area : List ℕ) (h : Head P M area) where
   k-words : (j : ℕ) → j < 8 → getD area (6 + j) 0 < 2 ^ 64
   k-words j l =
-      let b : getD (keyOf area) j 0 < 2 ^ 64 = below-at {ws = keyOf area} (rw (h .key) (keyWords-below (P .key))) j (rw (h .key, length-keyWords (P .key)) l) in
+      let b : getD (kOf area) j 0 < 2 ^ 64 = below-at {ws = kOf area} (rw (h .key) (keyWords-below (P .key))) j (rw (h .key, length-keyWords (P .key)) l) in
       rw (getD-take 8 (drop 6 area) j 0 l, getD-drop 6 area j 0) at b
 
   numbers-small : (getD area 3 0 < 2 ^ 64) × (getD area 4 0 < 2 ^ 64) × (getD area 5 0 < 2 ^ 64)
@@ -245,16 +245,16 @@ module _ (P : Params) (M : List Bool) (area : List ℕ) (h : Head P M area) wher
       below-all (take headWords area) (λ i l. rw (getD-take 16 area i 0 (omega arith)) (head-word p c i (omega arith)))
 
 -- the first 1,744 words are the head and the levels
-pub area-front : (area : List ℕ) → take areaWords area ≡ take headWords area ++ concat (levelsOf area)
+pub area-front : (area : List ℕ) → take areaWords area ≡ take headWords area ++ flatten (levelsOf area)
 unfolding levelsOf
-area-front area = take-add 16 1728 area ∙ rw (concat-from area 27 1 (omega arith)) refl
+area-front area = take-add 16 1728 area ∙ rw (flatten-from area 27 1 (omega arith)) refl
 
 pub stands-below : {P : Params} {M : List Bool} {area : List ℕ} → Stands P M area → Below (2 ^ 64) (take areaWords area)
 stands-below {P} {M} {area} s =
     rw (area-front area)
     (below-append
     (head-below P M area (s .head) (omega (arith, s .phase)) (omega (arith, s .count, openCount-small (P .limit) (length M) (s .head .short))))
-    (concat-below (state-words P (P .limit) M (levelsOf area) (settled (order P M)) (s .state))))
+    (flatten-below (state-words P (P .limit) M (levelsOf area) (settled (order P M)) (s .state))))
 
 pub closed-below : {P : Params} {M : List Bool} {area : List ℕ} → Closed P M area → Below (2 ^ 64) (take areaWords area)
 unfolding emptyLevels
@@ -262,4 +262,4 @@ closed-below {P} {M} {area} s =
     rw (area-front area)
     (below-append
     (head-below P M area (s .head) (omega (arith, s .phase)) (omega (arith, s .count, treeNodes-bound (P .limit) (length M) (s .head .short))))
-    (rw (s .levels) (concat-below (empty-words 27))))
+    (rw (s .levels) (flatten-below (empty-words 27))))

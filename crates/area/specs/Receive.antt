@@ -1,8 +1,7 @@
--- The levels above level 1 while nodes come to them: what they hold, and what is logged, against the tree's groups.
--- Assumes nothing.
+-- Laws: the levels above level 1 while nodes come to them: what they hold, and what is logged, against the tree's groups.
 use mathlib.Core.Path.{_≡_, refl, sym, ap, _∙_}
 use mathlib.Core.Bool.{Bool, true, false, _||_}
-use mathlib.Core.List.{List, [], _∷_, _++_, map, append-assoc, append-nil}
+use mathlib.Core.List.{List, [], _∷_, _++_, map, append-assoc, append-nil, flatten}
 use Prim.Native.Nat.{ℕ, zero, suc, _+_, _*_, _/_, _%_, _^_, _≤_, _<_}
 use native.Mathlib.Nat.{pow-succ'}
 use native.Mathlib.Omega.{arith}
@@ -10,23 +9,24 @@ use borrow.Author.Tests.{eqb-true, eqb-false}
 use lib.Dec.{eqb}
 use lib.ListN.{length, replicate, length-append, length-map, length-replicate}
 use Rattle.lists.specs.Append.{cons-eq}
-use Rattle.lists.specs.Concat.{concat, concat-append, map-append}
+use Rattle.lists.specs.Flatten.{flatten-append, map-append}
 use Rattle.bits.specs.BitsLaws.{length-numbers}
-use Rattle.tree.specs.Tree.{Params, Node, Mark, Subtree, outputBits, words, node, output, noChain, joined, anyReaches, listing, parent}
+use Rattle.tree.specs.Tree.{Params, Node, Mark, Subtree, outputBits, words, node, output, noChain, joinedOutputs, anyReaches, listing, parent}
 use Rattle.tree.specs.TreeLaws.{length-output-node, length-seqBlock}
 use Rattle.area.specs.Area.{emptyLevel}
 use Rattle.area.specs.Calls.{Made, outWords, chained, joinParallel, joinSequential, receive}
 use Rattle.area.specs.Block.{blockOf, blockOf-full, blockOf-none, blockOf-noChain, blockOf-output, blockOf-chain-full, join-parallel, join-sequential}
-use Rattle.area.specs.Rows.{AllLen, allLen-snoc, length-concat, snoc-length, tops, over, over-snoc, length-over}
+use Rattle.area.specs.Rows.{AllLen, allLen-snoc, length-flatten, snoc-length, tops, over, over-snoc, length-over}
 use Rattle.area.specs.Rows
 
 -- ---- marks and listings
 
 pub listing-append : (xs ys : List Subtree) → listing (xs ++ ys) ≡ listing xs ++ listing ys
 listing-append xs ys =
-    rw (map-append (λ (s : Subtree). s .nodes) xs ys) (concat-append (map (λ (s : Subtree). s .nodes) xs) (map (λ (s : Subtree). s .nodes) ys))
+    rw (map-append (λ (s : Subtree). s .nodes) xs ys) (flatten-append (map (λ (s : Subtree). s .nodes) xs) (map (λ (s : Subtree). s .nodes) ys))
 
 pub listing-snoc : (r : List Subtree) (x : Subtree) → listing (r ++ (x ∷ [])) ≡ listing r ++ x .nodes
+unfolding flatten
 listing-snoc r x = listing-append r (x ∷ []) ∙ rw (append-nil (x .nodes))
 
 or-assoc : (a b c : Bool) → a || b || c ≡ a || (b || c)
@@ -66,7 +66,7 @@ module _ (P : Params) where
   outOf s = output (P .rounds) (s .top .node)
 
   abbrev pub outs : List Subtree → List Bool
-  outs ss = joined P (tops ss)
+  outs ss = joinedOutputs P (tops ss)
 
   abbrev pub Sized : List Subtree → Type 0
   Sized [] = Unit {0}
@@ -85,36 +85,39 @@ module _ (P : Params) where
   sized-right (x ∷ xs) ys a = sized-right xs ys (a .1)
 
   pub length-outs : (ss : List Subtree) → Sized ss → length (outs ss) ≡ length ss * outputBits
+  unfolding flatten
   length-outs [] a = refl
   length-outs (s ∷ ss) a = length-append (outOf s) (outs ss) ∙ rw (a .0, length-outs ss (a .1)) (omega arith)
 
   pub outs-append : (xs ys : List Subtree) → outs (xs ++ ys) ≡ outs xs ++ outs ys
+  unfolding flatten
   outs-append [] ys = refl
   outs-append (x ∷ xs) ys = rw (outs-append xs ys) (sym (append-assoc (outOf x) (outs xs) (outs ys)))
 
   pub outs-snoc : (r : List Subtree) (x : Subtree) → outs (r ++ (x ∷ [])) ≡ outs r ++ outOf x
+  unfolding flatten
   outs-snoc r x = outs-append r (x ∷ []) ∙ rw (append-nil (outOf x))
 
   -- ---- what came to a level, in full groups and a rest that does not reach the last bit
 
   pub record Split (k : ℕ) (X : List Subtree) (G : List (List Subtree)) (r : List Subtree) : Type 0 where
-    pub whole : X ≡ concat G ++ r
+    pub whole : X ≡ flatten G ++ r
     pub full : AllLen k G
     pub few : length r < k
     pub quiet : anyReaches r ≡ false
     pub sized : Sized X
 
   pub split-length : {k : ℕ} {X : List Subtree} {G : List (List Subtree)} {r : List Subtree} → Split k X G r → length X ≡ length G * k + length r
-  split-length {k} {X} {G} {r} s = ap length (s .whole) ∙ length-append (concat G) r ∙ rw (length-concat k G (s .full))
+  split-length {k} {X} {G} {r} s = ap length (s .whole) ∙ length-append (flatten G) r ∙ rw (length-flatten k G (s .full))
 
   pub split-rest : {k : ℕ} {X : List Subtree} {G : List (List Subtree)} {r : List Subtree} → Split k X G r → Sized r
-  split-rest {k} {X} {G} {r} s = sized-right (concat G) r (rw (s .whole) at (s .sized))
+  split-rest {k} {X} {G} {r} s = sized-right (flatten G) r (rw (s .whole) at (s .sized))
 
   pub split-more : {k : ℕ} {X : List Subtree} {G : List (List Subtree)} {r : List Subtree} (x : Subtree) → Split k X G r →
       x .top .reaches ≡ false → length (outOf x) ≡ outputBits →
       suc (length r) < k → Split k (X ++ (x ∷ [])) G (r ++ (x ∷ []))
   split-more {k} {X} {G} {r} x s q o h = record {
-    whole = ap (λ (l : List Subtree). l ++ (x ∷ [])) (s .whole) ∙ append-assoc (concat G) r (x ∷ []);
+    whole = ap (λ (l : List Subtree). l ++ (x ∷ [])) (s .whole) ∙ append-assoc (flatten G) r (x ∷ []);
     full = s .full;
     few = rw (snoc-length r x) h;
     quiet = reaches-snoc r x (s .quiet) ∙ q;
@@ -124,8 +127,9 @@ module _ (P : Params) where
   pub split-full : {k : ℕ} {X : List Subtree} {G : List (List Subtree)} {r : List Subtree} (x : Subtree) → Split k X G r →
       length (outOf x) ≡ outputBits →
       suc (length r) ≡ k → Split k (X ++ (x ∷ [])) (G ++ ((r ++ (x ∷ [])) ∷ [])) []
+  unfolding flatten
   split-full {k} {X} {G} {r} x s o h = record {
-    whole = ap (λ (l : List Subtree). l ++ (x ∷ [])) (s .whole) ∙ simp (concat-append, append-assoc, append-nil);
+    whole = ap (λ (l : List Subtree). l ++ (x ∷ [])) (s .whole) ∙ simp (flatten-append, append-assoc, append-nil);
     full = allLen-snoc k G (r ++ (x ∷ [])) (s .full) (snoc-length r x ∙ h);
     few = omega arith;
     quiet = refl;
@@ -133,6 +137,7 @@ module _ (P : Params) where
   }
 
   split-none : (k : ℕ) → 0 < k → Split k [] [] []
+  unfolding flatten
   split-none k h = record { whole = refl; full = tt; few = h; quiet = refl; sized = tt }
 
   -- the nodes over full groups
@@ -190,6 +195,7 @@ module _ (P : Params) where
   par-rest v = omega (arith, split-length (v .sp), v .sp .few)
 
   pub inv-open : (n level k : ℕ) → Inv n level [] (replicate k emptyLevel) []
+  unfolding flatten
   inv-open n level zero = record { none = refl; logged = refl }
   inv-open zero level (suc k) = record {
     G = [];
@@ -304,6 +310,7 @@ module _ (P : Params) where
   seq-full : (level : ℕ) (X : List Subtree) (ws : List ℕ) (up : List (List ℕ)) (lg : List Mark) (x : Subtree) (v : SeqInv level X ws up lg) →
       x .top .reaches ≡ false →
       length (outOf x) ≡ outputBits → eqb (length X % 3) 2 ≡ true → After 0 level X lg x (receive P 0 level (length X) (wordsOf x) (ws ∷ up))
+  unfolding flatten
   seq-full level X ws up lg x v q o e =
       let g : List Subtree = v .r ++ (x ∷ []) in
       let h : suc (length (v .r)) ≡ 3 = omega (arith, seq-rest v, eqb-true (length X % 3) 2 e) in
@@ -341,6 +348,7 @@ module _ (P : Params) where
       (let y : Subtree = parTop level (v .G) (v .r ++ (x ∷ [])) in
       After n (suc level) (over (v .G) (parRow level (v .G))) (v .lg′) y (receive P n (suc level) (length (v .G)) (wordsOf y) up)) →
       After (suc n) level X lg x (receive P (suc n) level (length X) (wordsOf x) (ws ∷ up))
+  unfolding flatten
   par-full n level X ws up lg x v q o e u =
       let g : List Subtree = v .r ++ (x ∷ []) in
       let y : Subtree = parTop level (v .G) g in

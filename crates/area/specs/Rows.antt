@@ -1,15 +1,14 @@
--- One level of the tree, from the blocks of its bits: its nodes in a row, and the subtrees over groups of children.
--- Assumes nothing.
+-- Laws: one level of the tree, from the blocks of its bits: its nodes in a row, and the subtrees over groups of children.
 use mathlib.Core.Path.{_≡_, refl, sym, ap, _∙_}
 use mathlib.Core.Bool.{Bool, true, false}
-use mathlib.Core.List.{List, [], _∷_, _++_, map, append-assoc, append-nil}
+use mathlib.Core.List.{List, [], _∷_, _++_, map, append-assoc, append-nil, flatten}
 use Prim.Native.Nat.{ℕ, suc, _+_, _-_, _*_, _/_, _≤_, _<_}
 use native.Mathlib.Nat.{add-zero, zero-add, suc-add, add-suc, zero-mul, suc-mul, add-comm}
 use native.Mathlib.Omega.{arith}
 use lib.ListN.{length, replicate, length-append}
 use lib.Seq.{take-at, drop-at, take-all}
 use Rattle.lists.specs.Append.{cons-eq}
-use Rattle.lists.specs.Concat.{concat, concat-append, map-append}
+use Rattle.lists.specs.Flatten.{flatten-append, map-append}
 use Rattle.bits.specs.BitsLaws.{numbers-front}
 use Rattle.tree.specs.Tree.{Params, Node, Subtree, words, node, output, blocks, padding, par, seq, noChain, parallel, sequential, lastOr, parent, parents}
 use Rattle.tree.specs.TreeLaws.{length-output-node, length-seqBlock, length-noChain}
@@ -25,9 +24,10 @@ pub allLen-snoc {ℓ} : {A : Type ℓ} (k : ℕ) (G : List (List A)) (g : List A
 allLen-snoc k [] g a h = (h, tt)
 allLen-snoc k (x ∷ G) g a h = (a .0, allLen-snoc k G g (a .1) h)
 
-pub length-concat {ℓ} : {A : Type ℓ} (k : ℕ) (G : List (List A)) → AllLen k G → length (concat G) ≡ length G * k
-length-concat k [] a = sym (zero-mul k)
-length-concat k (g ∷ G) a = length-append g (concat G) ∙ rw (a .0, length-concat k G (a .1), suc-mul (length G) k) (add-comm k (length G * k))
+pub length-flatten {ℓ} : {A : Type ℓ} (k : ℕ) (G : List (List A)) → AllLen k G → length (flatten G) ≡ length G * k
+unfolding flatten
+length-flatten k [] a = sym (zero-mul k)
+length-flatten k (g ∷ G) a = length-append g (flatten G) ∙ rw (a .0, length-flatten k G (a .1), suc-mul (length G) k) (add-comm k (length G * k))
 
 pub snoc-length {ℓ} : {A : Type ℓ} (xs : List A) (x : A) → length (xs ++ (x ∷ [])) ≡ suc (length xs)
 snoc-length xs x = rw (length-append xs (x ∷ [])) (omega arith)
@@ -39,13 +39,13 @@ lastOr-snoc d (y ∷ xs) x = lastOr-snoc y xs x
 -- ---- bits cut into full blocks and a last one, which is empty only where nothing came
 
 pub record Cut (k : ℕ) (M : List Bool) (B : List (List Bool)) (l : List Bool) : Type 0 where
-  pub whole : M ≡ concat B ++ l
+  pub whole : M ≡ flatten B ++ l
   pub full : AllLen k B
   pub fits : length l ≤ k
   pub some : length l ≡ 0 → length B ≡ 0
 
 pub cut-length : {k : ℕ} {M : List Bool} {B : List (List Bool)} {l : List Bool} → Cut k M B l → length M ≡ length B * k + length l
-cut-length {k} {M} {B} {l} c = ap length (c .whole) ∙ length-append (concat B) l ∙ rw (length-concat k B (c .full))
+cut-length {k} {M} {B} {l} c = ap length (c .whole) ∙ length-append (flatten B) l ∙ rw (length-flatten k B (c .full))
 
 blocks-4096 : (n m : ℕ) (l : List Bool) → m ≡ n * 4096 + length l → length l ≤ 4096 → (length l ≡ 0 → n ≡ 0) → blocks 4096 m ≡ suc n
 blocks-4096 n m [] e h z = let n0 : n ≡ 0 = z refl in omega arith
@@ -85,7 +85,7 @@ cut-last-3072 {M} {B} {l} c = go (length M) (length B) l (cut-length c) (c .fits
 pub cut-more : {k : ℕ} {M : List Bool} {B : List (List Bool)} {l : List Bool} (b : Bool) → Cut k M B l → length l < k →
     Cut k (M ++ (b ∷ [])) B (l ++ (b ∷ []))
 cut-more {k} {M} {B} {l} b c h = record {
-  whole = ap (λ (x : List Bool). x ++ (b ∷ [])) (c .whole) ∙ append-assoc (concat B) l (b ∷ []);
+  whole = ap (λ (x : List Bool). x ++ (b ∷ [])) (c .whole) ∙ append-assoc (flatten B) l (b ∷ []);
   full = c .full;
   fits = rw (snoc-length l b) h;
   some = λ e. absurd (omega (arith, snoc-length l b));
@@ -93,8 +93,9 @@ cut-more {k} {M} {B} {l} b c h = record {
 
 pub cut-full : {k : ℕ} {M : List Bool} {B : List (List Bool)} {l : List Bool} (b : Bool) → Cut k M B l → length l ≡ k → 0 < k →
     Cut k (M ++ (b ∷ [])) (B ++ (l ∷ [])) (b ∷ [])
+unfolding flatten
 cut-full {k} {M} {B} {l} b c h p = record {
-  whole = ap (λ (x : List Bool). x ++ (b ∷ [])) (c .whole) ∙ simp (concat-append, append-nil);
+  whole = ap (λ (x : List Bool). x ++ (b ∷ [])) (c .whole) ∙ simp (flatten-append, append-nil);
   full = allLen-snoc k B l (c .full) h;
   fits = p;
   some = λ e. absurd (omega arith);
@@ -167,27 +168,29 @@ module _ (P : Params) where
   -- ---- a level of the tree is its row and a last node
 
   par-row : (level p i : ℕ) (c : List Bool) (B : List (List Bool)) (e : List Bool) → AllLen 4096 B →
-      par P level 0 p i (suc (length B)) (concat B ++ e) ≡ row (parNode level) i c B ++ (node P level (i + length B) 0 p (words 64 e) ∷ [])
+      par P level 0 p i (suc (length B)) (flatten B ++ e) ≡ row (parNode level) i c B ++ (node P level (i + length B) 0 p (words 64 e) ∷ [])
+  unfolding flatten
   par-row level p i c [] e a = rw (add-zero i) refl
   par-row level p i c (b ∷ B) e a =
       rw (
-        append-assoc b (concat B) e,
-        numbers-front 64 64 b (concat B ++ e) (omega (arith, a .0)),
-        drop-at b (concat B ++ e) 4096 (a .0),
+        append-assoc b (flatten B) e,
+        numbers-front 64 64 b (flatten B ++ e) (omega (arith, a .0)),
+        drop-at b (flatten B ++ e) 4096 (a .0),
         par-row level p (suc i) (out (parNode level i c b)) B e (a .1),
         add-suc i (length B),
         suc-add i (length B),
       ) refl
 
   seq-row : (level p i : ℕ) (c : List Bool) (B : List (List Bool)) (e : List Bool) → AllLen 3072 B →
-      seq P level p i c (suc (length B)) (concat B ++ e)
+      seq P level p i c (suc (length B)) (flatten B ++ e)
       ≡ row (seqNode level) i c B ++ (node P level (i + length B) 1 p (words 16 (lastOut c (row (seqNode level) i c B)) ++ words 48 e) ∷ [])
+  unfolding flatten
   seq-row level p i c [] e a = rw (add-zero i) refl
   seq-row level p i c (b ∷ B) e a =
       rw (
-        append-assoc b (concat B) e,
-        numbers-front 64 48 b (concat B ++ e) (omega (arith, a .0)),
-        drop-at b (concat B ++ e) 3072 (a .0),
+        append-assoc b (flatten B) e,
+        numbers-front 64 48 b (flatten B ++ e) (omega (arith, a .0)),
+        drop-at b (flatten B ++ e) 3072 (a .0),
         seq-row level p (suc i) (out (seqNode level i c b)) B e (a .1),
         add-suc i (length B),
         suc-add i (length B),
@@ -200,7 +203,7 @@ module _ (P : Params) where
   lastSeq level i c l = node P level i 1 (3072 - length l) (blockOf (c ++ l))
 
   pub parallel-one : (level : ℕ) (M : List Bool) → length M ≤ 4096 → parallel P level true M ≡ lastPar level 0 1 M ∷ []
-  unfolding blockOf
+  unfolding blockOf flatten
   parallel-one level M h =
       let c : Cut 4096 M [] M = record { whole = refl; full = tt; fits = h; some = λ e. refl } in
       rw (cut-padding-4096 c, cut-blocks-4096 c) refl
@@ -209,13 +212,13 @@ module _ (P : Params) where
       parallel P level false M ≡ row (parNode level) 0 [] B ++ (lastPar level (length B) 0 l ∷ [])
   unfolding blockOf
   parallel-more level {M} {B} {l} c =
-      rw (cut-padding-4096 c, cut-blocks-4096 c, c .whole, append-assoc (concat B) l (replicate (4096 - length l) false))
+      rw (cut-padding-4096 c, cut-blocks-4096 c, c .whole, append-assoc (flatten B) l (replicate (4096 - length l) false))
       (par-row level (4096 - length l) 0 [] B (l ++ replicate (4096 - length l) false) (c .full) ∙ rw (zero-add (length B)) refl)
 
   pub sequential-is : (level : ℕ) {M : List Bool} {B : List (List Bool)} {l : List Bool} → Cut 3072 M B l →
       sequential P level M ≡ row (seqNode level) 0 noChain B ++ (lastSeq level (length B) (chain level B) l ∷ [])
   sequential-is level {M} {B} {l} c =
-      rw (cut-padding-3072 c, cut-blocks-3072 c, c .whole, append-assoc (concat B) l (replicate (3072 - length l) false))
+      rw (cut-padding-3072 c, cut-blocks-3072 c, c .whole, append-assoc (flatten B) l (replicate (3072 - length l) false))
       (seq-row level (3072 - length l) 0 noChain B (l ++ replicate (3072 - length l) false) (c .full)
       ∙ rw (zero-add (length B), chain-is level B, blockOf-chain (chain level B) l (length-chain level B) (c .fits)) refl)
 
@@ -250,9 +253,10 @@ tops-over (g ∷ G) (n ∷ ns) e = cons-eq refl (tops-over G ns (omega arith))
 
 pub parents-over : (k : ℕ) (G : List (List Subtree)) (t : List Subtree) (ns : List Node) (n : Node) → AllLen k G → length ns ≡ length G →
     length t ≤ k →
-    parents k (concat G ++ t) (ns ++ (n ∷ [])) ≡ over G ns ++ (parent n t ∷ [])
+    parents k (flatten G ++ t) (ns ++ (n ∷ [])) ≡ over G ns ++ (parent n t ∷ [])
+unfolding flatten
 parents-over k [] t [] n a e h = rw (take-all k t h)
 parents-over k [] t (m ∷ ns) n a e h = absurd (omega arith)
 parents-over k (g ∷ G) t [] n a e h = absurd (omega arith)
 parents-over k (g ∷ G) t (m ∷ ns) n a e h =
-    rw (append-assoc g (concat G) t, take-at g (concat G ++ t) k (a .0), drop-at g (concat G ++ t) k (a .0)) (cons-eq refl (parents-over k G t ns n (a .1) (omega arith) h))
+    rw (append-assoc g (flatten G) t, take-at g (flatten G ++ t) k (a .0), drop-at g (flatten G ++ t) k (a .0)) (cons-eq refl (parents-over k G t ns n (a .1) (omega arith) h))

@@ -1,5 +1,4 @@
--- The levels that a message leaves are sound: what is not held is zero.
--- Assumes nothing.
+-- Laws: the levels that a message leaves are sound: what is not held is zero.
 use mathlib.Core.Path.{_≡_, refl, sym, ap, _∙_}
 use mathlib.Core.Bool.{Bool, true, false, _||_}
 use mathlib.Core.List.{List, [], _∷_, _++_, map, append-assoc}
@@ -9,7 +8,7 @@ use borrow.Author.Tests.{ltb-false}
 use lib.Dec.{ltb}
 use lib.ListN.{length, replicate, length-append, length-replicate}
 use lib.Seq.{take-at, drop-at}
-use Rattle.lists.specs.Both.{both-true}
+use Rattle.lists.specs.And.{and-intro}
 use Rattle.tree.specs.Tree.{Params, Node, Mark, Subtree, blockBits, sequentialBits, outputBits, mostLevels, noChain}
 use Rattle.area.specs.Area.{emptyLevel, doneBlocks, heldBits, parallelHold, sequentialHold, holdsAbove, openHolds, allFalse, clean, cleanAll}
 use Rattle.area.specs.Block.{blockOf, length-blockOf, bitsOf-blockOf, blockOf-none}
@@ -30,7 +29,7 @@ empty-level = rw (← blockOf-none) (clean-parallel 0 [] (omega arith) refl)
 
 pub clean-empty : (n : ℕ) → cleanAll (replicate n (parallelHold 0)) (replicate n emptyLevel) ≡ true
 clean-empty zero = refl
-clean-empty (suc n) = both-true empty-level (clean-empty n)
+clean-empty (suc n) = and-intro empty-level (clean-empty n)
 
 pub empty-widths : (n : ℕ) → AllLen 64 (replicate n emptyLevel)
 unfolding emptyLevel
@@ -45,7 +44,7 @@ pub clean-sequential : (n held : ℕ) (c X : List Bool) → length c ≡ outputB
     clean (sequentialHold n held) (blockOf (c ++ X)) ≡ true
 clean-sequential n held c X hc hX e z =
     rw (bitsOf-blockOf (c ++ X) fits, drop-at (c ++ X) Z (outputBits + held) (rw (length-append c X) (omega arith)), append-assoc c X Z, take-at c (X ++ Z) outputBits hc)
-    (both-true (go (ltb 0 n) refl) (allFalse-replicate (blockBits - length (c ++ X))))
+    (and-intro (go (ltb 0 n) refl) (allFalse-replicate (blockBits - length (c ++ X))))
   where
     fits : length (c ++ X) ≤ blockBits
     fits = rw (length-append c X) (omega arith)
@@ -67,7 +66,7 @@ module _ (P : Params) where
   inv-sound n level X [] lg v = refl
   inv-sound zero level X (ws ∷ up) lg v =
       rw (v .is, v .empty, length-replicate (length up) emptyLevel)
-      (both-true (clean-sequential (length X / 3) (outputBits * (length X % 3)) (Receive.chainOver P level (v .G)) (Receive.outs P (v .r))
+      (and-intro (clean-sequential (length X / 3) (outputBits * (length X % 3)) (Receive.chainOver P level (v .G)) (Receive.outs P (v .r))
       (Rows.length-chain P level (map (Receive.outs P) (v .G))) (omega (arith, long, v .sp .few)) (omega (arith, long, Receive.seq-rest P v))
       (λ e. none-chain level (map (Receive.outs P) (v .G)) (Receive.length-groups P (v .G) ∙ omega (arith, Receive.seq-at P v))))
       (clean-empty (length up)))
@@ -76,7 +75,7 @@ module _ (P : Params) where
       long = Receive.length-outs P (v .r) (Receive.split-rest P (v .sp))
   inv-sound (suc n) level X (ws ∷ up) lg v =
       rw (v .is)
-      (both-true (clean-parallel (outputBits * (length X % 4)) (Receive.outs P (v .r)) (omega (arith, long, v .sp .few)) (omega (arith, long, Receive.par-rest P v)))
+      (and-intro (clean-parallel (outputBits * (length X % 4)) (Receive.outs P (v .r)) (omega (arith, long, v .sp .few)) (omega (arith, long, Receive.par-rest P v)))
       (rw (size, ← Receive.par-at P v) at (inv-sound n (suc level) (over (v .G) (Receive.parRow P level (v .G))) up (v .lg′) (v .up))))
     where
       long : length (Receive.outs P (v .r)) ≡ length (v .r) * outputBits
@@ -103,10 +102,10 @@ module _ (P : Params) where
       cleanAll (openHolds limit (length M)) st ≡ true
   state-sound zero M st log v =
       rw (v .is)
-      (both-true (clean-sequential (doneBlocks 3072 (length M)) (heldBits 3072 (length M)) (Rows.chain P 1 (v .B)) (v .l) (Rows.length-chain P 1 (v .B)) (v .cut .fits)
+      (and-intro (clean-sequential (doneBlocks 3072 (length M)) (heldBits 3072 (length M)) (Rows.chain P 1 (v .B)) (v .l) (Rows.length-chain P 1 (v .B)) (v .cut .fits)
       (sym (cut-held-3072 (v .cut))) (λ e. none-chain 1 (v .B) (sym (cut-last-3072 (v .cut)) ∙ e)))
       (rw (v .empty, v .size) (clean-empty 26)))
   state-sound (suc n) M st log v =
       rw (v .is)
-      (both-true (clean-parallel (heldBits 4096 (length M)) (v .l) (v .cut .fits) (sym (cut-held-4096 (v .cut))))
+      (and-intro (clean-parallel (heldBits 4096 (length M)) (v .l) (v .cut .fits) (sym (cut-held-4096 (v .cut))))
       (rw (v .size, Machine.length-parNodes P (v .B), ← cut-last-4096 (v .cut)) at (inv-sound n 2 _ (v .up) _ (v .inv))))

@@ -1,32 +1,30 @@
--- An area stands for a message: what each accepted call makes of this, and that the area is sound.
--- Assumes nothing.
+-- Laws: an area stands for a message: what each accepted call makes of this, and that the area is sound.
 use mathlib.Core.Path.{_≡_, refl, sym, ap, _∙_}
-use mathlib.Core.Bool.{Bool, true, false}
-use mathlib.Core.List.{List, [], _∷_, _++_, append-assoc}
-use Prim.Native.Nat.{ℕ, zero, suc, _+_, _^_, _≤_, _<_}
+use mathlib.Core.Bool.{Bool, true, false, cond}
+use mathlib.Core.List.{List, [], _∷_, _++_, append-assoc, flatten}
+use Prim.Native.Nat.{ℕ, _+_, _^_, _≤_, _<_}
 use native.Mathlib.Omega.{arith}
 use borrow.Author.Tests.{eq-eqb, ltb-false}
 use lib.Dec.{ltb}
 use lib.ListN.{length, take, drop, getD, set, replicate, length-append}
-use lib.Seq.{take-at, getD-at, getD-append-add}
+use lib.Seq.{take-at, drop-at, getD-at, getD-append-add}
 use Rattle.lists.specs.Append.{cons-eq}
 use Rattle.lists.specs.Below.{Below}
-use Rattle.lists.specs.Concat.{concat}
 use Rattle.tree.specs.Tree.{Params, Valid, Node, keyWords, order, root, lastOr, noNode, digest, digestBytes}
 use Rattle.tree.specs.TreeLaws.{length-keyWords}
 use Rattle.tree.specs.Refusals.{pieceBits, refusedParams}
 use Rattle.tree.specs.Sizes.{treeNodes}
-use Rattle.area.specs.Area.{areaWords, phaseOf, totalOf, keyBytesOf, keyOf, compressionsOf, paramsOf, levelsOf, withLevels, emptyLevel, emptyLevels, openCount, soundPhase, soundParams, soundKey, soundCount, soundLast, soundLevels, sound}
+use Rattle.area.specs.Area.{areaWords, phaseOf, totalOf, keyBytesOf, kOf, compressionsOf, paramsOf, levelsOf, withLevels, emptyLevel, emptyLevels, openCount, soundPhase, soundParams, soundKey, soundCount, soundLast, soundLevels, sound}
 use Rattle.area.specs.Calls.{Made, feedBits, closing, openNumber, openedArea, fedBits, feedNumber, fedArea, closedBy, endedArea, digestOut}
 use Rattle.area.specs.Marks.{allNodes, settled}
-use Rattle.area.specs.Rows.{length-concat}
+use Rattle.area.specs.Rows.{length-flatten}
 use Rattle.area.specs.Receive.{marked}
 use Rattle.area.specs.Machine
 use Rattle.area.specs.Counts
 use Rattle.area.specs.AreaLaws.{Changed, changed, levelsOf-at, key-back, key-clean}
-use Rattle.lists.specs.Both.{both-true}
+use Rattle.lists.specs.And.{and-intro}
 use Rattle.area.specs.Sound.{clean-empty, empty-widths, state-widths, state-size, state-sound}
-use Rattle.tree.specs.RefusalLaws.{orElse-passed, params-valid, valid-params, length-pieceBits}
+use Rattle.tree.specs.RefusalLaws.{test-passed, params-valid, valid-params, length-pieceBits}
 use Rattle.area.specs.CallLaws.{FeedPassed, feed-passed}
 
 -- ---- the nodes made are those of the tree's listing
@@ -71,7 +69,7 @@ pub record Head (P : Params) (M : List Bool) (area : List ℕ) : Type 0 where
   pub total : totalOf area ≡ length M
   pub params : paramsOf area ≡ P
   pub keyBytes : keyBytesOf area ≡ length (P .key)
-  pub key : keyOf area ≡ keyWords (P .key)
+  pub key : kOf area ≡ keyWords (P .key)
   pub last : getD area 15 0 ≡ 0
 
 -- an open area that stands for the message M
@@ -102,7 +100,7 @@ last-sound h = rw (h .last) refl
 pub stands-sound : {P : Params} {M : List Bool} {area : List ℕ} → Stands P M area → sound area ≡ true
 unfolding sound
 stands-sound {P} {M} {area} s =
-    both-true phase (both-true (params-sound (s .head)) (both-true (key-sound (s .head)) (both-true count (both-true (last-sound (s .head)) levels))))
+    and-intro phase (and-intro (params-sound (s .head)) (and-intro (key-sound (s .head)) (and-intro count (and-intro (last-sound (s .head)) levels))))
   where
     phase : soundPhase area ≡ true
     phase = rw (s .phase) refl
@@ -116,7 +114,7 @@ stands-sound {P} {M} {area} s =
 pub closed-sound : {P : Params} {M : List Bool} {area : List ℕ} → Closed P M area → sound area ≡ true
 unfolding sound emptyLevels
 closed-sound {P} {M} {area} s =
-    both-true phase (both-true (params-sound (s .head)) (both-true (key-sound (s .head)) (both-true count (both-true (last-sound (s .head)) levels))))
+    and-intro phase (and-intro (params-sound (s .head)) (and-intro (key-sound (s .head)) (and-intro count (and-intro (last-sound (s .head)) levels))))
   where
     phase : soundPhase area ≡ true
     phase = rw (s .phase) refl
@@ -133,42 +131,47 @@ module _ (area : List ℕ) (P : Params) where
   front : List ℕ
   front = 1 ∷ 0 ∷ length (P .key) ∷ P .d ∷ P .limit ∷ P .rounds ∷ (keyWords (P .key) ++ (0 ∷ 0 ∷ []))
 
-  opened-is : openedArea area P ≡ front ++ (concat emptyLevels ++ drop areaWords area)
+  opened-is : openedArea area P ≡ front ++ (flatten emptyLevels ++ drop areaWords area)
   unfolding openedArea front
-  opened-is = rw (append-assoc (keyWords (P .key)) (0 ∷ 0 ∷ []) (concat emptyLevels ++ drop areaWords area)) refl
+  opened-is = rw (append-assoc (keyWords (P .key)) (0 ∷ 0 ∷ []) (flatten emptyLevels ++ drop areaWords area)) refl
 
   front-length : length front ≡ 16
   unfolding front
   front-length = rw (length-append (keyWords (P .key)) (0 ∷ 0 ∷ []), length-keyWords (P .key)) refl
 
-  empty-width : length (concat emptyLevels) ≡ 1728
+  empty-width : length (flatten emptyLevels) ≡ 1728
   unfolding emptyLevels
-  empty-width = length-concat 64 (replicate 27 emptyLevel) (empty-widths 27)
+  empty-width = length-flatten 64 (replicate 27 emptyLevel) (empty-widths 27)
 
   pub opened-size : areaWords ≤ length area → length (openedArea area P) ≡ length area
   opened-size h =
-      rw (opened-is, length-append front (concat emptyLevels ++ drop areaWords area), front-length, length-append (concat emptyLevels) (drop areaWords area), empty-width, lib.ListN.length-drop areaWords area)
+      rw (opened-is, length-append front (flatten emptyLevels ++ drop areaWords area), front-length, length-append (flatten emptyLevels) (drop areaWords area), empty-width, lib.ListN.length-drop areaWords area)
       (omega arith)
 
-  opened-levels : levelsOf (openedArea area P) ≡ emptyLevels
+  pub opened-tail : drop areaWords (openedArea area P) ≡ drop areaWords area
+  opened-tail =
+      rw (opened-is, ← append-assoc front (flatten emptyLevels) (drop areaWords area))
+      (drop-at (front ++ flatten emptyLevels) (drop areaWords area) areaWords (rw (length-append front (flatten emptyLevels), front-length, empty-width) refl))
+
+  pub opened-levels : levelsOf (openedArea area P) ≡ emptyLevels
   unfolding emptyLevels
   opened-levels = rw opened-is (levelsOf-at front (replicate 27 emptyLevel) (drop areaWords area) front-length (empty-widths 27) refl)
 
-  opened-key : keyOf (openedArea area P) ≡ keyWords (P .key)
+  pub opened-key : kOf (openedArea area P) ≡ keyWords (P .key)
   unfolding openedArea
-  opened-key = take-at (keyWords (P .key)) (0 ∷ 0 ∷ (concat emptyLevels ++ drop areaWords area)) 8 (length-keyWords (P .key))
+  opened-key = take-at (keyWords (P .key)) (0 ∷ 0 ∷ (flatten emptyLevels ++ drop areaWords area)) 8 (length-keyWords (P .key))
 
-  opened-14 : compressionsOf (openedArea area P) ≡ 0
+  pub opened-14 : compressionsOf (openedArea area P) ≡ 0
   unfolding openedArea
-  opened-14 = getD-at (keyWords (P .key)) 0 (0 ∷ (concat emptyLevels ++ drop areaWords area)) 0 8 (length-keyWords (P .key))
+  opened-14 = getD-at (keyWords (P .key)) 0 (0 ∷ (flatten emptyLevels ++ drop areaWords area)) 0 8 (length-keyWords (P .key))
 
-  opened-15 : getD (openedArea area P) 15 0 ≡ 0
+  pub opened-15 : getD (openedArea area P) 15 0 ≡ 0
   unfolding openedArea
   opened-15 =
-      ap (λ (k : ℕ). getD (keyWords (P .key) ++ (0 ∷ 0 ∷ (concat emptyLevels ++ drop areaWords area))) (k + 1) 0) (sym (length-keyWords (P .key)))
-      ∙ getD-append-add (keyWords (P .key)) (0 ∷ 0 ∷ (concat emptyLevels ++ drop areaWords area)) 1 0
+      ap (λ (k : ℕ). getD (keyWords (P .key) ++ (0 ∷ 0 ∷ (flatten emptyLevels ++ drop areaWords area))) (k + 1) 0) (sym (length-keyWords (P .key)))
+      ∙ getD-append-add (keyWords (P .key)) (0 ∷ 0 ∷ (flatten emptyLevels ++ drop areaWords area)) 1 0
 
-  opened-0 : phaseOf (openedArea area P) ≡ 1
+  pub opened-0 : phaseOf (openedArea area P) ≡ 1
   unfolding openedArea
   opened-0 = refl
 
@@ -176,8 +179,8 @@ module _ (area : List ℕ) (P : Params) where
   unfolding openedArea paramsOf
   opened-params v = rw (opened-key′, key-back (P .key) (v .bytes) (v .keyBytes)) refl
     where
-      opened-key′ : take 8 (keyWords (P .key) ++ (0 ∷ 0 ∷ (concat emptyLevels ++ drop areaWords area))) ≡ keyWords (P .key)
-      opened-key′ = take-at (keyWords (P .key)) (0 ∷ 0 ∷ (concat emptyLevels ++ drop areaWords area)) 8 (length-keyWords (P .key))
+      opened-key′ : take 8 (keyWords (P .key) ++ (0 ∷ 0 ∷ (flatten emptyLevels ++ drop areaWords area))) ≡ keyWords (P .key)
+      opened-key′ = take-at (keyWords (P .key)) (0 ∷ 0 ∷ (flatten emptyLevels ++ drop areaWords area)) 8 (length-keyWords (P .key))
 
   opened-head : Valid P → areaWords ≤ length area → Head P [] (openedArea area P)
   unfolding openedArea
@@ -198,19 +201,15 @@ module _ (area : List ℕ) (P : Params) where
   open-stands b e = record {
     head = opened-head v (ltb-false (length area) areaWords (a .0));
     phase = opened-0;
-    count = opened-14 ∙ none (P .limit);
+    count = opened-14 ∙ sym (Counts.openCount-none (P .limit));
     state = rw (opened-levels, settled-opened P) (Machine.state-open P (P .limit));
   }
     where
       a : (ltb (length area) areaWords ≡ false) × (refusedParams P 0 ≡ 0)
-      a = orElse-passed (ltb (length area) areaWords) 6 (refusedParams P 0) e
+      a = test-passed (ltb (length area) areaWords) 6 (refusedParams P 0) e
 
       v : Valid P
       v = params-valid P b (a .1)
-
-      none : (limit : ℕ) → 0 ≡ openCount limit 0
-      none zero = refl
-      none (suc n) = omega (arith, Counts.openAbove-none n)
 
 -- ---- feed
 

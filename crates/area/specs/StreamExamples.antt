@@ -1,16 +1,15 @@
--- The rows of document 01, "Reels by hand", fed to a stream: by computing, the log and the digest are the tree's.
+-- Examples: the rows of document 01, "Reels by hand", fed to a stream: by computing, the log and the digest are the tree's.
 -- "r = 0 gives C = the last 16 words of B. Message all ones."
--- Assumes nothing.
 use mathlib.Core.Path.{_≡_, refl, sym, _∙_}
-use mathlib.Core.Bool.{Bool, true, false}
+use mathlib.Core.Bool.{Bool, true}
 use mathlib.Core.List.{List, [], _∷_, _++_, map}
 use Prim.Native.Nat.{ℕ, zero, suc, _+_, _-_, _*_, _/_, _^_}
-use lib.ListN.{take, set, replicate}
+use lib.ListN.{take, replicate}
 use Rattle.bits.specs.Bits.{numbers}
 use Rattle.compress.specs.Compress.{grown, compressed}
 use Rattle.tree.specs.Tree.{Params, Mark, keyWords, output, noChain, digest, order, digestBytes}
 use Rattle.area.specs.Area.{areaWords, countFor, paramsOf, levelsOf, withLevels, emptyLevel, emptyLevels, sound}
-use Rattle.area.specs.Calls.{Fed, Ended, withBit, outWords, receive, feedBit, feedBits, closeAbove, closing, logOf, openNumber, openedArea, openOf, fedBits, feedNumber, fedArea, feedOf, closedBy, endNumber, endedArea, digestOut, endOf}
+use Rattle.area.specs.Calls.{Fed, Finished, withBit, outWords, receive, feedBit, feedBits, closeAbove, closing, nodeLog, openNumber, openedArea, openOf, fedBits, feedNumber, fedArea, feedOf, closedBy, endNumber, endedArea, digestOut, endOf}
 
 -- a row: the bit counts of the pieces, d and L; U and V of each node, and the digest
 pub record Row : Type 0 where
@@ -45,7 +44,7 @@ treeRow w =
       pieces = w .pieces;
       d = w .d;
       limit = w .limit;
-      log = logOf (map (λ (m : Mark). m .node) (order (params w) M));
+      log = nodeLog (map (λ (m : Mark). m .node) (order (params w) M));
       digest = digest (params w) M;
     }
 
@@ -72,7 +71,7 @@ used = replicate (areaWords + 1) 7
 
 abbrev calls : List ℕ → ℕ → List ℕ → Left
 calls area bytes [] =
-    let e : Ended = endOf area spare spare in
+    let e : Finished = endOf area spare spare in
     leftIf (e .number) (record { log = take (2 * e .count) (e .log); digest = take bytes (e .digest) })
 calls area bytes (n ∷ ns) =
     let f : Fed = feedOf area (ones n) n spare in
@@ -85,11 +84,11 @@ streamRow w =
     record { pieces = w .pieces; d = w .d; limit = w .limit; log = l .log; digest = l .digest }
 
 tree-rows : map treeRow rows ≡ rows
-unfolding numbers keyWords output noChain compressed grown
+unfolding numbers keyWords output noChain compressed grown mathlib.Core.List.flatten
 tree-rows = refl
 
 stream-rows : map streamRow rows ≡ rows
-unfolding numbers keyWords output compressed grown paramsOf levelsOf withLevels emptyLevel emptyLevels sound withBit outWords receive feedBit feedBits closeAbove closing openNumber openedArea openOf fedBits feedNumber fedArea feedOf closedBy endNumber endedArea digestOut endOf
+unfolding numbers keyWords output compressed grown paramsOf levelsOf withLevels emptyLevel emptyLevels sound withBit outWords receive feedBit feedBits closeAbove closing openNumber openedArea openOf fedBits feedNumber fedArea feedOf closedBy endNumber endedArea digestOut endOf mathlib.Core.List.flatten
 stream-rows = refl
 
 pub rows-agree : map streamRow rows ≡ map treeRow rows
@@ -107,25 +106,3 @@ pub counts-hold : map counts
     ∷ (6004799503160634, 6004799503160661) ∷ (6004799503160635, 6004799503160662) ∷ (6004799503160660, 6004799503160662)
     ∷ (6004799503160661, 6004799503160662) ∷ []
 counts-hold = refl
-
--- ---- sound and unsound areas: words set in an area of zeros after 12,289 and after 4,097 bits, with L = 1 and two key bytes
-
-abbrev zeros : ℕ → ℕ → List ℕ
-zeros total count =
-    set (set (openedArea (replicate areaWords 0) (record { key = 1 ∷ 2 ∷ []; d = 8; limit = 1; rounds = 0 })) 1 total) 14 count
-
-abbrev tests : List ℕ → List (ℕ × ℕ) → List Bool
-tests area qs = map (λ (q : ℕ × ℕ). sound (set area (q .0) (q .1))) qs
-
--- nothing changed; a held bit; the sequential output
-pub sound-areas : tests (zeros 12289 4) ((15, 0) ∷ (16, 2 ^ 63) ∷ (80, 5) ∷ []) ++ tests (zeros 4097 1) ((15, 0) ∷ (111, 5) ∷ []) ≡ replicate 5 true
-unfolding numbers keyWords paramsOf levelsOf emptyLevel emptyLevels sound openedArea
-sound-areas = refl
-
--- phase; key bytes; d; L; r; an unused key byte; word 14; word 15; a bit behind the held ones at level 1 and at level 2; a level
--- above; a sequential output before there is one
-pub unsound-areas : tests (zeros 12289 4)
-    ((0, 0) ∷ (0, 3) ∷ (2, 65) ∷ (3, 0) ∷ (3, 513) ∷ (4, 65) ∷ (5, 256) ∷ (6, 0x0102000000000001) ∷ (14, 5) ∷ (15, 1) ∷ (16, 2 ^ 62) ∷ (96, 1) ∷ (144, 1) ∷ (1743, 1) ∷ [])
-    ++ tests (zeros 4097 1) ((80, 1) ∷ (112, 1) ∷ []) ≡ replicate 16 false
-unfolding numbers keyWords paramsOf levelsOf emptyLevel emptyLevels sound openedArea
-unsound-areas = refl

@@ -1,12 +1,10 @@
--- One level of an area written in its place, and words of the head written beside it.
--- Assumes nothing.
+-- Laws: one level of an area written in its place, and words of the head written beside it.
 use mathlib.Core.Path.{_≡_, refl, sym, ap, _∙_}
-use mathlib.Core.List.{List, [], _∷_, _++_, append-assoc}
+use mathlib.Core.List.{List, [], _∷_, _++_, append-assoc, flatten}
 use Prim.Native.Nat.{ℕ, zero, suc, _+_, _-_, _*_, _≤_, _<_}
 use native.Mathlib.Omega.{arith}
 use lib.ListN.{length, take, drop, getD, set, length-drop}
 use lib.Seq.{drop-at, take-append-add, drop-append-add, length-take-le, take-set-lt, drop-set-lt, set-append-left}
-use Rattle.lists.specs.Concat.{concat}
 use Rattle.lists.specs.Part.{put}
 use Rattle.tree.specs.Tree.{mostLevels}
 use Rattle.area.specs.Area.{headWords, areaWords, levelWords, levelsFrom, levelsOf, withLevels}
@@ -35,19 +33,20 @@ levels-at area (suc n) k (suc j) h =
 -- ---- one level written
 
 put-tail : (k : ℕ) (st : List (List ℕ)) (tail ws : List ℕ) → AllLen 64 st → k < length st → length ws ≡ 64 →
-    put (64 * k) 64 (concat st ++ tail) ws ≡ concat (set st k ws) ++ tail
+    put (64 * k) 64 (flatten st ++ tail) ws ≡ flatten (set st k ws) ++ tail
+unfolding flatten
 put-tail k [] tail ws a h w = absurd (omega arith)
 put-tail zero (x ∷ st) tail ws a h w =
-    rw (append-assoc x (concat st) tail, drop-at x (concat st ++ tail) 64 (a .0)) (sym (append-assoc ws (concat st) tail))
+    rw (append-assoc x (flatten st) tail, drop-at x (flatten st ++ tail) 64 (a .0)) (sym (append-assoc ws (flatten st) tail))
 put-tail (suc k) (x ∷ st) tail ws a h w =
     let e : 64 * suc k ≡ length x + 64 * k = omega (arith, a .0) in
     rw (
-      append-assoc x (concat st) tail,
-      append-assoc x (concat (set st k ws)) tail,
+      append-assoc x (flatten st) tail,
+      append-assoc x (flatten (set st k ws)) tail,
       e,
-      take-append-add x (concat st ++ tail) (64 * k),
-      drop-append-add x (concat st ++ tail) (64 * k),
-      append-assoc x (take (64 * k) (concat st ++ tail)) (ws ++ drop 64 (drop (64 * k) (concat st ++ tail))),
+      take-append-add x (flatten st ++ tail) (64 * k),
+      drop-append-add x (flatten st ++ tail) (64 * k),
+      append-assoc x (take (64 * k) (flatten st ++ tail)) (ws ++ drop 64 (drop (64 * k) (flatten st ++ tail))),
       put-tail k st tail ws (a .1) (omega arith) w,
     ) refl
 
@@ -63,8 +62,8 @@ put-level area k ws h l w =
     let tail : List ℕ = drop areaWords area in
     let n : length (take 16 area) ≡ 16 = length-take-le 16 area (omega arith) in
     ap (λ (x : List ℕ). put (16 + 64 * k) 64 x ws) (sym (withLevels-same area))
-    ∙ ap (λ (j : ℕ). put (j + 64 * k) 64 (take 16 area ++ (concat st ++ tail)) ws) (sym n)
-    ∙ put-head (take 16 area) (concat st ++ tail) ws (64 * k)
+    ∙ ap (λ (j : ℕ). put (j + 64 * k) 64 (take 16 area ++ (flatten st ++ tail)) ws) (sym n)
+    ∙ put-head (take 16 area) (flatten st ++ tail) ws (64 * k)
     ∙ ap (λ (x : List ℕ). take 16 area ++ x) (put-tail k st tail ws (levelsOf-widths area h) (levels-size 27 1 l) w)
   where
     levels-size : (n j : ℕ) → k < n → k < length (levelsFrom area n j)
@@ -94,5 +93,5 @@ pub set-withLevels : (area : List ℕ) (i v : ℕ) (st : List (List ℕ)) → i 
     set (withLevels area st) i v ≡ withLevels (set area i v) st
 unfolding withLevels
 set-withLevels area i v st h l =
-    set-append-left (take 16 area) (concat st ++ drop areaWords area) i v (rw (length-take-le 16 area l) h)
+    set-append-left (take 16 area) (flatten st ++ drop areaWords area) i v (rw (length-take-le 16 area l) h)
     ∙ rw (take-set-lt 16 area i v h, drop-set-lt areaWords area i v (omega arith)) refl

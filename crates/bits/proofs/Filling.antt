@@ -1,5 +1,4 @@
 -- A step of the filler: one whole word, and a part of one.
--- Assumes nothing.
 use mathlib.Core.Bool.{Bool}
 use mathlib.Core.List.{List, append-nil}
 use mathlib.Core.Path.{_≡_, sym, ap, _∙_}
@@ -7,7 +6,8 @@ use Prim.Native.Nat.{ℕ, _+_, _-_, _*_, _/_, _%_, _^_, _≤_, _<_}
 use native.Mathlib.Omega.{arith}
 use lib.ListN.{length, take, drop, getD, set, length-drop}
 use lib.Seq.{paste, drop-length}
-use Rattle.lists.specs.Below.{Below, below-at}
+use Rattle.lists.specs.Below.{Below}
+use Rattle.lists.specs.BelowLaws.{below-at}
 use Rattle.bits.specs.Bits.{bits, bitsOf, spell, filled}
 use Rattle.bits.specs.BitsLaws.{length-bits, length-bitsOf}
 use Rattle.bits.specs.FilledLaws.{length-filled, filled-below, filled-more, filled-word}

@@ -1,5 +1,4 @@
 -- What the filler reads from the bytes, and what it writes into a word, as bits.
--- Assumes nothing.
 use mathlib.Core.Bool.{Bool, false}
 use mathlib.Core.List.{List, [], _∷_, _++_, append-assoc}
 use mathlib.Core.Path.{_≡_, refl, sym, ap, _∙_}
@@ -10,7 +9,8 @@ use lib.ListN.{length, take, drop, getD, replicate, length-append, length-drop, 
 use lib.Pow.{field, shr-lt}
 use lib.Seq.{paste, take-at, drop-at, take-add, take-take, drop-drop, drop-cons, take-append-le, drop-append-le, length-take-le}
 use Rattle.lists.specs.Append.{cons-eq}
-use Rattle.lists.specs.Below.{Below, none, more, below-append, below-zeros, below-take, below-drop}
+use Rattle.lists.specs.Below.{Below, none, more}
+use Rattle.lists.specs.BelowLaws.{below-append, below-zeros, below-take, below-drop}
 use Rattle.bits.specs.Bits.{bits, bitsOf, spell}
 use Rattle.bits.specs.BitsLaws.{length-bits, length-bitsOf, bits-split, bitsOf-append, bitsOf-zeros, bitsOf-take, bitsOf-drop, spell-append, spell-bits, spell-from, spell-take, spell-drop}
 use Rattle.bits.specs.Read.{eightFrom, wordFrom}

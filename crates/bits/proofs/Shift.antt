@@ -1,5 +1,4 @@
 -- What the shifts of the filler come to, in sums and quotients. `x << s` is `x * 2 ^ s % 2 ^ 64`, and `x >> s` is `x / 2 ^ s`.
--- Assumes nothing.
 use mathlib.Core.Path.{_≡_, ap, _∙_}
 use Prim.Native.Nat.{ℕ, _+_, _-_, _*_, _/_, _%_, _^_, _≤_, _<_}
 use native.Mathlib.Nat.{add-mul, suc-mul, mul-assoc, mul-le-mul-right, mod-lt, mul-mod-left, mul-add-div-right, one-mul}

@@ -1,6 +1,5 @@
--- Bits, bytes and words. Document 01, first paragraph: "Words are 64 bits; bytes go into words high byte first and bits into
+-- Definitions: bits, bytes and words. Document 01, first paragraph: "Words are 64 bits; bytes go into words high byte first and bits into
 -- bytes high bit first."
--- Assumes nothing.
 use mathlib.Core.Bool.{Bool, true, false}
 use mathlib.Core.List.{List, [], _∷_, _++_}
 use Prim.Native.Nat.{ℕ, zero, suc, _+_, _*_, _/_, _%_, _^_}

@@ -1,5 +1,4 @@
--- Laws of the definitions in Bits: what is written as bits is read back, for numbers of any width k.
--- Assumes nothing.
+-- Laws: of the definitions in Bits: what is written as bits is read back, for numbers of any width k.
 use mathlib.Core.Bool.{Bool, true, false}
 use mathlib.Core.List.{List, [], _∷_, _++_, append-assoc, append-nil}
 use mathlib.Core.Path.{_≡_, refl, sym, ap, _∙_}

@@ -1,5 +1,4 @@
--- Laws of `filled`: none copied, more copied, and a store of one word.
--- Assumes nothing.
+-- Laws: of `filled`: none copied, more copied, and a store of one word.
 use mathlib.Core.Bool.{Bool}
 use mathlib.Core.List.{List, [], _∷_, _++_, append-nil}
 use mathlib.Core.Path.{_≡_, refl, sym, ap, _∙_}
@@ -7,7 +6,8 @@ use Prim.Native.Nat.{ℕ, suc, _+_, _*_, _^_, _≤_, _<_}
 use native.Mathlib.Omega.{arith}
 use lib.ListN.{length, take, drop, getD, set, length-drop}
 use lib.Seq.{paste, paste-zero, length-paste, length-take-le, drop-drop, take-all, set-split, split-at}
-use Rattle.lists.specs.Below.{Below, below-take, below-drop}
+use Rattle.lists.specs.Below.{Below}
+use Rattle.lists.specs.BelowLaws.{below-take, below-drop}
 use Rattle.lists.specs.Paste.{paste-more, paste-middle}
 use Rattle.bits.specs.Bits.{bits, bitsOf, spell, numbers, filled}
 use Rattle.bits.specs.BitsLaws.{length-bits, length-bitsOf, length-numbers, bitsOf-append, bitsOf-numbers, numbers-bitsOf, numbers-append, numbers-one, numbers-exact, numbers-below}

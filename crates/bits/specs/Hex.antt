@@ -1,5 +1,4 @@
--- Hexadecimal digits. Document 01: "digits 0 to 9 and a to f; a capital is refused".
--- Assumes nothing.
+-- Definitions: hexadecimal digits. Document 01: "digits 0 to 9 and a to f; a capital is refused".
 use mathlib.Core.Bool.{cond}
 use Prim.Native.Nat.{ℕ, _+_, _-_}
 use lib.Dec.{leb, ltb}

@@ -1,5 +1,4 @@
--- A digit's value and a value's digit are inverse, both ways.
--- Assumes nothing.
+-- Laws: a digit's value and a value's digit are inverse, both ways.
 use mathlib.Core.Bool.{Bool, true, false, cond}
 use mathlib.Core.Path.{_≡_, refl}
 use Prim.Native.Nat.{ℕ, _+_, _-_, _≤_, _<_}

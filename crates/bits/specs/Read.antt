@@ -1,5 +1,4 @@
--- What the filler's own steps read: names for their contracts. The contract of `fill` cites none of them.
--- Assumes nothing.
+-- Laws: what the filler's own steps read: names for their contracts. The contract of `fill` cites none of them.
 use mathlib.Core.Bool.{false}
 use mathlib.Core.List.{List, _++_}
 use Prim.Native.Nat.{ℕ, _+_, _*_, _^_}

@@ -1,5 +1,4 @@
--- Level 1 is full, and a later bit has come: its node is made, and its output goes up. What the code leaves then.
--- Assumes nothing.
+-- Laws: level 1 is full, and a later bit has come: its node is made, and its output goes up. What the code leaves then.
 use mathlib.Core.Path.{_≡_, refl, sym, ap, _∙_}
 use mathlib.Core.List.{List, [], _∷_, _++_}
 use Prim.Native.Nat.{ℕ, zero, suc, _+_, _-_, _*_, _≤_, _<_}
@@ -8,7 +7,7 @@ use lib.ListN.{length, replicate, length-append}
 use lib.Seq.{sets}
 use Rattle.tree.specs.Tree.{Params, Node, node, blockBits, sequentialBits}
 use Rattle.area.specs.Area.{areaWords, levelWords, levelsFrom, levelsOf, withLevels, emptyLevel, doneBlocks}
-use Rattle.area.specs.Calls.{Made, outWords, chained, receive, logOf}
+use Rattle.area.specs.Calls.{Made, outWords, chained, receive, nodeLog}
 use Rattle.climb.specs.Levels.{withLevel, upArea, with-up, up-step, other-with, length-empty, low₁, high₁, levels-split, with-first}
 use Rattle.climb.specs.ReceiveLaws.{made, length-outWords, log-more}
 
@@ -45,7 +44,7 @@ le-at e f h = omega arith
 -- what the code leaves, for nodes and levels that a definition gives
 abbrev pub Leaves : Made → List ℕ → List ℕ → ℕ → List ℕ → List ℕ → ℕ → Type 0
 Leaves F area log at area′ log′ at′ =
-    (area′ ≡ withLevels area (F .levels)) × (log′ ≡ sets log at (logOf (F .nodes))) × (at′ ≡ at + 2 * length (F .nodes))
+    (area′ ≡ withLevels area (F .levels)) × (log′ ≡ sets log at (nodeLog (F .nodes))) × (at′ ≡ at + 2 * length (F .nodes))
 
 module _ (P : Params) (limit T : ℕ) (area : List ℕ) where
   abbrev chainNode : Node
@@ -75,7 +74,7 @@ module _ (P : Params) (limit T : ℕ) (area : List ℕ) where
   module _ (log : List ℕ) (at done : ℕ) (long : areaWords ≤ length area) where
     pub flush-chained : (out log′ area′ : List ℕ) → limit < 1 → done ≡ doneBlocks sequentialBits T
         → out ≡ outWords P (node P 1 done 0 0 (levelWords area 1))
-        → log′ ≡ sets log at (logOf (node P 1 done 0 0 (levelWords area 1) ∷ []))
+        → log′ ≡ sets log at (nodeLog (node P 1 done 0 0 (levelWords area 1) ∷ []))
         → area′ ≡ withLevel area 1 (out ++ replicate 48 0)
         → Leaves (flushed P limit T (levelsOf area)) area log at area′ log′ (at + 2)
     flush-chained out log′ area′ h d eo el ea =
@@ -83,7 +82,7 @@ module _ (P : Params) (limit T : ℕ) (area : List ℕ) where
         let o : out ≡ outWords P chainNode = eo ∙ ap (λ (x : ℕ). outWords P (node P 1 x 0 0 (levelWords area 1))) d in
         let l : length (chained P chainNode) ≡ 64 = length-append (outWords P chainNode) (replicate 48 0) ∙ omega (arith, length-outWords P chainNode) in (
           ea ∙ ap (λ (x : List ℕ). withLevel area 1 (x ++ replicate 48 0)) o ∙ sym (with-first area (chained P chainNode) long l) ∙ sym (ap (λ (x : Made). withLevels area (x .levels)) F),
-          el ∙ ap (λ (x : ℕ). sets log at (logOf (node P 1 x 0 0 (levelWords area 1) ∷ []))) d ∙ sym (ap (λ (x : Made). sets log at (logOf (x .nodes))) F),
+          el ∙ ap (λ (x : ℕ). sets log at (nodeLog (node P 1 x 0 0 (levelWords area 1) ∷ []))) d ∙ sym (ap (λ (x : Made). sets log at (nodeLog (x .nodes))) F),
           omega (arith, ap (λ (x : Made). at + 2 * length (x .nodes)) F),
         )
 
@@ -109,18 +108,18 @@ module _ (P : Params) (limit T : ℕ) (area : List ℕ) where
           → (at + 2) + 2 * length (receive P (limit - 1) 2 done out (levelsFrom area₁ 26 2) .nodes) ≤ room
       flush-up-room room h = room-others at room (ap (λ (x : Made). length (x .nodes)) (flushed-some some)) (ap (λ (x : Made). length (x .nodes)) up-is) h
 
-      pub flush-up : (log₁ log′ area′ : List ℕ) (at′ : ℕ) → log₁ ≡ sets log at (logOf (node P 1 done 0 0 (levelWords area 1) ∷ []))
+      pub flush-up : (log₁ log′ area′ : List ℕ) (at′ : ℕ) → log₁ ≡ sets log at (nodeLog (node P 1 done 0 0 (levelWords area 1) ∷ []))
           → area′ ≡ upArea area₁ 2 (receive P (limit - 1) 2 done out (levelsFrom area₁ 26 2) .levels)
-          → log′ ≡ sets log₁ (at + 2) (logOf (receive P (limit - 1) 2 done out (levelsFrom area₁ 26 2) .nodes))
+          → log′ ≡ sets log₁ (at + 2) (nodeLog (receive P (limit - 1) 2 done out (levelsFrom area₁ 26 2) .nodes))
           → at′ ≡ (at + 2) + 2 * length (receive P (limit - 1) 2 done out (levelsFrom area₁ 26 2) .nodes)
           → Leaves (flushed P limit T (levelsOf area)) area log at area′ log′ at′
       flush-up log₁ log′ area′ at′ el ea el′ et =
           let F = flushed-some some in
-          let n = ap (λ (x : ℕ). sets log at (logOf (node P 1 x 0 0 (levelWords area 1) ∷ []))) d in (
+          let n = ap (λ (x : ℕ). sets log at (nodeLog (node P 1 x 0 0 (levelWords area 1) ∷ []))) d in (
             ea ∙ ap (λ (x : Made). upArea area₁ 2 (x .levels)) up-is ∙ ap (λ (x : List ℕ). upArea x 2 (above .levels)) e₁
                 ∙ sym (up-step area 1 emptyLevel long low₁ high₁ length-empty (above .levels)) ∙ sym (with-up area (emptyLevel ∷ above .levels))
                 ∙ sym (ap (λ (x : Made). withLevels area (x .levels)) F),
-            el′ ∙ ap (λ (x : Made). sets log₁ (at + 2) (logOf (x .nodes))) up-is ∙ ap (λ (x : List ℕ). sets x (at + 2) (logOf (above .nodes))) (el ∙ n)
-                ∙ sym (log-more log at leafNode (above .nodes)) ∙ sym (ap (λ (x : Made). sets log at (logOf (x .nodes))) F),
+            el′ ∙ ap (λ (x : Made). sets log₁ (at + 2) (nodeLog (x .nodes))) up-is ∙ ap (λ (x : List ℕ). sets x (at + 2) (nodeLog (above .nodes))) (el ∙ n)
+                ∙ sym (log-more log at leafNode (above .nodes)) ∙ sym (ap (λ (x : Made). sets log at (nodeLog (x .nodes))) F),
             count-others at (ap (λ (x : Made). length (x .nodes)) F) (ap (λ (x : Made). length (x .nodes)) up-is) et,
           )

@@ -1,27 +1,26 @@
--- An area as its levels: one level replaced, and all levels from one on. The contracts of the code's own steps cite these.
--- Assumes nothing.
+-- Laws: an area as its levels: one level replaced, and all levels from one on. The contracts of the code's own steps cite these.
 use mathlib.Core.Path.{_≡_, refl, sym, ap, _∙_}
-use mathlib.Core.List.{List, _∷_, _++_, append-assoc}
+use mathlib.Core.List.{List, _∷_, _++_, append-assoc, flatten}
 use Prim.Native.Nat.{ℕ, zero, suc, _+_, _-_, _*_, _≤_, _<_}
 use native.Mathlib.Omega.{arith}
 use lib.ListN.{length, take, drop, replicate, length-append, length-take, length-drop, take-append-drop}
 use lib.Seq.{paste, take-at, drop-at, take-all, drop-drop, length-take-le}
-use Rattle.lists.specs.Concat.{concat}
 use Rattle.lists.specs.Part.{put}
 use Rattle.area.specs.Area.{headWords, blockWords, areaWords, levelWords, levelsFrom, levelsOf, withLevels, emptyLevel}
-use Rattle.area.specs.FeedLaws.{concat-from}
+use Rattle.area.specs.FeedLaws.{flatten-from}
+pub use Rattle.area.specs.Widths.{length-joined, length-empty}
 
 -- the first word of a level
-abbrev pub levelAt : ℕ → ℕ
-levelAt k = headWords + blockWords * (k - 1)
+abbrev pub levelStart : ℕ → ℕ
+levelStart k = headWords + blockWords * (k - 1)
 
 -- an area with other words in a level
 abbrev pub withLevel : List ℕ → ℕ → List ℕ → List ℕ
-withLevel area k ws = put (levelAt k) 64 area ws
+withLevel area k ws = put (levelStart k) 64 area ws
 
 -- an area with other levels from a level on
 abbrev pub upArea : List ℕ → ℕ → List (List ℕ) → List ℕ
-upArea area k levels = take (levelAt k) area ++ (concat levels ++ drop areaWords area)
+upArea area k levels = take (levelStart k) area ++ (flatten levels ++ drop areaWords area)
 
 -- ---- a part of a list replaced
 
@@ -73,46 +72,47 @@ paste-put d at n s h =
 -- ---- one level replaced
 
 module _ (area : List ℕ) (k : ℕ) (ws : List ℕ) (long : areaWords ≤ length area) (low : 1 ≤ k) (high : k ≤ 27) (size : length ws ≡ 64) where
-  fits : levelAt k + 64 ≤ length area
+  fits : levelStart k + 64 ≤ length area
   fits = omega arith
 
   pub length-with : length (withLevel area k ws) ≡ length area
-  length-with = length-put (levelAt k) area ws fits size
+  length-with = length-put (levelStart k) area ws fits size
 
   pub level-with : levelWords (withLevel area k ws) k ≡ ws
-  level-with = part-put (levelAt k) area ws fits size
+  level-with = part-put (levelStart k) area ws fits size
 
   pub with-with : (vs : List ℕ) → withLevel (withLevel area k ws) k vs ≡ withLevel area k vs
-  with-with vs = put-put (levelAt k) area ws fits size vs
+  with-with vs = put-put (levelStart k) area ws fits size vs
 
   pub other-with : (m j : ℕ) → k < j → levelsFrom (withLevel area k ws) m j ≡ levelsFrom area m j
   other-with zero j h = refl
   other-with (suc m) j h =
-      let e : levelWords (withLevel area k ws) j ≡ levelWords area j = ap (take 64) (drop-put (levelAt k) area ws fits size (levelAt j) (omega arith)) in
+      let e : levelWords (withLevel area k ws) j ≡ levelWords area j = ap (take 64) (drop-put (levelStart k) area ws fits size (levelStart j) (omega arith)) in
       ap (λ (x : List ℕ). x ∷ levelsFrom (withLevel area k ws) m (suc j)) e ∙ ap (λ (x : List (List ℕ)). levelWords area j ∷ x) (other-with m (suc j) (omega arith))
 
   pub up-step : (L : List (List ℕ)) → upArea area k (ws ∷ L) ≡ upArea (withLevel area k ws) (k + 1) L
+  unfolding flatten
   up-step L =
-      let e : levelAt (k + 1) ≡ levelAt k + 64 = omega arith in
-      let t : take (levelAt (k + 1)) (withLevel area k ws) ≡ take (levelAt k) area ++ ws =
-      ap (λ (n : ℕ). take n (withLevel area k ws)) e ∙ take-past (levelAt k) area ws fits size in
-      let d : drop areaWords (withLevel area k ws) ≡ drop areaWords area = drop-put (levelAt k) area ws fits size areaWords (omega arith) in
+      let e : levelStart (k + 1) ≡ levelStart k + 64 = omega arith in
+      let t : take (levelStart (k + 1)) (withLevel area k ws) ≡ take (levelStart k) area ++ ws =
+      ap (λ (n : ℕ). take n (withLevel area k ws)) e ∙ take-past (levelStart k) area ws fits size in
+      let d : drop areaWords (withLevel area k ws) ≡ drop areaWords area = drop-put (levelStart k) area ws fits size areaWords (omega arith) in
       sym
-      (ap (λ (x : List ℕ). x ++ (concat L ++ drop areaWords (withLevel area k ws))) t
-      ∙ ap (λ (x : List ℕ). (take (levelAt k) area ++ ws) ++ (concat L ++ x)) d
-      ∙ append-assoc (take (levelAt k) area) ws (concat L ++ drop areaWords area)
-      ∙ ap (λ (x : List ℕ). take (levelAt k) area ++ x) (sym (append-assoc ws (concat L) (drop areaWords area))))
+      (ap (λ (x : List ℕ). x ++ (flatten L ++ drop areaWords (withLevel area k ws))) t
+      ∙ ap (λ (x : List ℕ). (take (levelStart k) area ++ ws) ++ (flatten L ++ x)) d
+      ∙ append-assoc (take (levelStart k) area) ws (flatten L ++ drop areaWords area)
+      ∙ ap (λ (x : List ℕ). take (levelStart k) area ++ x) (sym (append-assoc ws (flatten L) (drop areaWords area))))
 
 -- ---- the levels of an area
 
 -- an area is made of its own levels
 pub up-same : (area : List ℕ) (k : ℕ) → 1 ≤ k → k ≤ 28 → upArea area k (levelsFrom area (28 - k) k) ≡ area
 up-same area k h g =
-    let a : ℕ = levelAt k in
+    let a : ℕ = levelStart k in
     let n : ℕ = 64 * (28 - k) in
     let e : a + n ≡ 1744 = omega arith in
     let d : drop 1744 area ≡ drop n (drop a area) = ap (λ (j : ℕ). drop j area) (sym e) ∙ sym (drop-drop n a area) in
-    rw (concat-from area (28 - k) k h, d) (ap (λ (x : List ℕ). take a area ++ x) (take-append-drop n (drop a area)) ∙ take-append-drop a area)
+    rw (flatten-from area (28 - k) k h, d) (ap (λ (x : List ℕ). take a area ++ x) (take-append-drop n (drop a area)) ∙ take-append-drop a area)
 
 -- a level replaced, those above it as they are
 pub up-level : (area : List ℕ) (k : ℕ) (ws : List ℕ) → areaWords ≤ length area → 1 ≤ k → k ≤ 27 → length ws ≡ 64
@@ -138,27 +138,20 @@ with-up area L = refl
 
 -- ---- a level lent by the code
 
-pub lent-put : (area : List ℕ) (k : ℕ) (ws : List ℕ) → put (levelAt k) ((levelAt k + 64) - levelAt k) area ws ≡ withLevel area k ws
-lent-put area k ws = let e : (levelAt k + 64) - levelAt k ≡ 64 = omega arith in rw e
+pub lent-put : (area : List ℕ) (k : ℕ) (ws : List ℕ) → put (levelStart k) ((levelStart k + 64) - levelStart k) area ws ≡ withLevel area k ws
+lent-put area k ws = let e : (levelStart k + 64) - levelStart k ≡ 64 = omega arith in rw e
 
-pub lent-size : (k : ℕ) → (levelAt k + 64) - levelAt k ≡ 64
+pub lent-size : (k : ℕ) → (levelStart k + 64) - levelStart k ≡ 64
 lent-size k = omega arith
-
-pub length-joined : (place : ℕ) (ws out : List ℕ) → length ws ≡ 64 → length out ≡ 16 → place + 16 ≤ 64 → length (put place 16 ws out) ≡ 64
-length-joined place ws out h g f = simp (length-append, length-take, length-drop) (omega arith)
 
 -- words copied into a lent level
 pub lent-join : (area : List ℕ) (k place : ℕ) (out : List ℕ) → length out ≡ 16
-    → put (levelAt k) ((levelAt k + 64) - levelAt k) area (paste (take ((levelAt k + 64) - levelAt k) (drop (levelAt k) area)) place out (length out))
+    → put (levelStart k) ((levelStart k + 64) - levelStart k) area (paste (take ((levelStart k + 64) - levelStart k) (drop (levelStart k) area)) place out (length out))
     ≡ withLevel area k (put place 16 (levelWords area k) out)
 lent-join area k place out h =
-    lent-put area k (paste (take ((levelAt k + 64) - levelAt k) (drop (levelAt k) area)) place out (length out))
-    ∙ ap (λ (n : ℕ). withLevel area k (paste (take n (drop (levelAt k) area)) place out (length out))) (lent-size k)
+    lent-put area k (paste (take ((levelStart k + 64) - levelStart k) (drop (levelStart k) area)) place out (length out))
+    ∙ ap (λ (n : ℕ). withLevel area k (paste (take n (drop (levelStart k) area)) place out (length out))) (lent-size k)
     ∙ ap (withLevel area k) (paste-put (levelWords area k) place 16 out h)
-
-pub length-empty : length emptyLevel ≡ 64
-unfolding emptyLevel
-length-empty = refl
 
 -- a level cleared, and an output put in front
 pub chain-made : (area : List ℕ) (k : ℕ) (out : List ℕ) → areaWords ≤ length area → 1 ≤ k → k ≤ 27

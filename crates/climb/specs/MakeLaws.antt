@@ -1,5 +1,4 @@
--- A node as the code makes it: from the words of the key and the numbers of the parameters that an area has.
--- Assumes nothing.
+-- Laws: a node as the code makes it: from the words of the key and the numbers of the parameters that an area has.
 use mathlib.Core.Path.{_≡_, refl, sym, ap, _∙_}
 use mathlib.Core.List.{List}
 use Prim.Native.Nat.{ℕ, _^_, _≤_, _<_}

@@ -1,5 +1,4 @@
--- What the words of a sound open area give: parameters in range, K, and the compressions done.
--- Assumes nothing.
+-- Laws: what the words of a sound open area give: parameters in range, K, and the compressions done.
 use mathlib.Core.Path.{_≡_, refl, sym, _∙_}
 use mathlib.Core.Bool.{true}
 use mathlib.Core.List.{List}
@@ -12,7 +11,7 @@ use Rattle.compress.specs.Compress.{RoundTable}
 use Rattle.node.specs.declared.Params as declared
 use Rattle.tree.specs.Tree.{Params}
 use Rattle.tree.specs.Refusals.{refusedParams}
-use Rattle.area.specs.Area.{areaWords, phaseOf, totalOf, keyOf, compressionsOf, paramsOf, openCount, countFor, sound}
+use Rattle.area.specs.Area.{areaWords, phaseOf, totalOf, kOf, compressionsOf, paramsOf, openCount, countFor, sound}
 use Rattle.area.specs.Moved.{sound-tests, sound-key}
 use Rattle.sound.specs.SoundLaws.{refused-words, in-range-words, InRange, count-open}
 use Rattle.climb.specs.MakeLaws.{paramsFrom, Ready}
@@ -27,7 +26,7 @@ pub record OpenArea (area : List ℕ) : Type 0 where
 abbrev pub numbered : List ℕ → declared.Params
 numbered area = record { key = getD area 2 0; d = getD area 3 0; limit = getD area 4 0; rounds = getD area 5 0 }
 
-pub params-read : (area : List ℕ) → paramsFrom (keyOf area) (numbered area) ≡ paramsOf area
+pub params-read : (area : List ℕ) → paramsFrom (kOf area) (numbered area) ≡ paramsOf area
 unfolding paramsFrom paramsOf
 params-read area = refl
 
@@ -51,11 +50,11 @@ module _ {area : List ℕ} (o : OpenArea area) where
       eqb-true (compressionsOf area) (countFor (phaseOf area) (paramsOf area .limit) (totalOf area)) (sound-tests area (o .sound) .count)
       ∙ count-open (phaseOf area) (getD area 4 0) (totalOf area) (o .phase)
 
-  pub length-keyOf : length (keyOf area) ≡ 8
+  pub length-keyOf : length (kOf area) ≡ 8
   length-keyOf = simp (length-take, length-drop) (omega (arith, o .long))
 
   -- a node can be made
-  pub open-ready : (table : List ℕ) → Below (2 ^ 64) area → RoundTable table → 255 ≤ length table → Ready (keyOf area) (numbered area) table
+  pub open-ready : (table : List ℕ) → Below (2 ^ 64) area → RoundTable table → 255 ≤ length table → Ready (kOf area) (numbered area) table
   unfolding paramsFrom paramsOf
   open-ready table b r h = record {
     range = open-range;

@@ -7,7 +7,7 @@ ghost use lib.Seq.{sets};
 ghost use Rattle.lists.specs.Part.{put};
 ghost use Rattle.tree.specs.Tree.{node};
 ghost use Rattle.area.specs.Area.{areaWords, levelWords, emptyLevel};
-ghost use Rattle.area.specs.Calls.{outWords, logOf};
+ghost use Rattle.area.specs.Calls.{outWords, nodeLog};
 ghost use Rattle.climb.specs.Levels.{withLevel};
 ghost use Rattle.climb.specs.MakeLaws.{paramsFrom, Ready};
 use super::clear;
@@ -29,7 +29,7 @@ pub fn make_level(
     requires { ⌜ Ready (now key) params (now table) ⌝ }
     requires { ⌜ (areaWords ≤ length (now area)) × (1 ≤ level) × (level ≤ 27) × (index < 2 ^ 56) × (at + 2 ≤ length (now log)) ⌝ }
     ensures { λ r. ⌜ r ≡ outWords (paramsFrom (now (key .entry)) params) (node (paramsFrom (now (key .entry)) params) level index 0 0 (levelWords (now (area .entry)) level)) ⌝ }
-    ensures { λ _. ⌜ now (log .exit) ≡ sets (now (log .entry)) at (logOf (node (paramsFrom (now (key .entry)) params) level index 0 0 (levelWords (now (area .entry)) level) ∷ [])) ⌝ }
+    ensures { λ _. ⌜ now (log .exit) ≡ sets (now (log .entry)) at (nodeLog (node (paramsFrom (now (key .entry)) params) level index 0 0 (levelWords (now (area .entry)) level) ∷ [])) ⌝ }
 {
     let a = Area::HEAD + Area::LEVEL * (level - 1);
     let e = a + Area::LEVEL;

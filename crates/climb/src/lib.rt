@@ -6,7 +6,7 @@ ghost use lib.ListN.{length, replicate};
 ghost use lib.Seq.{sets};
 ghost use Rattle.tree.specs.Tree.{node};
 ghost use Rattle.area.specs.Area.{areaWords, levelsOf, withLevels};
-ghost use Rattle.area.specs.Calls.{outWords, logOf};
+ghost use Rattle.area.specs.Calls.{outWords, nodeLog};
 ghost use Rattle.climb.specs.MakeLaws.{paramsFrom, Ready};
 ghost use Rattle.climb.specs.FlushLaws.{flushed};
 use node::Block;
@@ -43,7 +43,7 @@ pub fn make_node(
     requires { ⌜ Ready (now key) params (now table) ⌝ }
     requires { ⌜ (level < 256) × (index < 2 ^ 56) × (z ≤ 1) × (p ≤ 4096) × (length (now block) ≡ 64) × (at + 2 ≤ length (now log)) ⌝ }
     ensures { λ r. ⌜ r ≡ outWords (paramsFrom (now (key .entry)) params) (node (paramsFrom (now (key .entry)) params) level index z p (now (block .entry))) ⌝ }
-    ensures { λ _. ⌜ now (log .exit) ≡ sets (now (log .entry)) at (logOf (node (paramsFrom (now (key .entry)) params) level index z p (now (block .entry)) ∷ [])) ⌝ }
+    ensures { λ _. ⌜ now (log .exit) ≡ sets (now (log .entry)) at (nodeLog (node (paramsFrom (now (key .entry)) params) level index z p (now (block .entry)) ∷ [])) ⌝ }
 {
     let u = node::node_u(level, index);
     let v = node::node_v(params, z, p);
@@ -66,7 +66,7 @@ fn flush_last(
     requires { ⌜ (areaWords ≤ length (now area)) × (params .limit < 1) ⌝ }
     requires { ⌜ at + 2 * length (flushed (paramsFrom (now key) params) (params .limit) total (levelsOf (now area)) .nodes) ≤ length (now log) ⌝ }
     ensures { λ _. ⌜ now (area .exit) ≡ withLevels (now (area .entry)) (flushed (paramsFrom (now (key .entry)) params) (params .limit) total (levelsOf (now (area .entry))) .levels) ⌝ }
-    ensures { λ _. ⌜ now (log .exit) ≡ sets (now (log .entry)) at (logOf (flushed (paramsFrom (now (key .entry)) params) (params .limit) total (levelsOf (now (area .entry))) .nodes)) ⌝ }
+    ensures { λ _. ⌜ now (log .exit) ≡ sets (now (log .entry)) at (nodeLog (flushed (paramsFrom (now (key .entry)) params) (params .limit) total (levelsOf (now (area .entry))) .nodes)) ⌝ }
     ensures { λ r. ⌜ r ≡ at + 2 * length (flushed (paramsFrom (now (key .entry)) params) (params .limit) total (levelsOf (now (area .entry))) .nodes) ⌝ }
 {
     let done = count::done_blocks(Block::SEQUENTIAL_BITS, total);
@@ -89,7 +89,7 @@ fn flush_up(
     requires { ⌜ (areaWords ≤ length (now area)) × (1 ≤ params .limit) ⌝ }
     requires { ⌜ at + 2 * length (flushed (paramsFrom (now key) params) (params .limit) total (levelsOf (now area)) .nodes) ≤ length (now log) ⌝ }
     ensures { λ _. ⌜ now (area .exit) ≡ withLevels (now (area .entry)) (flushed (paramsFrom (now (key .entry)) params) (params .limit) total (levelsOf (now (area .entry))) .levels) ⌝ }
-    ensures { λ _. ⌜ now (log .exit) ≡ sets (now (log .entry)) at (logOf (flushed (paramsFrom (now (key .entry)) params) (params .limit) total (levelsOf (now (area .entry))) .nodes)) ⌝ }
+    ensures { λ _. ⌜ now (log .exit) ≡ sets (now (log .entry)) at (nodeLog (flushed (paramsFrom (now (key .entry)) params) (params .limit) total (levelsOf (now (area .entry))) .nodes)) ⌝ }
     ensures { λ r. ⌜ r ≡ at + 2 * length (flushed (paramsFrom (now (key .entry)) params) (params .limit) total (levelsOf (now (area .entry))) .nodes) ⌝ }
 {
     let done = count::done_blocks(Block::BITS, total);
@@ -122,7 +122,7 @@ pub fn flush(
     requires { ⌜ areaWords ≤ length (now area) ⌝ }
     requires { ⌜ at + 2 * length (flushed (paramsFrom (now key) params) (params .limit) total (levelsOf (now area)) .nodes) ≤ length (now log) ⌝ }
     ensures { λ _. ⌜ now (area .exit) ≡ withLevels (now (area .entry)) (flushed (paramsFrom (now (key .entry)) params) (params .limit) total (levelsOf (now (area .entry))) .levels) ⌝ }
-    ensures { λ _. ⌜ now (log .exit) ≡ sets (now (log .entry)) at (logOf (flushed (paramsFrom (now (key .entry)) params) (params .limit) total (levelsOf (now (area .entry))) .nodes)) ⌝ }
+    ensures { λ _. ⌜ now (log .exit) ≡ sets (now (log .entry)) at (nodeLog (flushed (paramsFrom (now (key .entry)) params) (params .limit) total (levelsOf (now (area .entry))) .nodes)) ⌝ }
     ensures { λ r. ⌜ r ≡ at + 2 * length (flushed (paramsFrom (now (key .entry)) params) (params .limit) total (levelsOf (now (area .entry))) .nodes) ⌝ }
 {
     if params.limit < 1 {

@@ -6,7 +6,7 @@ ghost use lib.ListN.{length};
 ghost use lib.Seq.{sets};
 ghost use Rattle.tree.specs.Tree.{node};
 ghost use Rattle.area.specs.Area.{areaWords, levelWords, levelsFrom, emptyLevel};
-ghost use Rattle.area.specs.Calls.{outWords, logOf, joinParallel, receive};
+ghost use Rattle.area.specs.Calls.{outWords, nodeLog, joinParallel, receive};
 ghost use Rattle.climb.specs.Levels.{withLevel, upArea};
 ghost use Rattle.climb.specs.MakeLaws.{paramsFrom, Ready};
 use super::level;
@@ -35,7 +35,7 @@ fn pass_up(
     requires { ⌜ (areaWords ≤ length (now area)) × (1 ≤ level) × (level ≤ 27) × (i < 2 ^ 56) × (i % 4 ≡ 3) × (length (now out) ≡ 16) × (at + 2 ≤ length (now log)) ⌝ }
     ensures { λ _. ⌜ now (area .exit) ≡ withLevel (now (area .entry)) level emptyLevel ⌝ }
     ensures { λ r. ⌜ r ≡ outWords (paramsFrom (now (key .entry)) params) (node (paramsFrom (now (key .entry)) params) level (i / 4) 0 0 (joinParallel i (now (out .entry)) (levelWords (now (area .entry)) level))) ⌝ }
-    ensures { λ _. ⌜ now (log .exit) ≡ sets (now (log .entry)) at (logOf (node (paramsFrom (now (key .entry)) params) level (i / 4) 0 0 (joinParallel i (now (out .entry)) (levelWords (now (area .entry)) level)) ∷ [])) ⌝ }
+    ensures { λ _. ⌜ now (log .exit) ≡ sets (now (log .entry)) at (nodeLog (node (paramsFrom (now (key .entry)) params) level (i / 4) 0 0 (joinParallel i (now (out .entry)) (levelWords (now (area .entry)) level)) ∷ [])) ⌝ }
 {
     level::join(&mut *area, level, LAST, out);
     let made = level::make_level(area, params, key, table, level, i / 4, log, at);
@@ -59,7 +59,7 @@ fn receive_last(
     requires { ⌜ (areaWords ≤ length (now area)) × (1 ≤ level) × (level ≤ 27) × (i < 2 ^ 56) × (length (now out) ≡ 16) ⌝ }
     requires { ⌜ at + 2 * length (receive (paramsFrom (now key) params) 0 level i (now out) (levelsFrom (now area) (28 - level) level) .nodes) ≤ length (now log) ⌝ }
     ensures { λ _. ⌜ now (area .exit) ≡ upArea (now (area .entry)) level (receive (paramsFrom (now (key .entry)) params) 0 level i (now (out .entry)) (levelsFrom (now (area .entry)) (28 - level) level) .levels) ⌝ }
-    ensures { λ _. ⌜ now (log .exit) ≡ sets (now (log .entry)) at (logOf (receive (paramsFrom (now (key .entry)) params) 0 level i (now (out .entry)) (levelsFrom (now (area .entry)) (28 - level) level) .nodes)) ⌝ }
+    ensures { λ _. ⌜ now (log .exit) ≡ sets (now (log .entry)) at (nodeLog (receive (paramsFrom (now (key .entry)) params) 0 level i (now (out .entry)) (levelsFrom (now (area .entry)) (28 - level) level) .nodes)) ⌝ }
     ensures { λ r. ⌜ r ≡ at + 2 * length (receive (paramsFrom (now (key .entry)) params) 0 level i (now (out .entry)) (levelsFrom (now (area .entry)) (28 - level) level) .nodes) ⌝ }
 {
     let place = Area::OUTPUT + Area::OUTPUT * ((i % 3) as usize);
@@ -89,7 +89,7 @@ pub fn receive(
     requires { ⌜ (areaWords ≤ length (now area)) × (outputs < 2 ^ 56) × (length first ≡ 16) ⌝ }
     requires { ⌜ start + 2 * length (receive (paramsFrom (now key) params) levels 2 outputs first (levelsFrom (now area) 26 2) .nodes) ≤ length (now log) ⌝ }
     ensures { λ _. ⌜ now (area .exit) ≡ upArea (now (area .entry)) 2 (receive (paramsFrom (now (key .entry)) params) levels 2 outputs first (levelsFrom (now (area .entry)) 26 2) .levels) ⌝ }
-    ensures { λ _. ⌜ now (log .exit) ≡ sets (now (log .entry)) start (logOf (receive (paramsFrom (now (key .entry)) params) levels 2 outputs first (levelsFrom (now (area .entry)) 26 2) .nodes)) ⌝ }
+    ensures { λ _. ⌜ now (log .exit) ≡ sets (now (log .entry)) start (nodeLog (receive (paramsFrom (now (key .entry)) params) levels 2 outputs first (levelsFrom (now (area .entry)) 26 2) .nodes)) ⌝ }
     ensures { λ r. ⌜ r ≡ start + 2 * length (receive (paramsFrom (now (key .entry)) params) levels 2 outputs first (levelsFrom (now (area .entry)) 26 2) .nodes) ⌝ }
 {
     let mut n = levels;

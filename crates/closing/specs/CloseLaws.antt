@@ -1,6 +1,5 @@
--- The nodes that the end makes, in Calls: one law for each way that `closeAbove` and `closing` take at a level, and the loop
+-- Laws: the nodes that the end makes, in Calls: one law for each way that `closeAbove` and `closing` take at a level, and the loop
 -- over the levels.
--- Assumes nothing.
 use mathlib.Core.Path.{_≡_, refl, sym, ap, _∙_}
 use mathlib.Core.Bool.{Bool, true, false}
 use mathlib.Core.List.{List, [], _∷_, append-nil}
@@ -13,12 +12,12 @@ use lib.Seq.{paste, sets, length-sets}
 use borrow.Author.Tests.{eq-eqb, ne-eqb, lt-ltb, le-ltb, ltb-true, ltb-false}
 use Rattle.lists.specs.Part.{put}
 use Rattle.tree.specs.Tree.{Params, Node, blockBits, sequentialBits, node, lastOr, noNode}
-use Rattle.area.specs.Area.{areaWords, totalOf, keyOf, paramsOf, levelWords, levelsFrom, levelsOf, doneBlocks, heldBits}
-use Rattle.area.specs.Calls.{outWords, joinParallel, joinSequential, closeAbove, closing, closedBy, logOf}
+use Rattle.area.specs.Area.{areaWords, totalOf, kOf, paramsOf, levelWords, levelsFrom, levelsOf, doneBlocks, heldBits}
+use Rattle.area.specs.Calls.{outWords, joinParallel, joinSequential, closeAbove, closing, closedBy, nodeLog}
 use Rattle.area.specs.Machine
 use Rattle.area.specs.Close
 use Rattle.sound.specs.SoundLaws.{lent-level}
-use Rattle.climb.specs.Levels.{levelAt, paste-put, levels-cons, length-level, levels-split}
+use Rattle.climb.specs.Levels.{levelStart, paste-put, levels-cons, length-level, levels-split}
 use Rattle.climb.specs.MakeLaws.{paramsFrom}
 use Rattle.climb.specs.ReceiveLaws.{length-outWords, log-more}
 use Rattle.climb.specs.OpenArea.{numbered}
@@ -90,7 +89,7 @@ module _ (P : Params) (n k i : ℕ) (out area : List ℕ) (high : k ≤ 27) wher
 
 -- a level's words copied, and the output put into its place among them
 pub block-made : (area : List ℕ) (k place : ℕ) (out : List ℕ) → length out ≡ 16 → areaWords ≤ length area → 1 ≤ k → k ≤ 27
-    → (let part : List ℕ = take ((levelAt k + 64) - levelAt k) (drop (levelAt k) area) in
+    → (let part : List ℕ = take ((levelStart k + 64) - levelStart k) (drop (levelStart k) area) in
     paste (paste (replicate 64 0) 0 part (length part)) place out (length out) ≡ put place 16 (levelWords area k) out)
 block-made area k place out h long low high =
     let ws : List ℕ = levelWords area k in
@@ -112,7 +111,7 @@ pub record Closing (P : Params) (all : List Node) (area log₀ : List ℕ) (at�
   pub fits : i < 2 ^ 52
   pub words : length out ≡ 16
   pub log-length : length log ≡ length log₀
-  pub log-same : sets log at (logOf (closedUp P n k i out area)) ≡ sets log₀ at₀ (logOf all)
+  pub log-same : sets log at (nodeLog (closedUp P n k i out area)) ≡ sets log₀ at₀ (nodeLog all)
   pub count-same : at + 2 * length (closedUp P n k i out area) ≡ at₀ + 2 * length all
   pub last-same : lastOr last (closedUp P n k i out area) ≡ lastOr noNode all
 
@@ -147,17 +146,17 @@ module _ {P : Params} {all : List Node} {area log₀ : List ℕ} {at₀ n k i : 
       by false e = close-room (parallelNode P k i out area) _ (closed-more P n k i out area high h (ltb-false i 4 e)) room
 
   -- the root is made
-  pub close-done : (m : Node) (root log′ : List ℕ) → closedUp P n k i out area ≡ m ∷ [] → root ≡ outWords P m → log′ ≡ sets log at (logOf (m ∷ []))
-      → (root ≡ outWords P (lastOr noNode all)) × (log′ ≡ sets log₀ at₀ (logOf all))
+  pub close-done : (m : Node) (root log′ : List ℕ) → closedUp P n k i out area ≡ m ∷ [] → root ≡ outWords P m → log′ ≡ sets log at (nodeLog (m ∷ []))
+      → (root ≡ outWords P (lastOr noNode all)) × (log′ ≡ sets log₀ at₀ (nodeLog all))
   close-done m root log′ e er el =
       let l : m ≡ lastOr noNode all = sym (ap (lastOr (c .last)) e) ∙ c .last-same in (
         er ∙ ap (outWords P) l,
-        el ∙ sym (ap (λ (x : List Node). sets log at (logOf x)) e) ∙ c .log-same,
+        el ∙ sym (ap (λ (x : List Node). sets log at (nodeLog x)) e) ∙ c .log-same,
       )
 
   -- a node that is not the root is made
   pub close-more : (out′ log′ : List ℕ) → 1 ≤ n → k ≤ 27 → 4 ≤ i → out′ ≡ outWords P (parallelNode P k i out area)
-      → log′ ≡ sets log at (logOf (parallelNode P k i out area ∷ []))
+      → log′ ≡ sets log at (nodeLog (parallelNode P k i out area ∷ []))
       → Closing P all area log₀ at₀ (n - 1) (k + 1) (i / 4) out′ log′ (at + 2)
   close-more out′ log′ h g f eo el =
       let m : Node = parallelNode P k i out area in
@@ -175,8 +174,8 @@ module _ {P : Params} {all : List Node} {area log₀ : List ℕ} {at₀ n k i : 
         small = omega (arith, c .small, b);
         fits = omega (arith, c .fits);
         words = rw eo (length-outWords P m);
-        log-length = rw el (length-sets log at (logOf (m ∷ [])) ∙ c .log-length);
-        log-same = rw el (sym (log-more log at m ms)) ∙ sym (ap (λ (x : List Node). sets log at (logOf x)) all′) ∙ c .log-same;
+        log-length = rw el (length-sets log at (nodeLog (m ∷ [])) ∙ c .log-length);
+        log-same = rw el (sym (log-more log at m ms)) ∙ sym (ap (λ (x : List Node). sets log at (nodeLog x)) all′) ∙ c .log-same;
         count-same = omega (arith, ap (λ (x : List Node). at + 2 * length x) all′, c .count-same);
         last-same = sym (ap (lastOr (c .last)) all′) ∙ c .last-same;
       }
@@ -216,12 +215,12 @@ closing-more P (suc n) T area h g =
 
 -- what the closing gives back and logs
 abbrev pub Closed : Params → List Node → List ℕ → List ℕ → List ℕ → Type 0
-Closed P nodes log root log′ = (root ≡ outWords P (lastOr noNode nodes)) × (log′ ≡ sets log 0 (logOf nodes))
+Closed P nodes log root log′ = (root ≡ outWords P (lastOr noNode nodes)) × (log′ ≡ sets log 0 (nodeLog nodes))
 
 pub closed-one : (P : Params) (nodes : List Node) (m : Node) (log root log′ : List ℕ) → nodes ≡ m ∷ [] → root ≡ outWords P m
-    → log′ ≡ sets log 0 (logOf (m ∷ [])) → Closed P nodes log root log′
+    → log′ ≡ sets log 0 (nodeLog (m ∷ [])) → Closed P nodes log root log′
 closed-one P nodes m log root log′ e er el =
-    (er ∙ sym (ap (λ (x : List Node). outWords P (lastOr noNode x)) e), el ∙ sym (ap (λ (x : List Node). sets log 0 (logOf x)) e))
+    (er ∙ sym (ap (λ (x : List Node). outWords P (lastOr noNode x)) e), el ∙ sym (ap (λ (x : List Node). sets log 0 (nodeLog x)) e))
 
 -- something is made above level 1, so the last of it does not go by what came before
 last-above : (P : Params) (n i : ℕ) (out ws : List ℕ) (up : List (List ℕ)) (x y : Node)
@@ -234,17 +233,17 @@ last-above P (suc n) i out ws up x y = go (eqb (i / 4) 0) refl
     go false e = rw (Close.close-many P n 2 i out ws up e)
 
 pub closed-above : (P : Params) (nodes : List Node) (m : Node) (n i : ℕ) (area log first log₁ root log′ : List ℕ)
-    → nodes ≡ m ∷ closeAbove P n 2 i (outWords P m) (levelsFrom area 26 2) → first ≡ outWords P m → log₁ ≡ sets log 0 (logOf (m ∷ []))
+    → nodes ≡ m ∷ closeAbove P n 2 i (outWords P m) (levelsFrom area 26 2) → first ≡ outWords P m → log₁ ≡ sets log 0 (nodeLog (m ∷ []))
     → root ≡ outWords P (lastOr noNode (closeAbove P n 2 i first (levelsFrom area 26 2)))
-    → log′ ≡ sets log₁ 2 (logOf (closeAbove P n 2 i first (levelsFrom area 26 2)))
+    → log′ ≡ sets log₁ 2 (nodeLog (closeAbove P n 2 i first (levelsFrom area 26 2)))
     → Closed P nodes log root log′
 closed-above P nodes m n i area log first log₁ root log′ e ef e₁ er el =
     let rest : List Node = closeAbove P n 2 i (outWords P m) (levelsFrom area 26 2) in
     let f : closeAbove P n 2 i first (levelsFrom area 26 2) ≡ rest = rw ef refl in
     let l : lastOr noNode rest ≡ lastOr m rest = last-above P n i (outWords P m) (levelWords area 2) (levelsFrom area 25 3) noNode m in (
       er ∙ ap (λ (x : List Node). outWords P (lastOr noNode x)) f ∙ ap (outWords P) l ∙ sym (ap (λ (x : List Node). outWords P (lastOr noNode x)) e),
-      el ∙ ap (λ (x : List Node). sets log₁ 2 (logOf x)) f ∙ ap (λ (x : List ℕ). sets x 2 (logOf rest)) e₁ ∙ sym (log-more log 0 m rest)
-          ∙ sym (ap (λ (x : List Node). sets log 0 (logOf x)) e),
+      el ∙ ap (λ (x : List Node). sets log₁ 2 (nodeLog x)) f ∙ ap (λ (x : List ℕ). sets x 2 (nodeLog rest)) e₁ ∙ sym (log-more log 0 m rest)
+          ∙ sym (ap (λ (x : List Node). sets log 0 (nodeLog x)) e),
     )
 
 pub held-le : (T : ℕ) → (heldBits blockBits T ≤ blockBits) × (heldBits sequentialBits T ≤ sequentialBits)
@@ -261,6 +260,6 @@ room-above P nodes m n i area first room e ef h =
     rw ef (omega (arith, ap (λ (x : List Node). 2 * length x) e))
 
 -- the nodes that the code makes, from the words that it reads, are those of the end
-pub closed-read : (area : List ℕ) → closing (paramsFrom (keyOf area) (numbered area)) (getD area 4 0) (totalOf area) (levelsOf area) ≡ closedBy area
+pub closed-read : (area : List ℕ) → closing (paramsFrom (kOf area) (numbered area)) (getD area 4 0) (totalOf area) (levelsOf area) ≡ closedBy area
 unfolding closedBy paramsFrom paramsOf
 closed-read area = refl

@@ -7,7 +7,7 @@ ghost use lib.Seq.{sets};
 ghost use Rattle.lists.specs.Part.{put};
 ghost use Rattle.tree.specs.Tree.{lastOr, noNode};
 ghost use Rattle.area.specs.Area.{areaWords, paramsOf, levelWords, levelsFrom, levelsOf, doneBlocks, heldBits};
-ghost use Rattle.area.specs.Calls.{outWords, logOf, logged, closeAbove, closing, closedBy};
+ghost use Rattle.area.specs.Calls.{outWords, nodeLog, logged, closeAbove, closing, closedBy};
 ghost use Rattle.climb.specs.MakeLaws.{paramsFrom, Ready};
 ghost use Rattle.climb.specs.OpenArea.{OpenArea};
 ghost use Rattle.closing.specs.CloseLaws.{firstNode, lastNode, rootFlag, parallelNode};
@@ -47,7 +47,7 @@ fn close_last(
     requires { ⌜ Ready (now key) params (now table) ⌝ }
     requires { ⌜ (areaWords ≤ length (now area)) × (1 ≤ level) × (level ≤ 27) × (i < 2 ^ 56) × (length (now out) ≡ 16) × (at + 2 ≤ length (now log)) ⌝ }
     ensures { λ r. ⌜ r ≡ outWords (paramsFrom (now (key .entry)) params) (lastNode (paramsFrom (now (key .entry)) params) level i (now (out .entry)) (now (area .entry))) ⌝ }
-    ensures { λ _. ⌜ now (log .exit) ≡ sets (now (log .entry)) at (logOf (lastNode (paramsFrom (now (key .entry)) params) level i (now (out .entry)) (now (area .entry)) ∷ [])) ⌝ }
+    ensures { λ _. ⌜ now (log .exit) ≡ sets (now (log .entry)) at (nodeLog (lastNode (paramsFrom (now (key .entry)) params) level i (now (out .entry)) (now (area .entry)) ∷ [])) ⌝ }
 {
     let place = Area::OUTPUT + Area::OUTPUT * ((i % 3) as usize);
     let block = joined_block(area, level, place, out);
@@ -66,7 +66,7 @@ fn close_last(
     )
 }
 
-// 1 for the root's z, where i outputs came to a parallel level before the last one, and otherwise 0.
+// z of a parallel level's last node, whose last child is output i: 1 if it is the level's only node, and so the root.
 fn root_flag(i: u64) -> u64
     ensures { λ r. ⌜ r ≡ rootFlag i ⌝ }
 {
@@ -91,7 +91,7 @@ fn close_parallel(
     requires { ⌜ Ready (now key) params (now table) ⌝ }
     requires { ⌜ (areaWords ≤ length (now area)) × (1 ≤ level) × (level ≤ 27) × (i < 2 ^ 56) × (length (now out) ≡ 16) × (at + 2 ≤ length (now log)) ⌝ }
     ensures { λ r. ⌜ r ≡ outWords (paramsFrom (now (key .entry)) params) (parallelNode (paramsFrom (now (key .entry)) params) level i (now (out .entry)) (now (area .entry))) ⌝ }
-    ensures { λ _. ⌜ now (log .exit) ≡ sets (now (log .entry)) at (logOf (parallelNode (paramsFrom (now (key .entry)) params) level i (now (out .entry)) (now (area .entry)) ∷ [])) ⌝ }
+    ensures { λ _. ⌜ now (log .exit) ≡ sets (now (log .entry)) at (nodeLog (parallelNode (paramsFrom (now (key .entry)) params) level i (now (out .entry)) (now (area .entry)) ∷ [])) ⌝ }
 {
     let place = Area::OUTPUT * ((i % 4) as usize);
     let block = joined_block(area, level, place, out);
@@ -128,7 +128,7 @@ fn close_above(
     requires { ⌜ (areaWords ≤ length (now area)) × (1 ≤ outputs) × (outputs < 2 ^ 52) × (length first ≡ 16) ⌝ }
     requires { ⌜ start + 2 * length (closeAbove (paramsFrom (now key) params) levels 2 outputs first (levelsFrom (now area) 26 2)) ≤ length (now log) ⌝ }
     ensures { λ r. ⌜ r ≡ outWords (paramsFrom (now (key .entry)) params) (lastOr noNode (closeAbove (paramsFrom (now (key .entry)) params) levels 2 outputs first (levelsFrom (now (area .entry)) 26 2))) ⌝ }
-    ensures { λ _. ⌜ now (log .exit) ≡ sets (now (log .entry)) start (logOf (closeAbove (paramsFrom (now (key .entry)) params) levels 2 outputs first (levelsFrom (now (area .entry)) 26 2))) ⌝ }
+    ensures { λ _. ⌜ now (log .exit) ≡ sets (now (log .entry)) start (nodeLog (closeAbove (paramsFrom (now (key .entry)) params) levels 2 outputs first (levelsFrom (now (area .entry)) 26 2))) ⌝ }
 {
     let mut n = levels;
     let mut i = outputs;
@@ -166,7 +166,7 @@ fn close_first(
     requires { ⌜ Ready (now key) params (now table) ⌝ }
     requires { ⌜ (areaWords ≤ length (now area)) × (0 < size) × (size ≤ 4096) × (heldBits size total ≤ size) × (doneBlocks size total < 2 ^ 56) × (z ≤ 1) × (2 ≤ length (now log)) ⌝ }
     ensures { λ r. ⌜ r ≡ outWords (paramsFrom (now (key .entry)) params) (firstNode (paramsFrom (now (key .entry)) params) size total z (now (area .entry))) ⌝ }
-    ensures { λ _. ⌜ now (log .exit) ≡ sets (now (log .entry)) 0 (logOf (firstNode (paramsFrom (now (key .entry)) params) size total z (now (area .entry)) ∷ [])) ⌝ }
+    ensures { λ _. ⌜ now (log .exit) ≡ sets (now (log .entry)) 0 (nodeLog (firstNode (paramsFrom (now (key .entry)) params) size total z (now (area .entry)) ∷ [])) ⌝ }
 {
     let done = count::done_blocks(size, total);
     let p = size - count::held_bits(size, total);
@@ -188,7 +188,7 @@ fn close_levels(
     requires { ⌜ areaWords ≤ length (now area) ⌝ }
     requires { ⌜ 2 * length (closing (paramsFrom (now key) params) (params .limit) total (levelsOf (now area))) ≤ length (now log) ⌝ }
     ensures { λ r. ⌜ r ≡ outWords (paramsFrom (now (key .entry)) params) (lastOr noNode (closing (paramsFrom (now (key .entry)) params) (params .limit) total (levelsOf (now (area .entry))))) ⌝ }
-    ensures { λ _. ⌜ now (log .exit) ≡ sets (now (log .entry)) 0 (logOf (closing (paramsFrom (now (key .entry)) params) (params .limit) total (levelsOf (now (area .entry))))) ⌝ }
+    ensures { λ _. ⌜ now (log .exit) ≡ sets (now (log .entry)) 0 (nodeLog (closing (paramsFrom (now (key .entry)) params) (params .limit) total (levelsOf (now (area .entry))))) ⌝ }
 {
     let limit = params.limit;
     if limit < 1 {

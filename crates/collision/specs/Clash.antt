@@ -1,7 +1,6 @@
--- What the collision theorem speaks of. Demand 3, its last sentence: "For any two different inputs (message, key, height limit,
+-- Definitions: what the collision theorem speaks of. Demand 3, its last sentence: "For any two different inputs (message, key, height limit,
 -- rounds) with one digest size and equal digests, either the root inputs differ, or some node other than the root, at the same
 -- level and index in both trees, has different inputs and the same 1,024-bit output."
--- Definitions only. Assumes nothing.
 use mathlib.Core.Path.{_≡_}
 use mathlib.Core.Bool.{Bool}
 use mathlib.Core.Logic.{_≢_}
@@ -35,11 +34,15 @@ pub record Clash (r s : ℕ) (S T : List (List Node)) : Type 0 where
   pub differ : a ≢ b
   pub same : output r a ≡ output s b
 
+-- the window of a node's input: what the compression is given
+abbrev pub window : Node → List ℕ
+window n = windowOf (n .k) (n .u) (n .v) (n .block)
+
 -- the output of r rounds as 16 words; `output` has their bits
-abbrev pub outputWords : ℕ → Node → List ℕ
-outputWords r n = compressed r (windowOf (n .k) (n .u) (n .v) (n .block))
+abbrev pub outputAsWords : ℕ → Node → List ℕ
+outputAsWords r n = compressed r (window n)
 
 -- a clash in the trees of two messages, whose outputs agree as 16 words too
 pub record Meeting (P Q : Params) (M N : List Bool) : Type 0 where
   pub clash : Clash (P .rounds) (Q .rounds) (tree P M) (tree Q N)
-  pub sameWords : outputWords (P .rounds) (clash .a) ≡ outputWords (Q .rounds) (clash .b)
+  pub sameWords : outputAsWords (P .rounds) (clash .a) ≡ outputAsWords (Q .rounds) (clash .b)

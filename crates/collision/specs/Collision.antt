@@ -1,6 +1,5 @@
--- The collision theorem of demand 3: two different inputs with one digest lead back to the compression function, at a node
+-- Laws: the collision theorem of demand 3: two different inputs with one digest lead back to the compression function, at a node
 -- that the proof names.
--- Assumes nothing.
 use mathlib.Core.Path.{_≡_, sym, ap, _∙_, subst}
 use mathlib.Core.Bool.{Bool, false}
 use mathlib.Core.Logic.{_≢_, _⊎_, inl, inr}
@@ -15,7 +14,7 @@ use Rattle.tree.specs.Tree.{Params, Valid, Node, words, output, tree, root, dig
 use Rattle.tree.specs.Place.{nodeAt, RootAt}
 use Rattle.tree.specs.TreeLaws.{length-keyWords, node-params, length-output-node, words-output}
 use Rattle.tree.specs.Places.{tree-stands, tree-words, root-stands}
-use Rattle.collision.specs.Clash.{Different, RootsDiffer, Clash, Meeting, outputWords}
+use Rattle.collision.specs.Clash.{Different, RootsDiffer, Clash, Meeting, outputAsWords}
 use Rattle.collision.specs.Nodes.{Node-discrete}
 use Rattle.collision.specs.Descent.{descend}
 
@@ -96,7 +95,7 @@ digests-or-clash P Q M N vP vQ different hd e =
 
 -- the words that the next level reads from an output are those of the compression
 read-words : (P : Params) (M : List Bool) (level index : ℕ) (a : Node) → Valid P → length M < 2 ^ 64 → nodeAt (tree P M) level index ≡ some a
-    → words 16 (output (P .rounds) a) ≡ outputWords (P .rounds) a
+    → words 16 (output (P .rounds) a) ≡ outputAsWords (P .rounds) a
 read-words P M level index a vP h e =
     let s = tree-stands P M level index a e in
     let k : length (a .k) ≡ 8 = rw (s .is) (length-keyWords (P .key)) in
@@ -105,7 +104,7 @@ read-words P M level index a vP h e =
 
 -- For messages of at most 2^64 - 1 bits, whose nodes have words as input, the outputs of a clash agree as 16 words too.
 pub clash-words : (P Q : Params) (M N : List Bool) → Valid P → Valid Q → length M < 2 ^ 64 → length N < 2 ^ 64
-    → (c : Clash (P .rounds) (Q .rounds) (tree P M) (tree Q N)) → outputWords (P .rounds) (c .a) ≡ outputWords (Q .rounds) (c .b)
+    → (c : Clash (P .rounds) (Q .rounds) (tree P M) (tree Q N)) → outputAsWords (P .rounds) (c .a) ≡ outputAsWords (Q .rounds) (c .b)
 clash-words P Q M N vP vQ hM hN c =
     sym (read-words P M (c .level) (c .index) (c .a) vP hM (c .atA)) ∙ ap (words 16) (c .same) ∙ read-words Q N (c .level) (c .index) (c .b) vQ hN (c .atB)
 
@@ -114,7 +113,7 @@ clash-words P Q M N vP vQ hM hN c =
 -- "For any two different inputs (message, key, height limit, rounds) with one digest size and equal digests, either the root
 -- inputs differ, or some node other than the root, at the same level and index in both trees, has different inputs and the same
 -- 1,024-bit output." For valid parameters and messages of at most 2^64 - 1 bits.
-pub collision : (P Q : Params) (M N : List Bool) → Valid P → Valid Q → length M < 2 ^ 64 → length N < 2 ^ 64
+unfoldable pub collision : (P Q : Params) (M N : List Bool) → Valid P → Valid Q → length M < 2 ^ 64 → length N < 2 ^ 64
     → Different P Q M N → P .d ≡ Q .d → digest P M ≡ digest Q N
     → RootsDiffer P Q M N ⊎ Meeting P Q M N
 collision P Q M N vP vQ hM hN different hd e = go (digests-or-clash P Q M N vP vQ different hd e)

@@ -1,6 +1,5 @@
--- From equal roots down: the levels of two messages, made with the same parameters, either come from the same bits or have a
+-- Laws: from equal roots down: the levels of two messages, made with the same parameters, either come from the same bits or have a
 -- clash below the root.
--- Assumes nothing.
 use mathlib.Core.Path.{_≡_, refl, sym, ap, _∙_}
 use mathlib.Core.Bool.{Bool, true, false}
 use mathlib.Core.Logic.{_⊎_, inl, inr}
@@ -11,7 +10,7 @@ use native.Mathlib.Omega.{arith}
 use borrow.Author.Tests.{eqb-true}
 use lib.Dec.{eqb}
 use lib.ListN.{length}
-use Rattle.tree.specs.Tree.{Params, Node, words, node, blocks, padding, padded, par, parallel, sequential, joined, levels, rootOf}
+use Rattle.tree.specs.Tree.{Params, Node, words, node, blocks, padding, padded, par, parallel, sequential, joinedOutputs, levels, rootOf}
 use Rattle.tree.specs.Place.{nodeAt, RootAt}
 use Rattle.tree.specs.TreeLaws.{above, levels-some, rootOf-cons, parallel-sized}
 use Rattle.tree.specs.Places.{root-stands-levels}
@@ -61,7 +60,7 @@ module _ (P : Params) where
   pub not-both : (n level : ℕ) (M N : List Bool) → eqb (blocks 4096 (length M)) 1 ≡ true
       → rootOf (above P n level true M) ≡ rootOf (above P n level false N) → ⊥
   not-both n level M N ex e =
-      let Z : List Bool = joined P (parallel P level false N) in
+      let Z : List Bool = joinedOutputs P (parallel P level false N) in
       let t = root-stands-levels P n (suc level) Z in
       let s = rootOf-cons (parallel P level false N) (levels P n (suc level) Z) (levels-some P n (suc level) Z) in
       let u = ap (λ (a : Node). a .u) (sym (alone-root level M ex) ∙ e ∙ s ∙ t .is) in
@@ -87,10 +86,10 @@ module _ (P : Params) where
       ms = parallel P level false N
 
       Y : List Bool
-      Y = joined P ns
+      Y = joinedOutputs P ns
 
       Z : List Bool
-      Z = joined P ms
+      Z = joinedOutputs P ms
 
       S : List (List Node)
       S = levels P n (suc level) Y

@@ -1,5 +1,4 @@
--- The collision theorem about the whole-message call: `hashOf` says all that the call answers and leaves.
--- Assumes nothing.
+-- Laws: the collision theorem about the whole-message call: `hashOf` says all that the call answers and leaves.
 use mathlib.Core.Path.{_≡_, refl, sym, _∙_}
 use mathlib.Core.Bool.{Bool}
 use mathlib.Core.Logic.{_⊎_}

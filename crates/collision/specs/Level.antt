@@ -1,6 +1,5 @@
--- A level determines the bits that it was made of: a parallel level by its nodes; the sequential level by its last node alone,
+-- Laws: a level determines the bits that it was made of: a parallel level by its nodes; the sequential level by its last node alone,
 -- or an earlier node of it has different inputs and the same output.
--- Assumes nothing.
 use mathlib.Core.Path.{_≡_, refl, ap}
 use mathlib.Core.Bool.{Bool, false}
 use mathlib.Core.Logic.{_⊎_, inl, inr}

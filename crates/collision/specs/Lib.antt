@@ -6,3 +6,4 @@ pub mod Collision
 pub mod Worked
 pub mod Vocabulary
 pub mod HashCollision
+pub mod Windows

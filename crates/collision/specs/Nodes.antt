@@ -1,16 +1,14 @@
--- Nodes and lists of nodes compared: two lists whose joined outputs are equal are equal, or differ at some index in nodes with
+-- Laws: nodes and lists of nodes compared: two lists whose joined outputs are equal are equal, or differ at some index in nodes with
 -- the same output.
--- Assumes nothing.
 use mathlib.Core.Path.{_≡_, refl, ap}
 use mathlib.Core.Logic.{_≢_, _⊎_, inl, inr}
 use mathlib.Core.Option.{some}
-use mathlib.Core.List.{List, [], _∷_, map, head-eq-of-cons-eq, tail-eq-of-cons-eq}
+use mathlib.Core.List.{List, [], _∷_, map, head-eq-of-cons-eq, tail-eq-of-cons-eq, flatten}
 use Prim.Native.Nat.{ℕ, suc}
 use native.Mathlib.Omega.{arith}
 use native.Mathlib.Decide.{ℕ-discrete}
 use lib.ListN.{length, getElem?, length-append}
 use Rattle.lists.specs.Append.{cons-eq, append-split}
-use Rattle.lists.specs.Concat.{concat}
 use Rattle.tree.specs.Tree.{Node, output}
 use Rattle.tree.specs.TreeLaws.{Sized, nil, cons}
 
@@ -55,8 +53,9 @@ pub record Apart (r : ℕ) (xs ys : List Node) : Type 0 where
 abbrev pub later : {r : ℕ} {xs ys : List Node} (a b : Node) → Apart r xs ys → Apart r (a ∷ xs) (b ∷ ys)
 later a b w = record { index = suc (w .index); a = w .a; b = w .b; inX = w .inX; inY = w .inY; differ = w .differ; same = w .same }
 
-unfoldable pub same-outputs : {r : ℕ} {xs ys : List Node} → Sized r xs → Sized r ys → concat (map (output r) xs) ≡ concat (map (output r) ys)
+unfoldable pub same-outputs : {r : ℕ} {xs ys : List Node} → Sized r xs → Sized r ys → flatten (map (output r) xs) ≡ flatten (map (output r) ys)
     → (xs ≡ ys) ⊎ Apart r xs ys
+unfolding flatten
 same-outputs nil nil e = inl refl
 same-outputs {r} nil (cons {a = b} {ns = ys} hb q) e = absurd (omega (arith, simp length-append at (ap length e)))
 same-outputs {r} (cons {a = a} {ns = xs} ha p) nil e = absurd (omega (arith, simp length-append at (ap length e)))

@@ -1,7 +1,6 @@
--- Facts that let a reader trust the words of the collision theorem: places determine inputs, and "other than the root" and "the
+-- Laws: facts that let a reader trust the words of the collision theorem: places determine inputs, and "other than the root" and "the
 -- same level and index" mean what they say. That the node at a level and an index has their U (`tree-u`), and that the root is
 -- the last node of the last level (`root-place`, `root-at`), stands in Places of the crate `tree`.
--- Assumes nothing.
 use mathlib.Core.Path.{_≡_, refl, sym, ap, _∙_, subst, subst₂}
 use mathlib.Core.Bool.{Bool}
 use mathlib.Core.Logic.{_≢_, _⊎_, inl, inr}
@@ -13,7 +12,8 @@ use lib.ListN.{length, getElem?}
 use Rattle.lists.specs.Append.{cons-eq}
 use Rattle.tree.specs.Tree.{Params, Valid, Node, nodeU, tree, root, rootOf}
 use Rattle.tree.specs.Place.{levelAt, nodeAt, RootAt}
-use Rattle.tree.specs.Places.{no-node, tree-u, tree-place, levels-filled, rootLevel, rootIndex, root-at, root-place}
+use Rattle.tree.specs.Places.{no-node, tree-u, tree-place, levels-filled, root-at, root-place}
+use Rattle.tree.specs.Terms.{rootLevel, rootIndex}
 use Rattle.collision.specs.Clash.{Clash}
 use Rattle.collision.specs.Descent.{descend}
 use Rattle.collision.specs.Collision.{same-params}

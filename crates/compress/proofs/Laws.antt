@@ -1,6 +1,5 @@
 -- The mathematics of the crate's proofs: a copy, word by word; and the 89 words before a place of the buffer, which stay the
 -- last 89 words of the report's array A.
--- Assumes nothing.
 use mathlib.Core.Path.{_≡_, refl, sym, ap, _∙_, subst}
 use mathlib.Core.Bool.{Bool}
 use mathlib.Core.List.{List, [], _∷_, _++_, append-nil}

@@ -1,6 +1,5 @@
--- What the code of `compress` does to its buffer, a list of words that is written in place: contracts of its own functions
+-- Laws: what the code of `compress` does to its buffer, a list of words that is written in place: contracts of its own functions
 -- cite this, and no contract of another crate.
--- Assumes nothing.
 use mathlib.Core.List.{List}
 use Prim.Native.Nat.{ℕ, zero, suc, _+_, _-_}
 use lib.ListN.{getD, set}

@@ -1,6 +1,5 @@
--- The compression function. Document 01, "Compression"; the report, section 2.4 and figure 2.10.
+-- Definitions: the compression function. Document 01, "Compression"; the report, section 2.5 and figure 2.10.
 -- A word is a number below 2 ^ 64, and a list of words is the report's array A, which grows at its end.
--- Assumes nothing.
 use mathlib.Core.Path.{_≡_}
 use mathlib.Core.List.{List, [], _∷_, _++_}
 use Prim.Native.Nat.{ℕ, zero, suc, _+_, _-_, _*_, _/_, _%_, _^_, _<_}
@@ -79,3 +78,12 @@ Q =
 -- "Window of 89 words: Q (15), key K (8), U, V, block B (64), in that order."
 abbrev pub windowOf : List ℕ → ℕ → ℕ → List ℕ → List ℕ
 windowOf k u v block = Q ++ (k ++ (u ∷ v ∷ block))
+
+-- the number that words spell, high word first, after words that spelt n
+abbrev pub wordsValue : ℕ → List ℕ → ℕ
+wordsValue n [] = n
+wordsValue n (w ∷ ws) = wordsValue (n * 2 ^ 64 + w) ws
+
+-- "Q is the first 960 bits of the fraction of the square root of 6: with s = 2^961 + Q, .."
+abbrev pub scaledRoot : ℕ
+scaledRoot = 2 ^ 961 + wordsValue 0 Q

@@ -1,5 +1,4 @@
--- Laws of the compression function: how long the array and the output are, and that they hold words.
--- Assumes nothing.
+-- Laws: of the compression function: how long the array and the output are, and that they hold words.
 use mathlib.Core.Path.{_≡_, refl, _∙_}
 use mathlib.Core.List.{List, [], _∷_, _++_}
 use Prim.Native.Nat.{ℕ, zero, suc, _+_, _-_, _*_, _/_, _^_, _<_}
@@ -9,7 +8,8 @@ use lib.Bits.{and-lt, or-lt, xor-lt}
 use lib.Dec.{lit<}
 use lib.ListN.{length, getD, drop, length-append, length-drop}
 use lib.Pow.{pow-pos, shr-le}
-use Rattle.lists.specs.Below.{Below, none, more, below-append, below-drop}
+use Rattle.lists.specs.Below.{Below, none, more}
+use Rattle.lists.specs.BelowLaws.{below-append, below-drop}
 use Rattle.compress.specs.Compress.{shr, shl, nextS, S, mixed, stepped, word, grown, compressed}
 
 -- ---- the steps of the array

@@ -1,5 +1,4 @@
--- The report's first example, Appendix C.1: "abc" as one node with r = 5 and d = 256, computed from the definition.
--- Assumes nothing.
+-- Examples: the report's first example, Appendix C.1: "abc" as one node with r = 5 and d = 256, computed from the definition.
 use mathlib.Core.Path.{_≡_, refl}
 use mathlib.Core.List.{List, [], _∷_}
 use Prim.Native.Nat.{ℕ}

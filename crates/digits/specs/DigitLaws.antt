@@ -1,20 +1,20 @@
--- Laws of digits: what is written as digits is read back, and what is read has its bound.
--- Assumes nothing.
-use mathlib.Core.Path.{_≡_, refl, ap, _∙_}
-use mathlib.Core.List.{List, [], _∷_, _++_, append-assoc}
+-- Laws: of digits: what is written as digits is read back, and what is read has its bound.
+use mathlib.Core.Path.{_≡_, refl, sym, ap, _∙_}
+use mathlib.Core.List.{List, [], _∷_, _++_, map, append-assoc}
+use mathlib.Core.Option.{Option, none, some, Option·none-ne-some, Option·some-ne-none}
 use Prim.Native.Nat.{ℕ, zero, suc, _+_, _*_, _/_, _%_, _^_, _≤_, _<_}
 use native.Mathlib.Nat.{mod-eq-of-lt, lt-of-lt-of-le, pow-suc}
 use native.Mathlib.Omega.{arith}
 use lib.Pow.{mod-pow-add, pow-add, pow-mono}
-use lib.ListN.{length, take, drop, length-append, length-take}
-use lib.Seq.{take-at, drop-at}
+use lib.ListN.{length, take, drop, getD, length-append, length-take, take-append-drop}
+use lib.Seq.{take-at, drop-at, drop-cons}
 use Rattle.lists.specs.Append.{cons-eq}
-use Rattle.lists.specs.Below.{Below, none, more}
-use Rattle.bits.specs.Hex.{digitOf, hexDigit}
+use Rattle.lists.specs.Below.{Below}
+use Rattle.bits.specs.Hex.{digitOf}
 use Rattle.bits.specs.HexLaws.{digit-of-hex, hex-of-digit}
 use Rattle.bits.specs.declared.hex.Digit.{Digit}
 use Rattle.bits.specs.declared.hex.Digit.the-variants.{Value, Refused}
-use Rattle.digits.specs.Digits.{digits, wordDigits, digitValue, spelt, numberAt, speltWords}
+use Rattle.digits.specs.Digits.{hexDigits, wordDigits, withDigit, spelt, numberAt, speltWords, withWord, allSpelt}
 
 -- a digit is four bits
 pub pow-16 : (n : ℕ) → 16 ^ n ≡ 2 ^ (4 * n)
@@ -25,62 +25,126 @@ pow-16 (suc n) =
 
 -- ---- digits of a number
 
-pub length-digits : (n x : ℕ) → length (digits n x) ≡ n
-unfolding digits
+pub length-digits : (n x : ℕ) → length (hexDigits n x) ≡ n
+unfolding hexDigits
 length-digits zero x = refl
 length-digits (suc n) x = ap suc (length-digits n x)
-
-value-hex : (n : ℕ) → n < 16 → digitValue (digitOf (hexDigit n)) ≡ n
-value-hex n h = rw (digit-of-hex n h)
 
 mod-16 : (x n : ℕ) → x % 16 ^ suc n ≡ x / 16 ^ n % 16 * 16 ^ n + x % 16 ^ n
 mod-16 x n =
     let e : 4 * suc n ≡ 4 + 4 * n = omega arith in
     rw (pow-16 (suc n), pow-16 n, e) (mod-pow-add x 4 (4 * n))
 
-pub spelt-digits : (n m x : ℕ) → spelt m (digits n x) ≡ m * 16 ^ n + x % 16 ^ n
-unfolding digits
-spelt-digits zero m x = omega arith
+pub spelt-digits : (n m x : ℕ) → spelt m (hexDigits n x) ≡ some (m * 16 ^ n + x % 16 ^ n)
+unfolding hexDigits
+spelt-digits zero m x = ap {B = Option ℕ} some (omega arith)
 spelt-digits (suc n) m x =
     let b : ℕ = x / 16 ^ n % 16 in
-    ap (λ (v : ℕ). spelt (m * 16 + v) (digits n x)) (value-hex b (omega arith)) ∙ spelt-digits n (m * 16 + b) x
-    ∙ rw (mod-16 x n, pow-suc 16 n) (omega arith)
+    let e : (m * 16 + b) * 16 ^ n + x % 16 ^ n ≡ m * 16 ^ suc n + x % 16 ^ suc n = rw (mod-16 x n, pow-suc 16 n) (omega arith) in
+    rw (digit-of-hex b (omega arith)) (spelt-digits n (m * 16 + b) x ∙ ap {B = Option ℕ} some e)
 
 -- a number that fits its digits is read back
-pub digits-back : (n x : ℕ) → x < 16 ^ n → spelt 0 (digits n x) ≡ x
-digits-back n x h = spelt-digits n 0 x ∙ omega (arith, mod-eq-of-lt h)
+pub digits-back : (n x : ℕ) → x < 16 ^ n → spelt 0 (hexDigits n x) ≡ some x
+digits-back n x h = spelt-digits n 0 x ∙ ap {B = Option ℕ} some (omega (arith, mod-eq-of-lt h))
 
-pub take-digits : (n x : ℕ) (rest : List ℕ) → take n (digits n x ++ rest) ≡ digits n x
-take-digits n x rest = take-at (digits n x) rest n (length-digits n x)
+pub take-digits : (n x : ℕ) (rest : List ℕ) → take n (hexDigits n x ++ rest) ≡ hexDigits n x
+take-digits n x rest = take-at (hexDigits n x) rest n (length-digits n x)
 
-pub drop-digits : (n x : ℕ) (rest : List ℕ) → drop n (digits n x ++ rest) ≡ rest
-drop-digits n x rest = drop-at (digits n x) rest n (length-digits n x)
+pub drop-digits : (n x : ℕ) (rest : List ℕ) → drop n (hexDigits n x ++ rest) ≡ rest
+drop-digits n x rest = drop-at (hexDigits n x) rest n (length-digits n x)
 
 -- ---- the number that digits spell is bounded by their number
 
-value-bound : (b : ℕ) (v : Digit) → digitOf b ≡ v → digitValue v < 16
-value-bound b (Value v) e = hex-of-digit b v e .0
-value-bound b Refused e = omega arith
+spelt-bound : (p x v : ℕ) (bs : List ℕ) → x < p → spelt x bs ≡ some v → v < p * 16 ^ length bs
+spelt-bound p x v [] h e = let k : x ≡ v = cc in omega arith
+spelt-bound p x v (b ∷ bs) h e = by (λ n. spelt-bound (p * 16) (x * 16 + n) v bs) (digitOf b) refl e
+  where
+    by : ((n : ℕ) → x * 16 + n < p * 16 → spelt (x * 16 + n) bs ≡ some v → v < p * 16 * 16 ^ length bs)
+        → (d : Digit) → digitOf b ≡ d → withDigit d (λ (n : ℕ). spelt (x * 16 + n) bs) ≡ some v → v < p * 16 ^ suc (length bs)
+    by more (Value n) f e =
+        let k : n < 16 = hex-of-digit b n f .0 in
+        let q : p * 16 ^ suc (length bs) ≡ p * 16 * 16 ^ length bs = rw (pow-suc 16 (length bs)) (omega arith) in
+        rw q (more n (omega arith) e)
+    by more Refused f e = absurd (Option·none-ne-some v e)
 
-spelt-bound : (p x : ℕ) (bs : List ℕ) → x < p → spelt x bs < p * 16 ^ length bs
-spelt-bound p x [] h = omega arith
-spelt-bound p x (b ∷ bs) h =
-    let v = value-bound b (digitOf b) refl in
-    let e : p * 16 ^ suc (length bs) ≡ p * 16 * 16 ^ length bs = rw (pow-suc 16 (length bs)) (omega arith) in
-    rw e (spelt-bound (p * 16) (x * 16 + digitValue (digitOf b)) bs (omega arith))
-
-pub spelt-lt : (n : ℕ) (bs : List ℕ) → length bs ≤ n → spelt 0 bs < 2 ^ (4 * n)
-spelt-lt n bs h =
-    let s : spelt 0 bs < 1 * 16 ^ length bs = spelt-bound 1 0 bs (omega arith) in
+pub spelt-lt : (n v : ℕ) (bs : List ℕ) → length bs ≤ n → spelt 0 bs ≡ some v → v < 2 ^ (4 * n)
+spelt-lt n v bs h e =
+    let s : v < 1 * 16 ^ length bs = spelt-bound 1 0 v bs (omega arith) e in
     let p : 1 * 16 ^ length bs ≡ 2 ^ (4 * length bs) = rw (pow-16 (length bs)) (omega arith) in
     lt-of-lt-of-le (rw p at s) (pow-mono (omega arith))
 
-pub number-lt : (text : List ℕ) (at n : ℕ) → n ≤ 16 → numberAt text at n < 2 ^ 64
-number-lt text at n h = spelt-lt 16 (take n (drop at text)) (rw length-take (omega arith))
+-- ---- words that are spelt, one by one and all together
+
+-- all are spelt if each is
+pub all-known : (ws : List ℕ) → allSpelt (map some ws) ≡ some ws
+all-known [] = refl
+all-known (w ∷ ws) = rw (all-known ws)
+
+-- and only then
+pub known-all : (xs : List (Option ℕ)) (ws : List ℕ) → allSpelt xs ≡ some ws → xs ≡ map some ws
+known-all [] [] e = refl
+known-all [] (w ∷ ws) e = let z : _≡_ {A = ℕ} 0 1 = cc in absurd (omega arith)
+known-all (x ∷ xs) ws e = by x (allSpelt xs) (known-all xs) e
+  where
+    by : (y : Option ℕ) (o : Option (List ℕ)) → ((vs : List ℕ) → o ≡ some vs → xs ≡ map some vs) → withWord y o ≡ some ws → y ∷ xs ≡ map some ws
+    by none o more e = absurd (Option·none-ne-some ws e)
+    by (some w) none more e = absurd (Option·none-ne-some ws e)
+    by (some w) (some vs) more e =
+        let k : w ∷ vs ≡ ws = cc in
+        rw (← k) (cons-eq refl (more vs refl))
+
+-- words that are known stay in front of those that are spelt after them
+pub known-front : (ws vs : List ℕ) (xs : List (Option ℕ)) → allSpelt (map some ws ++ xs) ≡ some vs → take (length ws) vs ≡ ws
+known-front [] vs xs e = refl
+known-front (w ∷ ws) vs xs e = by (allSpelt (map some ws ++ xs)) (λ us. known-front ws us xs) e
+  where
+    by : (o : Option (List ℕ)) → ((us : List ℕ) → o ≡ some us → take (length ws) us ≡ ws) → withWord (some w) o ≡ some vs → take (suc (length ws)) vs ≡ w ∷ ws
+    by none more e = absurd (Option·none-ne-some vs e)
+    by (some us) more e =
+        let k : w ∷ us ≡ vs = cc in
+        rw (← k) (cons-eq refl (more us refl))
+
+-- a refused one refuses all
+prepend-none : (x : Option ℕ) → withWord x none ≡ none
+prepend-none none = refl
+prepend-none (some w) = refl
+
+pub all-part : (xs ys zs : List (Option ℕ)) → allSpelt ys ≡ none → allSpelt (xs ++ (ys ++ zs)) ≡ none
+all-part [] [] zs e = absurd (Option·some-ne-none [] e)
+all-part [] (y ∷ ys) zs e = by y (allSpelt ys) (all-part [] ys zs) e
+  where
+    by : (x : Option ℕ) (o : Option (List ℕ)) → (o ≡ none → allSpelt (ys ++ zs) ≡ none) → withWord x o ≡ none → withWord x (allSpelt (ys ++ zs)) ≡ none
+    by none o more e = refl
+    by (some w) none more e = rw (more refl)
+    by (some w) (some vs) more e = absurd (Option·some-ne-none (w ∷ vs) e)
+all-part (x ∷ xs) ys zs e = rw (all-part xs ys zs e) (prepend-none x)
+
+pub all-at : (xs : List (Option ℕ)) (i : ℕ) → i < length xs → getD xs i none ≡ none → allSpelt xs ≡ none
+all-at xs i h e =
+    ap allSpelt (sym (take-append-drop i xs) ∙ ap (λ (l : List (Option ℕ)). take i xs ++ l) (drop-cons xs i none h))
+    ∙ all-part (take i xs) (getD xs i none ∷ []) (drop (suc i) xs) (rw e)
+
+-- what is spelt fits 64 bits
+pub data Fits : List (Option ℕ) → Type 0 where
+  no-word : Fits []
+  one-more : {o : Option ℕ} {xs : List (Option ℕ)} → ((v : ℕ) → o ≡ some v → v < 2 ^ 64) → Fits xs → Fits (o ∷ xs)
+
+pub fits-append : {xs ys : List (Option ℕ)} → Fits xs → Fits ys → Fits (xs ++ ys)
+fits-append no-word g = g
+fits-append (one-more h f) g = one-more h (fits-append f g)
+
+pub fits-below : (xs : List (Option ℕ)) (ws : List ℕ) → Fits xs → xs ≡ map some ws → Below (2 ^ 64) ws
+fits-below xs [] f e = Below.none
+fits-below [] (w ∷ ws) f e = let z : _≡_ {A = ℕ} 0 1 = cc in absurd (omega arith)
+fits-below (x ∷ xs) (w ∷ ws) (one-more h f) e = Below.more (h w (cc)) (fits-below xs ws f (cc))
+
+pub number-fits : (text : List ℕ) (at n v : ℕ) → n ≤ 16 → numberAt text at n ≡ some v → v < 2 ^ 64
+number-fits text at n v h e = spelt-lt 16 v (take n (drop at text)) (rw length-take (omega arith)) e
 
 -- ---- words
 
 pub length-wordDigits : (ws : List ℕ) → length (wordDigits ws) ≡ 16 * length ws
+unfolding mathlib.Core.List.flatten
 length-wordDigits [] = refl
 length-wordDigits (w ∷ ws) = rw (length-append, length-digits 16 w, length-wordDigits ws) (omega arith)
 
@@ -89,19 +153,19 @@ unfolding speltWords
 length-speltWords zero text = refl
 length-speltWords (suc n) text = ap suc (length-speltWords n (drop 16 text))
 
-pub speltWords-below : (n : ℕ) (text : List ℕ) → Below (2 ^ 64) (speltWords n text)
+pub speltWords-fits : (n : ℕ) (text : List ℕ) → Fits (speltWords n text)
 unfolding speltWords
-speltWords-below zero text = none
-speltWords-below (suc n) text = more (number-lt text 0 16 (omega arith)) (speltWords-below n (drop 16 text))
+speltWords-fits zero text = no-word
+speltWords-fits (suc n) text = one-more (λ v. number-fits text 0 16 v (omega arith)) (speltWords-fits n (drop 16 text))
 
 -- words are read back
-pub words-back : {ws : List ℕ} (rest : List ℕ) → Below (2 ^ 64) ws → speltWords (length ws) (wordDigits ws ++ rest) ≡ ws
-unfolding speltWords
-words-back rest none = refl
-words-back rest (more {w = w} {ws = ws} h hs) =
-    let a = append-assoc (digits 16 w) (wordDigits ws) rest in
+pub words-back : {ws : List ℕ} (rest : List ℕ) → Below (2 ^ 64) ws → speltWords (length ws) (wordDigits ws ++ rest) ≡ map some ws
+unfolding speltWords mathlib.Core.List.flatten
+words-back rest Below.none = refl
+words-back rest (Below.more {w = w} {ws = ws} h hs) =
+    let a = append-assoc (hexDigits 16 w) (wordDigits ws) rest in
     rw (a, take-digits 16 w (wordDigits ws ++ rest), drop-digits 16 w (wordDigits ws ++ rest))
     (cons-eq (digits-back 16 w h) (words-back rest hs))
 
-pub words-exact : (n : ℕ) {ws : List ℕ} (rest : List ℕ) → Below (2 ^ 64) ws → length ws ≡ n → speltWords n (wordDigits ws ++ rest) ≡ ws
+pub words-exact : (n : ℕ) {ws : List ℕ} (rest : List ℕ) → Below (2 ^ 64) ws → length ws ≡ n → speltWords n (wordDigits ws ++ rest) ≡ map some ws
 words-exact n {ws} rest h e = rw (← e) (words-back rest h)

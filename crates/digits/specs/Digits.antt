@@ -1,41 +1,58 @@
--- Numbers and words as hexadecimal digits, and back. Document 01, "Suspended text": "digits 0 to 9 and a to f". A text is a list of
--- bytes.
--- Assumes nothing.
-use mathlib.Core.List.{List, [], _∷_, _++_, map}
+-- Definitions: numbers and words as hexadecimal digits, and back. Document 01, "Suspended text": "digits 0 to 9 and a to f; a capital is
+-- refused". A text is a list of bytes.
+use mathlib.Core.List.{List, [], _∷_, _++_, map, flatten}
+use mathlib.Core.Option.{Option, none, some}
 use Prim.Native.Nat.{ℕ, zero, suc, _+_, _*_, _/_, _%_, _^_}
 use lib.ListN.{take, drop}
-use Rattle.lists.specs.Concat.{concat}
 use Rattle.bits.specs.Hex.{digitOf, hexDigit}
 use Rattle.bits.specs.declared.hex.Digit.{Digit}
 use Rattle.bits.specs.declared.hex.Digit.the-variants.{Value, Refused}
+use Rattle.digits.specs.declared.Reading.{Reading}
+use Rattle.digits.specs.declared.Reading.the-variants.{Number, NoDigit}
 
 -- n hexadecimal digits of a number, high digit first
-unfoldable pub digits : ℕ → ℕ → List ℕ
-digits zero x = []
-digits (suc n) x = hexDigit (x / 16 ^ n % 16) ∷ digits n x
+unfoldable pub hexDigits : ℕ → ℕ → List ℕ
+hexDigits zero x = []
+hexDigits (suc n) x = hexDigit (x / 16 ^ n % 16) ∷ hexDigits n x
 
 -- the digits of words, 16 each
 abbrev pub wordDigits : List ℕ → List ℕ
-wordDigits ws = concat (map (digits 16) ws)
+wordDigits ws = flatten (map (hexDigits 16) ws)
 
 -- "each line ended by byte 10"
 abbrev pub line : List ℕ → List ℕ
 line ds = ds ++ (10 ∷ [])
 
--- the number that digits spell, high digit first, after those that spelt x; what is no digit counts as 0
-abbrev pub digitValue : Digit → ℕ
-digitValue (Value v) = v
-digitValue Refused = 0
+-- "digits 0 to 9 and a to f; a capital is refused": what follows a digit goes on with its value, and a refused digit refuses
+abbrev pub withDigit : Digit → (ℕ → Option ℕ) → Option ℕ
+withDigit (Value v) go = go v
+withDigit Refused go = none
 
-abbrev pub spelt : ℕ → List ℕ → ℕ
-spelt x [] = x
-spelt x (b ∷ bs) = spelt (x * 16 + digitValue (digitOf b)) bs
+-- the number that digits spell, high digit first, after those that spelt x; none if a byte is refused
+abbrev pub spelt : ℕ → List ℕ → Option ℕ
+spelt x [] = some x
+spelt x (b ∷ bs) = withDigit (digitOf b) (λ (v : ℕ). spelt (x * 16 + v) bs)
 
 -- the number that n digits spell from a place of a text on
-abbrev pub numberAt : List ℕ → ℕ → ℕ → ℕ
+abbrev pub numberAt : List ℕ → ℕ → ℕ → Option ℕ
 numberAt text at n = spelt 0 (take n (drop at text))
 
--- n words of 16 digits each
-unfoldable pub speltWords : ℕ → List ℕ → List ℕ
+-- n words of 16 digits each, each spelt or none
+unfoldable pub speltWords : ℕ → List ℕ → List (Option ℕ)
 speltWords zero text = []
 speltWords (suc n) text = spelt 0 (take 16 text) ∷ speltWords n (drop 16 text)
+
+-- the words, if each is spelt; none if one is not
+abbrev pub withWord : Option ℕ → Option (List ℕ) → Option (List ℕ)
+withWord none ws = none
+withWord (some w) none = none
+withWord (some w) (some ws) = some (w ∷ ws)
+
+abbrev pub allSpelt : List (Option ℕ) → Option (List ℕ)
+allSpelt [] = some []
+allSpelt (w ∷ ws) = withWord w (allSpelt ws)
+
+-- what the answer of `digits::number` says
+abbrev pub readingNumber : Reading → Option ℕ
+readingNumber (Number x) = some x
+readingNumber NoDigit = none

@@ -1,16 +1,17 @@
 // Numbers and words as hexadecimal digits, and back.
 ghost use mathlib.Core.Path.{_≡_};
+ghost use mathlib.Core.Bool.{cond};
+ghost use mathlib.Core.Option.{none, some};
 ghost use Prim.Native.Nat.{_*_, _≤_, _<_};
 ghost use lib.ListN.{length};
-ghost use Rattle.bits.specs.Hex.{digitOf};
-ghost use Rattle.digits.specs.Digits.{digits, wordDigits, digitValue, spelt, speltWords};
+ghost use Rattle.digits.specs.Digits.{hexDigits, wordDigits, spelt, speltWords, allSpelt, readingNumber};
 use bits::hex;
 use bits::hex::Digit;
 
 // The digits of a number, as many as the part has bytes.
 pub fn put_digits(part: &mut [u8], x: u64)
     requires { ⌜ length (now part) ≤ 16 ⌝ }
-    ensures { λ _. ⌜ now (part .exit) ≡ digits (length (now (part .entry))) x ⌝ }
+    ensures { λ _. ⌜ now (part .exit) ≡ hexDigits (length (now (part .entry))) x ⌝ }
 {
     let n = part.len();
     let mut i = 0;
@@ -35,40 +36,42 @@ pub fn put_words(part: &mut [u8], words: &[u64])
     }
 }
 
-// The value of a digit; what is no digit counts as 0.
-fn value_or_zero(b: u8) -> u64
-    ensures { λ r. ⌜ r ≡ digitValue (digitOf b) ⌝ }
-{
-    match hex::digit_value(b) {
-        Digit::Value(v) => v,
-        Digit::Refused => 0,
-    }
+// The number that digits spell; none if a byte is no digit.
+pub enum Reading {
+    Number(u64),
+    NoDigit,
 }
 
-// The number that digits spell.
-pub fn number(part: &[u8]) -> u64
+pub fn number(part: &[u8]) -> Reading
     requires { ⌜ length (now part) ≤ 16 ⌝ }
-    ensures { λ r. ⌜ r ≡ spelt 0 (now (part .entry)) ⌝ }
+    ensures { λ r. ⌜ readingNumber r ≡ spelt 0 (now (part .entry)) ⌝ }
 {
     let mut x: u64 = 0;
     let mut i = 0;
     while i < part.len() {
-        x = x * 16 + value_or_zero(part[i]);
+        match hex::digit_value(part[i]) {
+            Digit::Value(v) => x = x * 16 + v,
+            Digit::Refused => return Reading::NoDigit,
+        }
         i += 1;
     }
-    x
+    Reading::Number(x)
 }
 
-// The words that digits spell, 16 each.
-pub fn spell_words(words: &mut [u64], part: &[u8])
+// The words that digits spell, 16 each. Answers false at the first byte that is no digit.
+pub fn spell_words(words: &mut [u64], part: &[u8]) -> bool
     requires { ⌜ length (now part) ≡ 16 * length (now words) ⌝ }
-    ensures { λ _. ⌜ now (words .exit) ≡ speltWords (length (now (words .entry))) (now (part .entry)) ⌝ }
+    ensures { λ r. ⌜ cond r (some (now (words .exit))) none ≡ allSpelt (speltWords (length (now (words .entry))) (now (part .entry))) ⌝ }
 {
     let mut i = 0;
     while i < words.len() {
         let a = 16 * i;
         let e = a + 16;
-        words[i] = number(&part[a..e]);
+        match number(&part[a..e]) {
+            Reading::Number(w) => words[i] = w,
+            Reading::NoDigit => return false,
+        }
         i += 1;
     }
+    true
 }

@@ -1,5 +1,4 @@
--- Laws for the code that fills a block: with message bits, and with the values of children.
--- Assumes nothing.
+-- Laws: for the code that fills a block: with message bits, and with the values of children.
 use mathlib.Core.Path.{_≡_, refl, sym, ap, _∙_}
 use mathlib.Core.Bool.{Bool, false}
 use mathlib.Core.List.{List, [], _∷_, _++_, append-assoc}

@@ -1,5 +1,4 @@
--- What the whole-message call answers. Document 01, the table of numbers, and "Whole message 5, 1, 2, 3, 4, 9".
--- Assumes nothing.
+-- Definitions: what the whole-message call answers. Document 01, the table of numbers, and "Whole message 5, 1, 2, 3, 4, 9".
 use mathlib.Core.Bool.{Bool}
 use mathlib.Core.List.{List, _++_}
 use Prim.Native.Nat.{ℕ, zero, suc, _+_, _/_}

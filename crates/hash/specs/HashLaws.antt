@@ -1,5 +1,4 @@
--- Laws of Hash: the numbers, which go by lengths alone, and the answers of a call that is refused or accepted.
--- Assumes nothing.
+-- Laws: of Hash: the numbers, which go by lengths alone, and the answers of a call that is refused or accepted.
 use mathlib.Core.Path.{_≡_, refl, sym, ap, _∙_}
 use mathlib.Core.Bool.{Bool, true, false}
 use mathlib.Core.List.{List, _++_}
@@ -9,7 +8,7 @@ use borrow.Author.Tests.{ltb-true, ltb-false, lt-ltb, le-ltb}
 use lib.Dec.{ltb}
 use lib.ListN.{length, drop, replicate, length-replicate}
 use Rattle.bits.specs.Bits.{bitsOf, numbers}
-use Rattle.tree.specs.Tree.{Params, Valid, field, keyWords, digest, order, digestBytes}
+use Rattle.tree.specs.Tree.{Params, Valid, bitField, keyWords, digest, order, digestBytes}
 use Rattle.tree.specs.Refusals.{pieceBits, refusedSize, refusedParams, refusedOutput}
 use Rattle.hash.specs.Hash.{hashNumber, Answer, hashAnswer, hashOf, Told, told, defaultRounds, defaultRoundsOf}
 use Rattle.node.specs.Words.{Common, common, commonOf, sized}
@@ -103,7 +102,7 @@ common-key key d limit rounds = ap of-bytes (length-replicate {A = ℕ} (length 
     of-bytes n = record {
       k = keyWords key;
       rounds = rounds;
-      v = λ z p. field (field (field (field (field (field 0 12 rounds) 8 limit) 4 z) 16 p) 8 n) 12 d;
+      v = λ z p. bitField (bitField (bitField (bitField (bitField (bitField 0 12 rounds) 8 limit) 4 z) 16 p) 8 n) 12 d;
     }
 
 pub digest-root : (P : Params) (M : List Bool) (C : Common) (root : List ℕ) → Valid P → length M < 2 ^ 64 → C ≡ commonOf P → root ≡ rootValue C (P .limit) M

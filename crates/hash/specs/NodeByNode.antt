@@ -1,22 +1,21 @@
--- The value worked out node by node is the output of the node at that place of the levels.
--- Assumes nothing.
+-- Laws: the value worked out node by node is the output of the node at that place of the levels.
 use mathlib.Core.Path.{_≡_, refl, sym, ap, _∙_}
 use mathlib.Core.Bool.{Bool, true, false, cond}
 use mathlib.Core.Option.{Option, some}
-use mathlib.Core.List.{List, [], _∷_, _++_, map, append-nil}
+use mathlib.Core.List.{List, [], _∷_, _++_, map, append-nil, flatten}
 use Prim.Native.Nat.{ℕ, zero, suc, _+_, _-_, _*_, _^_, _≤_, _<_}
 use native.Mathlib.Omega.{arith}
 use borrow.Author.Tests.{ltb-false, leb-true, leb-false, eqb-true, eqb-false, lt-ltb, le-ltb, ne-eqb}
 use lib.Dec.{eqb, leb, ltb}
 use lib.ListN.{length, take, drop, replicate, getElem?, length-append, length-drop, length-replicate}
 use lib.Seq.{take-all}
-use Rattle.lists.specs.Below.{Below, below-append, below-zeros}
-use Rattle.lists.specs.Concat.{concat}
+use Rattle.lists.specs.Below.{Below}
+use Rattle.lists.specs.BelowLaws.{below-append, below-zeros}
 use Rattle.bits.specs.Bits.{digit, bitsOf, numbers}
 use Rattle.bits.specs.BitsLaws.{digit-le, length-bitsOf, bitsOf-append, bitsOf-zeros, bitsOf-take, bitsOf-drop, numbers-take, numbers-bitsOf}
-use Rattle.tree.specs.Tree.{Params, Valid, Node, words, node, output, blocks, padding, padded, noChain, parallel, sequential, joined, levels, tree, rootOf, root, blockBits, sequentialBits, outputBits}
+use Rattle.tree.specs.Tree.{Params, Valid, Node, words, node, output, blocks, padding, padded, noChain, parallel, sequential, joinedOutputs, levels, tree, rootOf, root, blockBits, sequentialBits, outputBits}
 use Rattle.tree.specs.Place.{levelAt, nodeAt}
-use Rattle.tree.specs.TreeLaws.{above, onlyIf, lastOnly, chainAt, chainAt-zero, chainAt-suc, length-parallel, length-sequential, length-joined-parallel, parallel-at, sequential-at, levels-one, levels-more, levels-some, rootOf-cons}
+use Rattle.tree.specs.TreeLaws.{above, lastOnly, chainAt, chainAt-zero, chainAt-suc, length-parallel, length-sequential, length-joined-parallel, parallel-at, sequential-at, levels-one, levels-more, levels-some, rootOf-cons}
 use Rattle.tree.specs.Places.{no-node, index-below, root-place, tree-level, tree-index}
 use Rattle.tree.specs.Count.{level-nodes, levelNodes-one, levelNodes-some}
 use Rattle.tree.specs.Sizes.{levelNodes}
@@ -77,9 +76,9 @@ child-part f q c i len low h =
 -- the bits of level h + 1, below which every level has more than one node
 unfoldable pub inputs : Params → List Bool → ℕ → List Bool
 inputs P M zero = M
-inputs P M (suc h) = joined P (parallel P (suc h) false (inputs P M h))
+inputs P M (suc h) = joinedOutputs P (parallel P (suc h) false (inputs P M h))
 
-inputs-suc : (P : Params) (M : List Bool) (h : ℕ) → inputs P M (suc h) ≡ joined P (parallel P (suc h) false (inputs P M h))
+inputs-suc : (P : Params) (M : List Bool) (h : ℕ) → inputs P M (suc h) ≡ joinedOutputs P (parallel P (suc h) false (inputs P M h))
 unfolding inputs
 inputs-suc P M h = refl
 
@@ -90,7 +89,8 @@ inputs-zero P M = refl
 -- the outputs of a list of nodes, joined, from the values of each
 joined-outputs : (g : Node → List Bool) (f : ℕ → List ℕ) (ns : List Node) (a : ℕ)
     → ((j : ℕ) (n : Node) → getElem? ns j ≡ some n → g n ≡ bitsOf 64 (f (a + j)))
-    → concat (map g ns) ≡ bitsOf 64 (joinedValues f a (length ns))
+    → flatten (map g ns) ≡ bitsOf 64 (joinedValues f a (length ns))
+unfolding flatten
 joined-outputs g f [] a h = rw (joined-zero f a)
 joined-outputs g f (n ∷ ns) a h =
     let z : a + 0 ≡ a = omega arith in
@@ -219,7 +219,7 @@ module _ (P : Params) (M : List Bool) where
       last-flag : (n j : ℕ) → lastOnly n j 1 ≡ digit (eqb (suc j) n)
       last-flag n j = go (eqb (suc j) n)
         where
-          go : (b : Bool) → onlyIf b 1 ≡ digit b
+          go : (b : Bool) → cond b 1 0 ≡ digit b
           go true = refl
           go false = refl
 
@@ -353,7 +353,7 @@ module _ (P : Params) (M : List Bool) where
             (parallel-values h true 0 (rootOf (N ∷ [])) (omega (arith, valid .limitHigh)) (root-place (N ∷ []) 1 0 (refl, sym l)))
         go false q up =
             let more : 1 < blocks blockBits (length (inputs P M h)) = omega (arith, eqb-false (blocks blockBits (length (inputs P M h))) 1 q) in
-            let Y : List Bool = joined P (parallel P (suc h) false (inputs P M h)) in
+            let Y : List Bool = joinedOutputs P (parallel P (suc h) false (inputs P M h)) in
             let T : List (List Node) = levels P n (suc (suc h)) Y in
             rw (levels-more P n (suc h) (inputs P M h) more, flag false q, rootOf-cons (parallel P (suc h) false (inputs P M h)) T (levels-some P n (suc (suc h)) Y))
             (rw (inputs-suc P M h) at up)

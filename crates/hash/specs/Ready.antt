@@ -1,5 +1,4 @@
--- What the functions that work out values are given: the message, the parameters in their ranges, K and the round constants.
--- Assumes nothing.
+-- Laws: what the functions that work out values are given: the message, the parameters in their ranges, K and the round constants.
 use mathlib.Core.Path.{_≡_}
 use mathlib.Core.List.{List}
 use Prim.Native.Nat.{ℕ, _≤_}
@@ -10,8 +9,8 @@ use Rattle.node.specs.Words.{Common, common}
 use Rattle.node.specs.declared.Params.{Params}
 
 -- the parameters with a key
-abbrev pub paramsOf : List ℕ → Params → Tree.Params
-paramsOf key params = record { key = key; d = params .d; limit = params .limit; rounds = params .rounds }
+abbrev pub withKey : List ℕ → Params → Tree.Params
+withKey key params = record { key = key; d = params .d; limit = params .limit; rounds = params .rounds }
 
 -- what the nodes share, from K and the parameters
 abbrev pub shared : List ℕ → Params → Common

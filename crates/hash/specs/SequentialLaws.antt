@@ -1,5 +1,4 @@
--- Laws for the code of the sequential level.
--- Assumes nothing.
+-- Laws: for the code of the sequential level.
 use mathlib.Core.Path.{_≡_, refl, sym, ap, _∙_}
 use mathlib.Core.Bool.{Bool, true, false, cond}
 use borrow.Author.Tests.{lt-ltb, le-ltb}

@@ -1,7 +1,6 @@
--- The value of a node, worked out node by node: at level 1 from the message, above it from the values one level below, and
+-- Laws: the value of a node, worked out node by node: at level 1 from the message, above it from the values one level below, and
 -- along the chain at the sequential level. This is the way of the code; that each value is the output of the node at that
--- place of the levels is a theorem (ValueLaws).
--- Assumes nothing.
+-- place of the levels is a theorem (NodeByNode).
 use mathlib.Core.Bool.{Bool, false, cond}
 use mathlib.Core.List.{List, [], _++_}
 use Prim.Native.Nat.{ℕ, zero, suc, _+_, _-_, _*_, min}

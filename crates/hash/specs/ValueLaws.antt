@@ -1,6 +1,5 @@
--- Laws of Value: the values' lengths and ranges, and the theorem that the value worked out node by node is the output of the
+-- Laws: of Value: the values' lengths and ranges, and the theorem that the value worked out node by node is the output of the
 -- node at that place of the levels.
--- Assumes nothing.
 use mathlib.Core.Path.{_≡_, refl, sym, ap, _∙_}
 use mathlib.Core.Bool.{Bool, true, false}
 use mathlib.Core.Option.{none}
@@ -12,7 +11,8 @@ use lib.Dec.{eqb, leb}
 use lib.ListN.{length, take, drop, replicate, length-append, length-drop, length-replicate}
 use lib.Seq.{take-append-le, drop-append-le, take-append-add, take-all, take-at, drop-at}
 use Rattle.lists.specs.Replicate.{take-replicate}
-use Rattle.lists.specs.Below.{Below, none, below-append, below-zeros}
+use Rattle.lists.specs.Below.{Below, none}
+use Rattle.lists.specs.BelowLaws.{below-append, below-zeros}
 use Rattle.bits.specs.Bits.{digit}
 use Rattle.bits.specs.BitsLaws.{digit-le, length-numbers, numbers-below}
 use Rattle.tree.specs.Tree.{words, blocks, blockBits, sequentialBits, outputBits}

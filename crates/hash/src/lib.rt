@@ -7,7 +7,7 @@ ghost use Rattle.tree.specs.Refusals.{pieceBits};
 ghost use Rattle.node.specs.Words.{sized};
 ghost use Rattle.hash.specs.Hash.{hashNumber, hashOf, defaultRoundsOf};
 ghost use Rattle.hash.specs.HashLaws.{Accepted};
-ghost use Rattle.hash.specs.Ready.{paramsOf};
+ghost use Rattle.hash.specs.Ready.{withKey};
 use node::Answer;
 use node::Params;
 use node::count;
@@ -47,8 +47,8 @@ fn hash_number(bytes: u64, bits: u64, params: Params, out: u64) -> u64
 
 // Writes the digest of a message. The round constants are copied once, and lent to every node.
 fn put_digest(message: &[u8], bits: u64, key: &[u8], params: Params, out: &mut [u8])
-    requires { ⌜ Accepted (now message) bits (paramsOf (now key) params) (now out) × (params .key ≡ length (now key)) ⌝ }
-    ensures { λ _. ⌜ now (out .exit) ≡ digest (paramsOf (now (key .entry)) params) (pieceBits (now (message .entry)) bits) ++ drop (digestBytes (params .d)) (now (out .entry)) ⌝ }
+    requires { ⌜ Accepted (now message) bits (withKey (now key) params) (now out) × (params .key ≡ length (now key)) ⌝ }
+    ensures { λ _. ⌜ now (out .exit) ≡ digest (withKey (now (key .entry)) params) (pieceBits (now (message .entry)) bits) ++ drop (digestBytes (params .d)) (now (out .entry)) ⌝ }
 {
     let k = digest::key_words(key);
     let table = compress::round_constants();

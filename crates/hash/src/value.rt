@@ -95,7 +95,7 @@ pub fn value(
     )
 }
 
-// The 48 words that a sequential node takes beside the chain, of message bits: no level is below it.
+// With L = 0, the 48 words of message bits that a sequential node takes behind the output of the node before it.
 fn message_words(message: &[u8], bits: u64, index: u64) -> [u64; 48]
     requires { ⌜ (bits ≤ 8 * length (now message)) × (index < sequentialNodes 0 bits) ⌝ }
     ensures { λ r. ⌜ r ≡ words 48 (messagePart sequentialBits (pieceBits (now (message .entry)) bits) index) ⌝ }
@@ -107,7 +107,7 @@ fn message_words(message: &[u8], bits: u64, index: u64) -> [u64; 48]
     rest
 }
 
-// The same, of the values of its children, one level below.
+// With L above 0, the 48 words that a sequential node takes there: the values of its children, one level below.
 fn child_words(
     message: &[u8],
     bits: u64,

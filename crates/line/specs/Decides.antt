@@ -1,5 +1,4 @@
--- The fold decides the line: what is read byte by byte, in fixed memory, is what the definition of a whole line says.
--- Assumes nothing.
+-- Laws: the fold decides the line: what is read byte by byte, in fixed memory, is what the definition of a whole line says.
 use mathlib.Core.Path.{_≡_, refl, ap, _∙_}
 use mathlib.Core.Bool.{Bool, true, false, cond}
 use mathlib.Core.List.{List, [], _∷_}
@@ -10,9 +9,9 @@ use lib.Dec.{eqb}
 use lib.ListN.{length, take}
 use lib.Seq.{take-all}
 use Rattle.line.specs.Line.{Line, cut, fields, numberOf, roundsOf, keyOf, together, fourOf, lineOf}
-use Rattle.line.specs.Fold.{keptBytes, start, spaceOf, pushAt, stepOf, foldOf, told, readingOf, keyBytesIn}
+use Rattle.line.specs.Fold.{Says, start, spaceOf, pushAt, stepOf, foldOf, readFields, readingOf, keyBytesIn}
 use Rattle.line.specs.Numbers.{pushNumbers, number-field, rounds-field}
-use Rattle.line.specs.Keys.{keptOf, SaysKey, pushKeys, noKey, key-field, counted}
+use Rattle.line.specs.Keys.{SaysKey, pushKeys, noKey, key-field, counted}
 use Rattle.line.specs.declared.Rounds.{Rounds}
 use Rattle.line.specs.declared.Field.{Field}
 use Rattle.line.specs.declared.Field.the-variants.{Digest as InDigest, Limit as InLimit, Rounds as InRounds, Key as InKey, Past}
@@ -21,13 +20,6 @@ use Rattle.line.specs.declared.Number.the-variants.{Empty}
 use Rattle.line.specs.declared.Key.{Key}
 use Rattle.line.specs.declared.State.{State}
 use Rattle.line.specs.declared.Reading.the-variants.{Unreadable, Readable}
-
--- what a state must say of a line: unreadable if that is; otherwise the same d, L and r, the count of the key's bytes, where 65
--- stands for more than 64, and its first 65 bytes
-abbrev pub Says : State → Option Line → Type 0
-Says s none = readingOf s ≡ Unreadable
-Says s (some l) =
-    (readingOf s ≡ Readable (l .d) (l .limit) (l .rounds) (min (length (l .key)) keptBytes)) × (s .key .bytes ≡ keptOf (l .key))
 
 -- ---- the fold goes field by field
 
@@ -100,7 +92,7 @@ after-past (f ∷ fs) d l r k = rw (in-past f d l r k) (after-past fs d l r k)
 -- ---- the four fields together
 
 all-four : (d l : Option ℕ) (r : Option Rounds) (o : Option (List ℕ)) (s : State) → SaysKey (s .key) o
-    → readingOf s ≡ told d l r (keyBytesIn (s .key .pairs)) → Says s (together d l r o)
+    → readingOf s ≡ readFields d l r (keyBytesIn (s .key .pairs)) → Says s (together d l r o)
 all-four none l r o s h e = e
 all-four (some d) none r o s h e = e
 all-four (some d) (some l) none o s h e = e

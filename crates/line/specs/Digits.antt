@@ -1,5 +1,4 @@
--- The test for a decimal digit, and the values of hexadecimal digits.
--- Assumes nothing.
+-- Laws: the test for a decimal digit, and the values of hexadecimal digits.
 use mathlib.Core.Path.{_≡_, refl, sym, _∙_}
 use mathlib.Core.Bool.{Bool, true, false, _&&_, false≢true}
 use Prim.Native.Nat.{ℕ, _≤_, _<_}

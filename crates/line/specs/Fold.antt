@@ -1,14 +1,13 @@
--- Reading a line byte by byte, as the code does it: a state, what each byte makes of it, and what it says at the end.
+-- Definitions: reading a line byte by byte, as the code does it: a state, what each byte makes of it, and what it says at the end.
 -- That this decides what `Line` defines is the theorem of `Decides`.
--- Assumes nothing.
 use mathlib.Core.Bool.{cond, _&&_}
-use mathlib.Core.List.{List, [], _∷_}
+use mathlib.Core.List.{List, [], _∷_, _++_}
 use mathlib.Core.Option.{Option, none, some}
 use Prim.Native.Nat.{ℕ, _+_, _-_, _*_, _%_, min}
 use lib.Dec.{ltb, eqb}
-use lib.ListN.{set, replicate}
+use lib.ListN.{set, replicate, length, take}
 use Rattle.bits.specs.Hex.{digitOf}
-use Rattle.line.specs.Line.{isDecimal, byteOf}
+use Rattle.line.specs.Line.{isDecimal, byteOf, Line}
 use Rattle.line.specs.declared.Rounds.{Rounds}
 use Rattle.line.specs.declared.Rounds.the-variants.{Default, Given}
 use Rattle.line.specs.declared.Pair.{Pair}
@@ -23,6 +22,7 @@ use Rattle.line.specs.declared.Key.{Key}
 use Rattle.line.specs.declared.State.{State}
 use Rattle.line.specs.declared.Reading.{Reading}
 use Rattle.line.specs.declared.Reading.the-variants.{Unreadable, Readable}
+use mathlib.Core.Path.{_≡_}
 
 -- the key bytes that are kept: one more than a key may have
 abbrev pub keptBytes : ℕ
@@ -109,20 +109,31 @@ keyBytesIn (Half n a) = cond (eqb n 0 && eqb a 45) (some 0) none
 keyBytesIn WrongPairs = none
 
 -- readable if every field is
-abbrev pub told : Option ℕ → Option ℕ → Option Rounds → Option ℕ → Reading
-told none l r n = Unreadable
-told (some d) none r n = Unreadable
-told (some d) (some l) none n = Unreadable
-told (some d) (some l) (some r) none = Unreadable
-told (some d) (some l) (some r) (some n) = Readable d l r n
+abbrev pub readFields : Option ℕ → Option ℕ → Option Rounds → Option ℕ → Reading
+readFields none l r n = Unreadable
+readFields (some d) none r n = Unreadable
+readFields (some d) (some l) none n = Unreadable
+readFields (some d) (some l) (some r) none = Unreadable
+readFields (some d) (some l) (some r) (some n) = Readable d l r n
 
 -- and if three spaces came
 abbrev pub readAt : Field → State → Reading
 readAt InDigest s = Unreadable
 readAt InLimit s = Unreadable
 readAt InRounds s = Unreadable
-readAt InKey s = told (numberIn (s .d)) (numberIn (s .limit)) (roundsIn (s .rounds)) (keyBytesIn (s .key .pairs))
+readAt InKey s = readFields (numberIn (s .d)) (numberIn (s .limit)) (roundsIn (s .rounds)) (keyBytesIn (s .key .pairs))
 readAt Past s = Unreadable
 
 unfoldable pub readingOf : State → Reading
 readingOf s = readAt (s .at) s
+
+-- what is kept of a key: its first 65 bytes, and zeros after them
+abbrev pub keptOf : List ℕ → List ℕ
+keptOf key = take keptBytes key ++ replicate (keptBytes - length key) 0
+
+-- what a state must say of a line: unreadable if that is; otherwise the same d, L and r, the count of the key's bytes, where 65
+-- stands for more than 64, and its first 65 bytes
+abbrev pub Says : State → Option Line → Type 0
+Says s none = readingOf s ≡ Unreadable
+Says s (some l) =
+    (readingOf s ≡ Readable (l .d) (l .limit) (l .rounds) (min (length (l .key)) keptBytes)) × (s .key .bytes ≡ keptOf (l .key))

@@ -1,5 +1,4 @@
--- Laws of the fold for a program that reads a line: a loop over its bytes, and the part of the kept bytes that is the key.
--- Assumes nothing.
+-- Laws: of the fold for a program that reads a line: a loop over its bytes, and the part of the kept bytes that is the key.
 use mathlib.Core.Path.{_≡_, refl}
 use mathlib.Core.Bool.{Bool, true, false, cond, _&&_}
 use mathlib.Core.List.{List, [], _∷_, _++_}
@@ -7,7 +6,7 @@ use mathlib.Core.Option.{Option, none, some}
 use Prim.Native.Nat.{ℕ, _≤_, min}
 use native.Mathlib.Omega.{arith}
 use lib.Dec.{eqb}
-use Rattle.line.specs.Fold.{keptBytes, stepOf, foldOf, numberIn, roundsIn, keyBytesIn, told, readAt, readingOf}
+use Rattle.line.specs.Fold.{keptBytes, stepOf, foldOf, numberIn, roundsIn, keyBytesIn, readFields, readAt, readingOf}
 use Rattle.line.specs.declared.Rounds.{Rounds}
 use Rattle.line.specs.declared.Field.{Field}
 use Rattle.line.specs.declared.Field.the-variants.{Digest as InDigest, Limit as InLimit, Rounds as InRounds, Key as InKey, Past}
@@ -43,7 +42,7 @@ unfolding readingOf
 within s d l r n e = at-field (s .at) e
   where
     of-four : (a b : Option ℕ) (c : Option Rounds) (o : Option ℕ) → keyBytesIn (s .key .pairs) ≡ o
-        → told a b c o ≡ Readable d l r n → n ≤ keptBytes
+        → readFields a b c o ≡ Readable d l r n → n ≤ keptBytes
     of-four none b c o h e = absurd (never d l r n e)
     of-four (some a) none c o h e = absurd (never d l r n e)
     of-four (some a) (some b) none o h e = absurd (never d l r n e)

@@ -1,5 +1,4 @@
--- The key's field, read byte by byte, says what its definition says, of a key over 64 bytes the first 65.
--- Assumes nothing.
+-- Laws: the key's field, read byte by byte, says what its definition says, of a key over 64 bytes the first 65.
 use mathlib.Core.Path.{_≡_, refl, sym, ap, _∙_}
 use mathlib.Core.Bool.{Bool, true, false, cond}
 use mathlib.Core.List.{List, [], _∷_, _++_, append-nil}
@@ -12,15 +11,11 @@ use lib.ListN.{length, take, set, replicate, length-append, length-take}
 use lib.Seq.{take-all, take-at, set-at, append-snoc, take-append-le}
 use Rattle.bits.specs.Hex.{digitOf}
 use Rattle.line.specs.Line.{byteOf, prepend, bytesOf, keyOf}
-use Rattle.line.specs.Fold.{keptBytes, putByte, putPair, pushKey, keyBytesIn}
+use Rattle.line.specs.Fold.{keptBytes, keptOf, putByte, putPair, pushKey, keyBytesIn}
 use Rattle.line.specs.declared.Pair.{Pair}
 use Rattle.line.specs.declared.Pair.the-variants.{Byte, NoByte}
 use Rattle.line.specs.declared.Pairs.the-variants.{Whole, Half, Wrong}
 use Rattle.line.specs.declared.Key.{Key}
-
--- what is kept of a key: its first 65 bytes, and zeros after them
-abbrev pub keptOf : List ℕ → List ℕ
-keptOf key = take keptBytes key ++ replicate (keptBytes - length key) 0
 
 -- what a key's field must say
 abbrev pub SaysKey : Key → Option (List ℕ) → Type 0

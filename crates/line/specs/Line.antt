@@ -1,8 +1,7 @@
--- What the program's first line says. Document 01, "Program": "First input line: d, L, r in decimal (r may be - for the default)
+-- Definitions: what the program's first line says. Document 01, "Program": "First input line: d, L, r in decimal (r may be - for the default)
 -- and the key as an even count of digits 0 to 9 and a to f (- for none), single spaces, ended by byte 10 .. an unreadable first
 -- line .. (a number of over five digits, or an empty or odd run of key digits, makes it so; leading zeros are read)".
 -- A line is the list of its bytes without the byte 10 that ends it.
--- Assumes nothing.
 use mathlib.Core.Bool.{Bool, true, false, cond, _&&_}
 use mathlib.Core.List.{List, [], _∷_}
 use mathlib.Core.Option.{Option, none, some}

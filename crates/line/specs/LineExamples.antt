@@ -1,5 +1,4 @@
--- Lines and what they say, computed from the definition.
--- Assumes nothing.
+-- Examples: lines and what they say, computed from the definition.
 use mathlib.Core.Path.{_≡_, refl}
 use mathlib.Core.List.{List, [], _∷_, _++_, map}
 use mathlib.Core.Option.{Option, none, some}

@@ -1,5 +1,4 @@
--- A number's field, read byte by byte, says what its definition says.
--- Assumes nothing.
+-- Laws: a number's field, read byte by byte, says what its definition says.
 use mathlib.Core.Path.{_≡_, refl}
 use mathlib.Core.Bool.{Bool, true, false, cond, _&&_}
 use mathlib.Core.List.{List, [], _∷_}

@@ -5,7 +5,7 @@ ghost use mathlib.Core.Path.{_≡_};
 ghost use mathlib.Core.Option.{some};
 ghost use Rattle.bits.specs.Hex.{digitOf};
 ghost use Rattle.line.specs.Line.{byteOf};
-ghost use Rattle.line.specs.Fold.{nextField, pushNumber, putByte, pushKey, start, spaceOf, pushAt, stepOf, readingOf, told, keyBytesIn};
+ghost use Rattle.line.specs.Fold.{nextField, pushNumber, putByte, pushKey, start, spaceOf, pushAt, stepOf, readingOf, readFields, keyBytesIn};
 
 // The rounds that a line names: `-` for the default, or a number.
 pub enum Rounds {
@@ -309,7 +309,7 @@ impl State {
 
 // What a line says with these numbers, by its key's field.
 fn key_reading(d: u64, limit: u64, rounds: Rounds, pairs: Pairs) -> Reading
-    ensures { λ r. ⌜ r ≡ told (some d) (some limit) (some rounds) (keyBytesIn pairs) ⌝ }
+    ensures { λ r. ⌜ r ≡ readFields (some d) (some limit) (some rounds) (keyBytesIn pairs) ⌝ }
 {
     match pairs {
         Pairs::Whole(n) => {

@@ -1,5 +1,4 @@
--- Two joined lists are equal only if their parts are, when the first parts are equally long.
--- Assumes nothing.
+-- Laws: two joined lists are equal only if their parts are, when the first parts are equally long.
 use mathlib.Core.List.{List, [], _∷_, _++_, head-eq-of-cons-eq, tail-eq-of-cons-eq}
 use mathlib.Core.Path.{_≡_, refl}
 use native.Mathlib.Omega.{arith}

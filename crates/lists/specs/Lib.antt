@@ -1,8 +1,10 @@
+pub mod And
 pub mod Append
 pub mod Below
-pub mod Both
-pub mod Concat
+pub mod BelowLaws
+pub mod Flatten
 pub mod Part
+pub mod PartLaws
 pub mod Paste
 pub mod Replicate
 pub mod Slices

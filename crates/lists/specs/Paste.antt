@@ -1,5 +1,4 @@
--- Laws of `paste` of the library, which puts the first n of a list into the place of as many others.
--- Assumes nothing.
+-- Laws: of `paste` of the library, which puts the first n of a list into the place of as many others.
 use mathlib.Core.List.{List, _++_, append-assoc}
 use mathlib.Core.Path.{_≡_}
 use Prim.Native.Nat.{ℕ, _+_, _≤_}

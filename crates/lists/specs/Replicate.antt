@@ -1,5 +1,4 @@
--- Parts of a list that repeats one element.
--- Assumes nothing.
+-- Laws: parts of a list that repeats one element.
 use mathlib.Core.Path.{_≡_, refl}
 use Prim.Native.Nat.{ℕ, zero, suc, _-_, _≤_}
 use native.Mathlib.Omega.{arith}

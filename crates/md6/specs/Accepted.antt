@@ -1,44 +1,38 @@
--- What is known after an accepted call: the log has room for its nodes, and what is then printed of the log and of the digest is
+-- Laws: what is known after an accepted call: the log has room for its nodes, and what is then printed of the log and of the digest is
 -- what the definitions of the call give.
--- Assumes nothing.
 use mathlib.Core.Path.{_≡_, refl, sym, ap, _∙_}
-use mathlib.Core.List.{List, [], _∷_, _++_, map}
+use mathlib.Core.List.{List, [], _∷_, _++_, flatten}
 use Prim.Native.Nat.{ℕ, _*_, _≤_}
 use native.Mathlib.Omega.{arith}
 use lib.Dec.{ltb}
 use lib.ListN.{length, take, drop}
 use lib.Seq.{take-at}
-use Rattle.lists.specs.Concat.{concat}
 use Rattle.bits.specs.BitsLaws.{length-numbers}
-use Rattle.tree.specs.Tree.{Params, Node, lastOr, noNode, digestBytes, digestOf}
+use Rattle.tree.specs.Tree.{Params, Node, lastOr, noNode, digestBytes, rootDigest}
 use Rattle.tree.specs.Refusals.{pieceBits, refusedParams}
 use Rattle.area.specs.Area.{areaWords, paramsOf}
-use Rattle.area.specs.Calls.{Opened, Fed, Ended, openNumber, openOf, fedBits, feedNumber, feedOf, closedBy, endNumber, endOf, digestOut, logOf, logged, logWordsOf}
-use Rattle.tree.specs.RefusalLaws.{orElse-passed, params-ranges}
+use Rattle.area.specs.Calls.{Opened, Fed, Finished, openNumber, openOf, fedBits, feedNumber, feedOf, closedBy, endNumber, endOf, digestOut, nodeLog, logged, logWordsOf}
+use Rattle.tree.specs.RefusalLaws.{test-passed, params-ranges}
 use Rattle.area.specs.CallLaws.{open-number, feed-number, feed-accepted, feed-passed, end-number, end-accepted, end-passed}
 use Rattle.area.specs.Accepts.{told-enough}
-use Rattle.stream.specs.Answers.{opened, fed, ended}
 use Rattle.print.specs.Print.{nodeLine, nodeLines}
+use Rattle.md6.specs.Lines.{linesOf}
 
 -- ---- open
 
 params-size : (area : List ℕ) (P : Params) → openNumber area P ≡ 0 → P .d ≤ 512
 unfolding openNumber
-params-size area P e = params-ranges P (orElse-passed (ltb (length area) areaWords) 6 (refusedParams P 0) e .1) .dHigh
+params-size area P e = params-ranges P (test-passed (ltb (length area) areaWords) 6 (refusedParams P 0) e .1) .dHigh
 
 -- a digest has at most 512 bits
-pub open-size : {number count : ℕ} {area′ : List ℕ} (area : List ℕ) (P : Params) → opened number count area′ ≡ openOf area P → number ≡ 0 → P .d ≤ 512
+pub open-size : {number count : ℕ} {area′ : List ℕ} (area : List ℕ) (P : Params) → record { number = number; count = count; area = area′ } ≡ openOf area P → number ≡ 0 → P .d ≤ 512
 open-size area P e z = params-size area P (sym (open-number area P) ∙ sym (ap (λ (o : Opened). o .number) e) ∙ z)
 
 -- ---- the lines of nodes
 
--- the lines of nodes: what is printed of the log after a call, by the laws below
-abbrev pub linesOf : List Node → List ℕ
-linesOf nodes = concat (map (λ (m : Node). nodeLine (m .u) (m .v)) nodes)
-
 -- the first nodes of a log are those that were logged
-printed : (nodes : List Node) (rest : List ℕ) → nodeLines (length nodes) (logOf nodes ++ rest) ≡ linesOf nodes
-unfolding nodeLines
+printed : (nodes : List Node) (rest : List ℕ) → nodeLines (length nodes) (nodeLog nodes ++ rest) ≡ linesOf nodes
+unfolding nodeLines flatten
 printed [] rest = refl
 printed (m ∷ nodes) rest = ap (λ (l : List ℕ). nodeLine (m .u) (m .v) ++ l) (printed nodes rest)
 
@@ -50,7 +44,7 @@ unfolding logWordsOf
 log-enough area piece n log h e = told-enough area piece n log (omega arith)
 
 module _ {number count : ℕ} {area′ log′ : List ℕ} (area piece : List ℕ) (n : ℕ) (log : List ℕ)
-    (e : fed number count area′ log′ ≡ feedOf area piece n log) (z : number ≡ 0) where
+    (e : record { number = number; count = count; area = area′; log = log′ } ≡ feedOf area piece n log) (z : number ≡ 0) where
   feed-yes : feedNumber area piece n log ≡ 0
   feed-yes = sym (feed-number area piece n log) ∙ sym (ap (λ (o : Fed). o .number) e) ∙ z
 
@@ -70,12 +64,12 @@ module _ {number count : ℕ} {area′ log′ : List ℕ} (area piece : List ℕ
 -- ---- end
 
 module _ {number count : ℕ} {area′ out′ log′ : List ℕ} (area out log : List ℕ)
-    (e : ended number count area′ out′ log′ ≡ endOf area out log) (z : number ≡ 0) where
+    (e : record { number = number; count = count; area = area′; digest = out′; log = log′ } ≡ endOf area out log) (z : number ≡ 0) where
   end-yes : endNumber area out log ≡ 0
-  end-yes = sym (end-number area out log) ∙ sym (ap (λ (o : Ended). o .number) e) ∙ z
+  end-yes = sym (end-number area out log) ∙ sym (ap (λ (o : Finished). o .number) e) ∙ z
 
   end-count : count ≡ length (closedBy area)
-  end-count = ap (λ (o : Ended). o .count) (e ∙ end-accepted area out log end-yes)
+  end-count = ap (λ (o : Finished). o .count) (e ∙ end-accepted area out log end-yes)
 
   pub end-room : 2 * count ≤ length log
   end-room = rw end-count (end-passed area out log end-yes .room)
@@ -84,13 +78,13 @@ module _ {number count : ℕ} {area′ out′ log′ : List ℕ} (area out log :
   pub end-printed : nodeLines count log′ ≡ linesOf (closedBy area)
   end-printed =
       let nodes : List Node = closedBy area in
-      let l : log′ ≡ logged nodes log = ap (λ (o : Ended). o .log) (e ∙ end-accepted area out log end-yes) in
+      let l : log′ ≡ logged nodes log = ap (λ (o : Finished). o .log) (e ∙ end-accepted area out log end-yes) in
       rw (end-count, l) (printed nodes (drop (2 * length nodes) log))
 
   -- and the digest is the root's
-  pub digest-printed : take (digestBytes (paramsOf area .d)) out′ ≡ digestOf (paramsOf area) (lastOr noNode (closedBy area))
+  pub digest-printed : take (digestBytes (paramsOf area .d)) out′ ≡ rootDigest (paramsOf area) (lastOr noNode (closedBy area))
   unfolding digestOut
   digest-printed =
-      let D : List ℕ = digestOf (paramsOf area) (lastOr noNode (closedBy area)) in
-      let o : out′ ≡ D ++ drop (digestBytes (paramsOf area .d)) out = ap (λ (x : Ended). x .digest) (e ∙ end-accepted area out log end-yes) in
+      let D : List ℕ = rootDigest (paramsOf area) (lastOr noNode (closedBy area)) in
+      let o : out′ ≡ D ++ drop (digestBytes (paramsOf area .d)) out = ap (λ (x : Finished). x .digest) (e ∙ end-accepted area out log end-yes) in
       rw o (take-at D (drop (digestBytes (paramsOf area .d)) out) (digestBytes (paramsOf area .d)) (length-numbers 8 (digestBytes (paramsOf area .d)) _))

@@ -1,2 +1,3 @@
-pub mod Opening
 pub mod Accepted
+pub mod Lines
+pub mod Opening

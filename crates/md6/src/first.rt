@@ -2,7 +2,7 @@
 ghost use Prim.Native.Nat.{_≤_};
 ghost use lib.ListN.{length};
 ghost use Rattle.line.specs.Fold.{keptBytes};
-ghost use Rattle.md6.specs.Opening.{digestBits};
+ghost use Rattle.md6.specs.Opening.{openedBits};
 use libc::STDIN_FILENO;
 use line::Key;
 use line::Reading;
@@ -125,7 +125,7 @@ fn open_with(
     rounds: u64,
 ) -> Opening
     requires { ⌜ n ≤ keptBytes ⌝ }
-    ensures { λ r. ⌜ digestBits r ≤ 512 ⌝ }
+    ensures { λ r. ⌜ openedBits r ≤ 512 ⌝ }
 {
     let answer = stream::open(area, &kept[..n], d, limit, rounds);
     if answer.number != 0 {
@@ -136,7 +136,7 @@ fn open_with(
 
 // Opens the stream that a line names.
 fn open_line(area: &mut [u64; Area::WORDS], state: State) -> Opening
-    ensures { λ r. ⌜ digestBits r ≤ 512 ⌝ }
+    ensures { λ r. ⌜ openedBits r ≤ 512 ⌝ }
 {
     let key = state.key;
     let kept = key.bytes;
@@ -156,7 +156,7 @@ fn open_line(area: &mut [u64; Area::WORDS], state: State) -> Opening
 
 // Opens the stream that the first line names.
 pub fn open_stream(area: &mut [u64; Area::WORDS], first: First) -> Opening
-    ensures { λ r. ⌜ digestBits r ≤ 512 ⌝ }
+    ensures { λ r. ⌜ openedBits r ≤ 512 ⌝ }
 {
     let found = first.found;
     let state = first.state;

@@ -2,9 +2,7 @@
 ghost use mathlib.Core.Path.{_≡_};
 ghost use Rattle.hash.specs.Hash.{hashOf, defaultRoundsOf};
 ghost use Rattle.area.specs.Calls.{openOf, feedOf, endOf, logWordsOf};
-ghost use Rattle.stream.specs.Answers.{params, opened, fed, ended};
 ghost use Rattle.text.specs.Text.{writeOf, readOf};
-ghost use Rattle.text.specs.Answers.{written, taken};
 
 // The digest of a whole message. Answers the number alone.
 #[no_mangle]
@@ -40,7 +38,7 @@ pub extern "C" fn md6_open(
     limit: u64,
     rounds: u64,
 ) -> node::Answer
-    ensures { λ o. ⌜ opened (o .number) (o .count) (now (area .exit)) ≡ openOf (now (area .entry)) (params (now (key .entry)) d limit rounds) ⌝ }
+    ensures { λ o. ⌜ record { number = o .number; count = o .count; area = now (area .exit) } ≡ openOf (now (area .entry)) (record { key = now (key .entry); d = d; limit = limit; rounds = rounds }) ⌝ }
 {
     stream::open(area, key, d, limit, rounds)
 }
@@ -53,7 +51,7 @@ pub extern "C" fn md6_feed(
     bits: u64,
     log: &mut [u64],
 ) -> node::Answer
-    ensures { λ o. ⌜ fed (o .number) (o .count) (now (area .exit)) (now (log .exit)) ≡ feedOf (now (area .entry)) (now (piece .entry)) bits (now (log .entry)) ⌝ }
+    ensures { λ o. ⌜ record { number = o .number; count = o .count; area = now (area .exit); log = now (log .exit) } ≡ feedOf (now (area .entry)) (now (piece .entry)) bits (now (log .entry)) ⌝ }
 {
     stream::feed(area, piece, bits, log)
 }
@@ -61,7 +59,7 @@ pub extern "C" fn md6_feed(
 // Ends a stream.
 #[no_mangle]
 pub extern "C" fn md6_end(area: &mut [u64], digest: &mut [u8], log: &mut [u64]) -> node::Answer
-    ensures { λ o. ⌜ ended (o .number) (o .count) (now (area .exit)) (now (digest .exit)) (now (log .exit)) ≡ endOf (now (area .entry)) (now (digest .entry)) (now (log .entry)) ⌝ }
+    ensures { λ o. ⌜ record { number = o .number; count = o .count; area = now (area .exit); digest = now (digest .exit); log = now (log .exit) } ≡ endOf (now (area .entry)) (now (digest .entry)) (now (log .entry)) ⌝ }
 {
     stream::end(area, digest, log)
 }
@@ -77,7 +75,7 @@ pub extern "C" fn md6_log_words(bits: u64) -> node::Answer
 // Writes a stream as text.
 #[no_mangle]
 pub extern "C" fn md6_write(area: &[u64], text: &mut [u8]) -> node::Answer
-    ensures { λ o. ⌜ written (o .number) (o .count) (now (text .exit)) ≡ writeOf (now (area .entry)) (now (text .entry)) ⌝ }
+    ensures { λ o. ⌜ record { number = o .number; count = o .count; text = now (text .exit) } ≡ writeOf (now (area .entry)) (now (text .entry)) ⌝ }
 {
     text::write(area, text)
 }
@@ -85,7 +83,7 @@ pub extern "C" fn md6_write(area: &[u64], text: &mut [u8]) -> node::Answer
 // Reads a text into an area.
 #[no_mangle]
 pub extern "C" fn md6_read(area: &mut [u64], text: &[u8]) -> node::Answer
-    ensures { λ o. ⌜ taken (o .number) (o .count) (now (area .exit)) ≡ readOf (now (area .entry)) (now (text .entry)) ⌝ }
+    ensures { λ o. ⌜ record { number = o .number; count = o .count; area = now (area .exit) } ≡ readOf (now (area .entry)) (now (text .entry)) ⌝ }
 {
     text::read(area, text)
 }

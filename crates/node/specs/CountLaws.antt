@@ -1,5 +1,4 @@
--- Laws for the code that counts blocks and nodes.
--- Assumes nothing.
+-- Laws: for the code that counts blocks and nodes.
 use mathlib.Core.Path.{_≡_, refl}
 use Prim.Native.Nat.{ℕ, zero, suc, _+_, _-_, _/_, _<_}
 use native.Mathlib.Nat.{add-div-right, div-eq-of-lt}

@@ -1,5 +1,4 @@
--- Laws for the code that writes a digest: the bytes of words, and the last d bits of the root's words.
--- Assumes nothing.
+-- Laws: for the code that writes a digest: the bytes of words, and the last d bits of the root's words.
 use mathlib.Core.Path.{_≡_, refl, sym, ap, _∙_}
 use mathlib.Core.Bool.{Bool, false}
 use mathlib.Core.List.{List, [], _∷_, _++_, append-assoc}

@@ -1,5 +1,4 @@
--- Laws for the code that makes a node's window.
--- Assumes nothing.
+-- Laws: for the code that makes a node's window.
 use mathlib.Core.Path.{_≡_, refl, sym, ap, _∙_}
 use mathlib.Core.List.{List, [], _∷_, _++_, append-assoc, append-nil}
 use Prim.Native.Nat.{ℕ, _+_}

@@ -1,13 +1,12 @@
--- Laws for the code that works out numbers: they go by the bytes of a key and of a piece, and not by what these hold.
--- Assumes nothing.
+-- Laws: for the code that works out numbers: they go by the bytes of a key and of a piece, and not by what these hold.
 use mathlib.Core.Path.{_≡_, refl, sym, _∙_}
-use mathlib.Core.Bool.{Bool, true, false}
+use mathlib.Core.Bool.{Bool, true, false, cond}
 use Prim.Native.Nat.{ℕ, _+_, _*_, _/_, _%_, _≤_, _<_}
 use native.Mathlib.Omega.{arith}
 use borrow.Author.Tests.{ltb-true, ltb-false, lt-ltb, le-ltb}
 use lib.Dec.{ltb}
 use lib.ListN.{length-replicate}
-use Rattle.tree.specs.Refusals.{orElse, refusedSize, refusedParams}
+use Rattle.tree.specs.Refusals.{refusedSize, refusedParams}
 use Rattle.tree.specs.RefusalLaws.{size-refused, size-accepted}
 use Rattle.node.specs.Words.{sized}
 
@@ -22,7 +21,7 @@ over-by-division bits bytes = go (ltb (8 * bytes) bits) refl
 -- the numbers one by one, for a key of so many bytes
 module _ (k d l r : ℕ) where
   abbrev after : ℕ
-  after = orElse (ltb 64 k) 2 (orElse (ltb 64 l) 3 (orElse (ltb 255 r) 4 0))
+  after = cond (ltb 64 k) 2 (cond (ltb 64 l) 3 (cond (ltb 255 r) 4 0))
 
   by-bytes : refusedParams (sized k d l r) 0 ≡ refusedSize d after
   by-bytes = rw (length-replicate {A = ℕ} k 0)

@@ -1,5 +1,4 @@
--- Laws of Words: a node's words are 16, each below 2 ^ 64.
--- Assumes nothing.
+-- Laws: of Words: a node's words are 16, each below 2 ^ 64.
 use mathlib.Core.Path.{_≡_}
 use mathlib.Core.List.{List}
 use Prim.Native.Nat.{ℕ, _^_, _≤_, _<_}

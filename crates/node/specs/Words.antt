@@ -1,5 +1,4 @@
--- The 16 words of a node, from what the nodes of one tree share and from the node's own place, flag, padding and block.
--- Assumes nothing.
+-- Laws: the 16 words of a node, from what the nodes of one tree share and from the node's own place, flag, padding and block.
 use mathlib.Core.List.{List}
 use Prim.Native.Nat.{ℕ}
 use lib.ListN.{replicate}

@@ -1,6 +1,5 @@
--- Laws of the code that feeds: a chunk of bits is copied into level 1, which is flushed first if it is full, and one chunk comes
+-- Laws: of the code that feeds: a chunk of bits is copied into level 1, which is flushed first if it is full, and one chunk comes
 -- after the other.
--- Assumes nothing.
 use mathlib.Core.Path.{_≡_, refl, sym, ap, _∙_}
 use mathlib.Core.Bool.{Bool}
 use mathlib.Core.List.{List, [], _∷_, _++_}
@@ -8,16 +7,17 @@ use Prim.Native.Nat.{ℕ, _+_, _-_, _*_, _^_, _≤_, _<_, suc}
 use native.Mathlib.Omega.{arith}
 use lib.ListN.{length, take, drop, set, length-append}
 use lib.Seq.{sets, take-add, length-sets, length-take-le}
-use Rattle.lists.specs.Below.{Below, below-take, below-drop}
+use Rattle.lists.specs.Below.{Below}
+use Rattle.lists.specs.BelowLaws.{below-take, below-drop}
 use Rattle.bits.specs.Bits.{bitsOf, filled}
 use Rattle.bits.specs.BitsLaws.{length-bitsOf}
 use Rattle.bits.specs.FilledLaws.{length-filled}
 use Rattle.tree.specs.Tree.{Params, Node}
 use Rattle.area.specs.Area.{areaWords, levelWords, levelsFrom, levelsOf, withLevels, heldBits}
-use Rattle.area.specs.Calls.{Made, feedBits, logOf}
+use Rattle.area.specs.Calls.{Made, feedBits, nodeLog}
 use Rattle.area.specs.Machine
 use Rattle.area.specs.AreaLaws.{length-withLevels, levelsOf-withLevels}
-use Rattle.area.specs.CallLaws.{length-logOf, logOf-append}
+use Rattle.area.specs.CallLaws.{length-nodeLog, nodeLog-append}
 use Rattle.area.specs.FeedLaws.{feedBits-append, withLevels-same}
 use Rattle.area.specs.WriteLaws.{withLevels-again}
 use Rattle.climb.specs.Levels.{withLevel, low₁, high₁, levels-split, with-first, length-level}
@@ -49,7 +49,7 @@ module _ (P : Params) (limit : ℕ) (same : P .limit ≡ limit) (T start count :
       ∙ rw same in
       let l : length (filled ws place bytes start count) ≡ 64 = length-filled ws place bytes start count ∙ level-size in (
         ea ∙ sym (with-first area (filled ws place bytes start count) long l) ∙ sym (ap (λ (x : Made). withLevels area (x .levels)) c),
-        sym (ap (λ (x : Made). sets log at (logOf (x .nodes))) c),
+        sym (ap (λ (x : Made). sets log at (nodeLog (x .nodes))) c),
         omega (arith, ap (λ (x : Made). at + 2 * length (x .nodes)) c),
       )
 
@@ -87,7 +87,7 @@ module _ (P : Params) (limit : ℕ) (same : P .limit ≡ limit) (T start count :
               ∙ ap (λ (x : List (List ℕ)). withLevels area₁ (new ∷ x)) u ∙ ap (λ (x : List ℕ). withLevels area₁ (filled x (baseOf limit) bytes start count ∷ restOf (flushedNow .levels))) w
               ∙ ap (λ (x : List ℕ). withLevels x L) (F .0) ∙ withLevels-again area (flushedNow .levels) L long (s .widths) (s .size)
               ∙ sym (ap (λ (x : Made). withLevels area (x .levels)) full-is),
-          F .1 ∙ sym (ap (λ (x : Made). sets log at (logOf (x .nodes))) full-is),
+          F .1 ∙ sym (ap (λ (x : Made). sets log at (nodeLog (x .nodes))) full-is),
           omega (arith, F .2, ap (λ (x : Made). at + 2 * length (x .nodes)) full-is),
         )
 
@@ -97,8 +97,8 @@ sets-append : (l : List ℕ) (at : ℕ) (xs ys : List ℕ) → sets l at (xs ++ 
 sets-append l at [] ys = let e : at + 0 ≡ at = omega arith in rw e
 sets-append l at (x ∷ xs) ys = let e : at + suc (length xs) ≡ suc at + length xs = omega arith in rw e (sets-append (set l at x) (suc at) xs ys)
 
-log-append : (log : List ℕ) (at : ℕ) (ms ns : List Node) → sets log at (logOf (ms ++ ns)) ≡ sets (sets log at (logOf ms)) (at + 2 * length ms) (logOf ns)
-log-append log at ms ns = rw (logOf-append ms ns, sets-append log at (logOf ms) (logOf ns), length-logOf ms)
+log-append : (log : List ℕ) (at : ℕ) (ms ns : List Node) → sets log at (nodeLog (ms ++ ns)) ≡ sets (sets log at (nodeLog ms)) (at + 2 * length ms) (nodeLog ns)
+log-append log at ms ns = rw (nodeLog-append ms ns, sets-append log at (nodeLog ms) (nodeLog ns), length-nodeLog ms)
 
 -- after so many bits of the piece, area and log are those of the definition
 pub record Feeding (P : Params) (T : ℕ) (bytes : List ℕ) (bits : ℕ) (area₀ log₀ area log : List ℕ) (at done : ℕ) : Type 0 where
@@ -106,7 +106,7 @@ pub record Feeding (P : Params) (T : ℕ) (bytes : List ℕ) (bits : ℕ) (area�
   pub area-length : length area ≡ length area₀
   pub log-length : length log ≡ length log₀
   pub area-is : area ≡ withLevels area₀ (feedBits P T (take done (bitsOf 8 bytes)) (levelsOf area₀) .levels)
-  pub log-is : log ≡ sets log₀ 0 (logOf (feedBits P T (take done (bitsOf 8 bytes)) (levelsOf area₀) .nodes))
+  pub log-is : log ≡ sets log₀ 0 (nodeLog (feedBits P T (take done (bitsOf 8 bytes)) (levelsOf area₀) .nodes))
   pub at-is : at ≡ 2 * length (feedBits P T (take done (bitsOf 8 bytes)) (levelsOf area₀) .nodes)
 
 pub feeding-none : (P : Params) (T : ℕ) (bytes : List ℕ) (bits : ℕ) (area log : List ℕ) → Feeding P T bytes bits area log area log 0 0
@@ -117,7 +117,7 @@ feeding-none P T bytes bits area log =
       area-length = refl;
       log-length = refl;
       area-is = sym (ap (λ (x : Made). withLevels area (x .levels)) e ∙ withLevels-same area);
-      log-is = sym (ap (λ (x : Made). sets log 0 (logOf (x .nodes))) e);
+      log-is = sym (ap (λ (x : Made). sets log 0 (nodeLog (x .nodes))) e);
       at-is = sym (ap (λ (x : Made). 2 * length (x .nodes)) e);
     }
 
@@ -164,13 +164,13 @@ module _ {P : Params} {T : ℕ} {bytes : List ℕ} {bits : ℕ} {area₀ log₀ 
       let longer : areaWords ≤ length area = le-at refl (sym (f .area-length)) long in
       let w = wide-bits P (T + done) bs (levelsOf area) (wide-levels area longer) in
       let la = ap length (F .0) ∙ length-withLevels area (C .levels) longer (w .widths) (w .size) in
-      let ll = ap length (F .1) ∙ length-sets log at (logOf (C .nodes)) in
+      let ll = ap length (F .1) ∙ length-sets log at (nodeLog (C .nodes)) in
       let z : 0 + 2 * length (before .nodes) ≡ 2 * length (before .nodes) = omega arith in record {
         within = h;
         area-length = la ∙ f .area-length;
         log-length = ll ∙ f .log-length;
         area-is = F .0 ∙ ap (λ (x : List ℕ). withLevels x (C .levels)) (f .area-is) ∙ withLevels-again area₀ (before .levels) (C .levels) long (wide .widths) (wide .size) ∙ sym (ap (λ (x : Made). withLevels area₀ (x .levels)) (next-is c));
-        log-is = F .1 ∙ ap (λ (x : List ℕ). sets x at (logOf (C .nodes))) (f .log-is) ∙ ap (λ (n : ℕ). sets (sets log₀ 0 (logOf (before .nodes))) n (logOf (C .nodes))) (f .at-is ∙ sym z)
-            ∙ sym (log-append log₀ 0 (before .nodes) (C .nodes)) ∙ sym (ap (λ (x : Made). sets log₀ 0 (logOf (x .nodes))) (next-is c));
+        log-is = F .1 ∙ ap (λ (x : List ℕ). sets x at (nodeLog (C .nodes))) (f .log-is) ∙ ap (λ (n : ℕ). sets (sets log₀ 0 (nodeLog (before .nodes))) n (nodeLog (C .nodes))) (f .at-is ∙ sym z)
+            ∙ sym (log-append log₀ 0 (before .nodes) (C .nodes)) ∙ sym (ap (λ (x : Made). sets log₀ 0 (nodeLog (x .nodes))) (next-is c));
         at-is = omega (arith, F .2, f .at-is, ap (λ (x : Made). length (x .nodes)) (next-is c), length-append (before .nodes) (C .nodes));
       }

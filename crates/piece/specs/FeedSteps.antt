@@ -1,6 +1,5 @@
--- The steps of a feed: the bits that level 1 takes, copied at once, and what comes of them where it is full. That these are what
+-- Laws: the steps of a feed: the bits that level 1 takes, copied at once, and what comes of them where it is full. That these are what
 -- `feedBits` of Calls makes, which goes bit by bit.
--- Assumes nothing.
 use mathlib.Core.Path.{_≡_, refl, sym, ap, _∙_}
 use mathlib.Core.Bool.{Bool, true, false}
 use mathlib.Core.List.{List, [], _∷_, append-nil}
@@ -12,7 +11,8 @@ use lib.Dec.{ltb}
 use lib.ListN.{length, take, drop, getD}
 use lib.Seq.{drop-cons}
 use borrow.Author.Tests.{eq-eqb, lt-ltb, le-ltb, ltb-true, ltb-false}
-use Rattle.lists.specs.Below.{Below, below-append, below-zeros}
+use Rattle.lists.specs.Below.{Below}
+use Rattle.lists.specs.BelowLaws.{below-append, below-zeros}
 use Rattle.bits.specs.Bits.{bitsOf, filled}
 use Rattle.bits.specs.BitsLaws.{length-bitsOf, numbers-below}
 use Rattle.bits.specs.FilledLaws.{length-filled, filled-below, filled-more}

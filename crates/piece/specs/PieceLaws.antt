@@ -1,5 +1,4 @@
--- Laws of `fedBits` in Calls: what the code reads from an open area, and what it leaves there.
--- Assumes nothing.
+-- Laws: of `fedBits` in Calls: what the code reads from an open area, and what it leaves there.
 use mathlib.Core.Path.{_≡_, refl, ap, _∙_}
 use mathlib.Core.List.{List, append-nil}
 use Prim.Native.Nat.{ℕ, zero, suc, _+_, _*_, _/_, _^_, _≤_, _<_}
@@ -9,7 +8,7 @@ use lib.Seq.{paste, length-take-le, take-all}
 use Rattle.bits.specs.Bits.{bitsOf}
 use Rattle.tree.specs.Tree.{blockBits}
 use Rattle.tree.specs.Refusals.{pieceBits}
-use Rattle.area.specs.Area.{areaWords, totalOf, keyOf, compressionsOf, paramsOf, levelsOf, withLevels, doneBlocks, openCount, sound}
+use Rattle.area.specs.Area.{areaWords, totalOf, kOf, compressionsOf, paramsOf, levelsOf, withLevels, doneBlocks, openCount, sound}
 use Rattle.area.specs.Calls.{Made, feedBits, fedBits, fedArea}
 use Rattle.area.specs.CallLaws.{FeedPassed}
 use Rattle.area.specs.WriteLaws.{set-withLevels}
@@ -34,14 +33,14 @@ made-count {area} o piece n h g =
 -- ---- what the code reads
 
 -- K is copied out of the area
-pub key-copied : (area : List ℕ) → areaWords ≤ length area → paste (replicate 8 0) 0 (take 8 (drop 6 area)) 8 ≡ keyOf area
+pub key-copied : (area : List ℕ) → areaWords ≤ length area → paste (replicate 8 0) 0 (take 8 (drop 6 area)) 8 ≡ kOf area
 key-copied area long =
     let l : length (take 8 (drop 6 area)) ≡ 8 = length-take-le 8 (drop 6 area) (rw length-drop (omega arith)) in
     rw (take-all 8 (take 8 (drop 6 area)) (omega arith)) (append-nil (take 8 (drop 6 area)))
 
 -- what the code feeds is what the definition feeds
 pub fed-read : (area piece : List ℕ) (n : ℕ)
-    → feedBits (paramsFrom (keyOf area) (numbered area)) (totalOf area) (take n (bitsOf 8 piece)) (levelsOf area) ≡ fedBits area (pieceBits piece n)
+    → feedBits (paramsFrom (kOf area) (numbered area)) (totalOf area) (take n (bitsOf 8 piece)) (levelsOf area) ≡ fedBits area (pieceBits piece n)
 unfolding fedBits paramsFrom paramsOf
 fed-read area piece n = refl
 

@@ -5,7 +5,7 @@ ghost use lib.ListN.{length, take, drop};
 ghost use lib.Seq.{sets};
 ghost use Rattle.bits.specs.Bits.{bitsOf, filled};
 ghost use Rattle.area.specs.Area.{areaWords, levelWords, levelsOf, withLevels};
-ghost use Rattle.area.specs.Calls.{logOf, feedBits};
+ghost use Rattle.area.specs.Calls.{nodeLog, feedBits};
 ghost use Rattle.climb.specs.Levels.{withLevel};
 ghost use Rattle.climb.specs.MakeLaws.{paramsFrom, Ready};
 ghost use Rattle.piece.specs.FeedSteps.{sizeOf, roomOf};
@@ -70,7 +70,7 @@ fn feed_chunk(
     requires { ⌜ (areaWords ≤ length (now area)) × (1 ≤ count) × (count ≤ roomOf (params .limit) total) × (start + count ≤ 8 * length (now piece)) ⌝ }
     requires { ⌜ at + 2 * length (feedBits (paramsFrom (now key) params) total (take count (drop start (bitsOf 8 (now piece)))) (levelsOf (now area)) .nodes) ≤ length (now log) ⌝ }
     ensures { λ _. ⌜ now (area .exit) ≡ withLevels (now (area .entry)) (feedBits (paramsFrom (now (key .entry)) params) total (take count (drop start (bitsOf 8 (now (piece .entry))))) (levelsOf (now (area .entry))) .levels) ⌝ }
-    ensures { λ _. ⌜ now (log .exit) ≡ sets (now (log .entry)) at (logOf (feedBits (paramsFrom (now (key .entry)) params) total (take count (drop start (bitsOf 8 (now (piece .entry))))) (levelsOf (now (area .entry))) .nodes)) ⌝ }
+    ensures { λ _. ⌜ now (log .exit) ≡ sets (now (log .entry)) at (nodeLog (feedBits (paramsFrom (now (key .entry)) params) total (take count (drop start (bitsOf 8 (now (piece .entry))))) (levelsOf (now (area .entry))) .nodes)) ⌝ }
     ensures { λ r. ⌜ r ≡ at + 2 * length (feedBits (paramsFrom (now (key .entry)) params) total (take count (drop start (bitsOf 8 (now (piece .entry))))) (levelsOf (now (area .entry))) .nodes) ⌝ }
 {
     let size = size_of(params.limit);
@@ -100,7 +100,7 @@ pub fn feed_bits(
     requires { ⌜ (areaWords ≤ length (now area)) × (bits ≤ 8 * length (now piece)) × (total + bits < 2 ^ 64) ⌝ }
     requires { ⌜ 2 * length (feedBits (paramsFrom (now key) params) total (take bits (bitsOf 8 (now piece))) (levelsOf (now area)) .nodes) ≤ length (now log) ⌝ }
     ensures { λ _. ⌜ now (area .exit) ≡ withLevels (now (area .entry)) (feedBits (paramsFrom (now (key .entry)) params) total (take bits (bitsOf 8 (now (piece .entry)))) (levelsOf (now (area .entry))) .levels) ⌝ }
-    ensures { λ _. ⌜ now (log .exit) ≡ sets (now (log .entry)) 0 (logOf (feedBits (paramsFrom (now (key .entry)) params) total (take bits (bitsOf 8 (now (piece .entry)))) (levelsOf (now (area .entry))) .nodes)) ⌝ }
+    ensures { λ _. ⌜ now (log .exit) ≡ sets (now (log .entry)) 0 (nodeLog (feedBits (paramsFrom (now (key .entry)) params) total (take bits (bitsOf 8 (now (piece .entry)))) (levelsOf (now (area .entry))) .nodes)) ⌝ }
     ensures { λ r. ⌜ r ≡ 2 * length (feedBits (paramsFrom (now (key .entry)) params) total (take bits (bitsOf 8 (now (piece .entry)))) (levelsOf (now (area .entry))) .nodes) ⌝ }
 {
     let mut done: u64 = 0;

@@ -1,5 +1,4 @@
--- What the stores of each line leave in a text.
--- Assumes nothing.
+-- Laws: what the stores of each line leave in a text.
 use mathlib.Core.Path.{_≡_, refl, sym, ap, _∙_}
 use mathlib.Core.List.{List, [], _∷_, _++_, append-assoc, append-nil}
 use Prim.Native.Nat.{ℕ, zero, suc, _+_, _*_, _≤_, _<_}
@@ -7,9 +6,10 @@ use native.Mathlib.Numerals.{add-one}
 use native.Mathlib.Omega.{arith}
 use lib.ListN.{length, take, drop, getD, set, length-append}
 use lib.Seq.{length-take-le, take-suc, getD-drop}
-use Rattle.lists.specs.Concat.{concat-append, map-append}
-use Rattle.lists.specs.Part.{put, next-part, put-length, put-put, put-one}
-use Rattle.digits.specs.Digits.{digits}
+use Rattle.lists.specs.Flatten.{flatten-append, map-append}
+use Rattle.lists.specs.Part.{put}
+use Rattle.lists.specs.PartLaws.{next-part, put-length, put-put, put-one}
+use Rattle.digits.specs.Digits.{hexDigits}
 use Rattle.digits.specs.DigitLaws.{length-digits}
 use Rattle.print.specs.Print.{nodeLine, lineBytes, nodeLines, byteDigits, digestLine}
 
@@ -20,11 +20,11 @@ unfolding nodeLine
 length-nodeLine u v = simp (length-append, length-digits) (omega arith)
 
 pub node-stored : (at u v : ℕ) (text : List ℕ) → at + lineBytes ≤ length text
-    → set (put (at + 17) 16 (set (put at 16 text (digits 16 u)) (at + 16) 32) (digits 16 v)) (at + 33) 10 ≡ put at lineBytes text (nodeLine u v)
+    → set (put (at + 17) 16 (set (put at 16 text (hexDigits 16 u)) (at + 16) 32) (hexDigits 16 v)) (at + 33) 10 ≡ put at lineBytes text (nodeLine u v)
 unfolding nodeLine
 node-stored at u v text h =
-    let du : List ℕ = digits 16 u in
-    let dv : List ℕ = digits 16 v in
+    let du : List ℕ = hexDigits 16 u in
+    let dv : List ℕ = hexDigits 16 v in
     let n0 : length du ≡ 16 = length-digits 16 u in
     let n1 : length (du ++ (32 ∷ [])) ≡ 17 = simp (length-append, length-digits) in
     let n2 : length ((du ++ (32 ∷ [])) ++ dv) ≡ 33 = simp (length-append, length-digits) in
@@ -71,20 +71,22 @@ nodes-step i text log e e′ =
 -- ---- the line of a digest
 
 length-byteDigits : (bytes : List ℕ) → length (byteDigits bytes) ≡ 2 * length bytes
+unfolding mathlib.Core.List.flatten
 length-byteDigits [] = refl
 length-byteDigits (b ∷ bytes) = rw (length-append, length-digits 2 b, length-byteDigits bytes) (omega arith)
 
-byteDigits-more : (bytes : List ℕ) (i : ℕ) → i < length bytes → byteDigits (take (i + 1) bytes) ≡ byteDigits (take i bytes) ++ digits 2 (getD bytes i 0)
-byteDigits-more bytes i h = rw (add-one, take-suc bytes i 0 h, map-append, concat-append, append-nil)
+byteDigits-more : (bytes : List ℕ) (i : ℕ) → i < length bytes → byteDigits (take (i + 1) bytes) ≡ byteDigits (take i bytes) ++ hexDigits 2 (getD bytes i 0)
+unfolding mathlib.Core.List.flatten
+byteDigits-more bytes i h = rw (add-one, take-suc bytes i 0 h, map-append, flatten-append, append-nil)
 
 pub bytes-step : (i : ℕ) (text bytes : List ℕ) {x : ℕ} {t t′ : List ℕ} → i < length bytes → x ≡ getD bytes i 0
-    → t ≡ put 0 (2 * i) text (byteDigits (take i bytes)) → t′ ≡ put (2 * i) 2 t (digits 2 x)
+    → t ≡ put 0 (2 * i) text (byteDigits (take i bytes)) → t′ ≡ put (2 * i) 2 t (hexDigits 2 x)
     → t′ ≡ put 0 (2 * (i + 1)) text (byteDigits (take (i + 1) bytes))
 bytes-step i text bytes {t = t} h d e e′ =
     let a : 2 * i + 2 ≡ 2 * (i + 1) = omega arith in
     let n : length (byteDigits (take i bytes)) ≡ 2 * i = rw (length-byteDigits (take i bytes), length-take-le i bytes (omega arith)) in
-    e′ ∙ ap (λ (y : ℕ). put (2 * i) 2 t (digits 2 y)) d ∙ ap (λ (l : List ℕ). put (2 * i) 2 l (digits 2 (getD bytes i 0))) e
-    ∙ next-part (2 * i) 2 (byteDigits (take i bytes)) text (digits 2 (getD bytes i 0)) n ∙ rw (a, byteDigits-more bytes i h)
+    e′ ∙ ap (λ (y : ℕ). put (2 * i) 2 t (hexDigits 2 y)) d ∙ ap (λ (l : List ℕ). put (2 * i) 2 l (hexDigits 2 (getD bytes i 0))) e
+    ∙ next-part (2 * i) 2 (byteDigits (take i bytes)) text (hexDigits 2 (getD bytes i 0)) n ∙ rw (a, byteDigits-more bytes i h)
 
 pub digest-stored : (n : ℕ) (text bytes : List ℕ) → n ≤ length bytes → 2 * n < length text
     → set (put 0 (2 * n) text (byteDigits (take n bytes))) (2 * n) 10 ≡ put 0 (2 * n + 1) text (digestLine (take n bytes))

@@ -4,7 +4,7 @@ ghost use mathlib.Core.List.{_++_};
 ghost use Prim.Native.Nat.{_+_, _*_, _≤_};
 ghost use lib.ListN.{length, take, drop};
 ghost use Rattle.lists.specs.Part.{put};
-ghost use Rattle.digits.specs.Digits.{digits};
+ghost use Rattle.digits.specs.Digits.{hexDigits};
 ghost use Rattle.print.specs.Print.{nodeLine, lineBytes, nodeLines, digestLine};
 
 // The bytes of a node's line, 34: U and V of 16 digits each, the space between them, and byte 10.
@@ -13,7 +13,7 @@ pub const NODE_LINE: usize = 2 * 16 + 2;
 // Puts n digits of a number into a text, from a place on.
 fn put_hex(text: &mut [u8], at: usize, number: u64, n: usize)
     requires { ⌜ (at + n ≤ length (now text)) × (n ≤ 16) ⌝ }
-    ensures { λ _. ⌜ now (text .exit) ≡ put at n (now (text .entry)) (digits n number) ⌝ }
+    ensures { λ _. ⌜ now (text .exit) ≡ put at n (now (text .entry)) (hexDigits n number) ⌝ }
 {
     let e = at + n;
     digits::put_digits(&mut text[at..e], number);

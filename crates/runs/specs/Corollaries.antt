@@ -1,9 +1,8 @@
--- What follows from demand 3 for two runs that both ended.
--- Assumes nothing.
+-- Laws: what follows from demand 3 for two runs that both ended.
 use mathlib.Core.Path.{_≡_, sym, ap, _∙_}
 use mathlib.Core.Bool.{Bool}
 use mathlib.Core.Logic.{_⊎_}
-use mathlib.Core.Option.{Option, some}
+use mathlib.Core.Option.{Option}
 use mathlib.Core.List.{List}
 use Prim.Native.Nat.{ℕ}
 use lib.ListN.{length}
@@ -12,30 +11,9 @@ use Rattle.area.specs.Calls
 use Rattle.area.specs.Marks.{allNodes}
 use Rattle.collision.specs.Clash.{Different, RootsDiffer, Meeting}
 use Rattle.collision.specs.Collision.{collision}
-use Rattle.runs.specs.Runs.{Run, messageOf, logOf, countOf, outputOf, digestIn}
-use Rattle.runs.specs.Demand3.{nodesFor, nodesOf, demand3}
-
--- an end was accepted: its output
-pub record Ended (r : Run) : Type 0 where
-  pub out : List ℕ
-  pub is : outputOf r ≡ some out
-
--- the run's digest
-abbrev pub digestOf : (r : Run) → Ended r → List ℕ
-digestOf r e = digestIn (r .params) (e .out)
-
--- "runs alike in message, key, digest size, height limit and rounds"
-pub record Alike (a b : Run) : Type 0 where
-  pub message : messageOf a ≡ messageOf b
-  pub key : a .params .key ≡ b .params .key
-  pub d : a .params .d ≡ b .params .d
-  pub limit : a .params .limit ≡ b .params .limit
-  pub rounds : a .params .rounds ≡ b .params .rounds
-
-pub record Same (a b : Run) (e : Ended a) (f : Ended b) : Type 0 where
-  pub count : countOf a ≡ countOf b
-  pub log : logOf a ≡ logOf b
-  pub digest : digestOf a e ≡ digestOf b f
+use Rattle.runs.specs.Runs.{Run, messageOf}
+use Rattle.runs.specs.Statements.{nodesFor, nodesOf, EndedRun, digestOf, Alike, Same}
+use Rattle.runs.specs.Demand3.{demand3}
 
 abbrev params : List ℕ → ℕ → ℕ → ℕ → Params
 params key d limit rounds = record { key = key; d = d; limit = limit; rounds = rounds }
@@ -49,12 +27,12 @@ alike-params a b s =
     ∙ ap (λ (x : ℕ). params (Q .key) (Q .d) x (P .rounds)) (s .limit)
     ∙ ap (λ (x : ℕ). params (Q .key) (Q .d) (Q .limit) x) (s .rounds)
 
-ended-nodes : (r : Run) → Ended r → nodesOf r ≡ allNodes (order (r .params) (messageOf r))
+ended-nodes : (r : Run) → EndedRun r → nodesOf r ≡ allNodes (order (r .params) (messageOf r))
 ended-nodes r e = ap (λ (o : Option (List ℕ)). nodesFor o (order (r .params) (messageOf r))) (e .is)
 
 -- "So runs alike in message, key, digest size, height limit and rounds, both ended, give the same count, order and digest,
 -- however the message is cut or suspended."
-pub same-runs : (a b : Run) (e : Ended a) (f : Ended b) → Alike a b → Same a b e f
+pub same-runs : (a b : Run) (e : EndedRun a) (f : EndedRun b) → Alike a b → Same a b e f
 same-runs a b e f s =
     let p = alike-params a b s in
     let x = demand3 a in
@@ -66,7 +44,7 @@ same-runs a b e f s =
     ∙ sym (ended-nodes b f) in
     record {
       count = x .count ∙ ap (λ (ns : List Node). length ns) n ∙ sym (y .count);
-      log = x .log ∙ ap (λ (ns : List Node). Calls.logOf ns) n ∙ sym (y .log);
+      log = x .log ∙ ap (λ (ns : List Node). Calls.nodeLog ns) n ∙ sym (y .log);
       digest =
           x .digest (e .out) (e .is)
           ∙ ap (λ (P : Params). digest P (messageOf a)) p
@@ -77,7 +55,7 @@ same-runs a b e f s =
 -- "For any two different inputs (message, key, height limit, rounds) with one digest size and equal digests, either the root
 -- inputs differ, or some node other than the root, at the same level and index in both trees, has different inputs and the same
 -- 1,024-bit output": for the digests of two runs, whatever their messages' lengths, which number 6 bounds
-pub run-collision : (a b : Run) (e : Ended a) (f : Ended b) → Different (a .params) (b .params) (messageOf a) (messageOf b)
+pub run-collision : (a b : Run) (e : EndedRun a) (f : EndedRun b) → Different (a .params) (b .params) (messageOf a) (messageOf b)
     → a .params .d ≡ b .params .d → digestOf a e ≡ digestOf b f
     → RootsDiffer (a .params) (b .params) (messageOf a) (messageOf b) ⊎ Meeting (a .params) (b .params) (messageOf a) (messageOf b)
 run-collision a b e f different d same =

@@ -1,6 +1,5 @@
--- The effect of each call of a run on an area that stands for a message: none, bits fed, ended, or moved to another area.
+-- Laws: the effect of each call of a run on an area that stands for a message: none, bits fed, ended, or moved to another area.
 -- A call of a later request costs one constructor of `Call`, its line in each definition of `Runs`, and one lemma here.
--- Assumes nothing.
 use mathlib.Core.Path.{_≡_, refl, sym, ap, _∙_, subst}
 use mathlib.Core.Bool.{Bool, true, false}
 use mathlib.Core.Option.{Option, none, some}
@@ -10,7 +9,7 @@ use lib.ListN.{length, drop}
 use lib.Seq.{take-at}
 use Rattle.bits.specs.BitsLaws.{length-numbers}
 use Rattle.tree.specs.Tree.{Params, order, digest, digestBytes}
-use Rattle.area.specs.Calls.{Opened, Fed, Ended, openNumber, openOf, feedNumber, feedOf, endNumber, endOf}
+use Rattle.area.specs.Calls.{Opened, Fed, Finished, openNumber, openOf, feedNumber, feedOf, endNumber, endOf}
 use Rattle.area.specs.Calls
 use Rattle.area.specs.Marks.{allNodes, settled}
 use Rattle.area.specs.CallLaws.{open-number, open-refused, feed-number, feed-refused, feed-passed, end-number, end-refused, end-passed}
@@ -26,7 +25,7 @@ use Rattle.runs.specs.Suspend.{At, isOpen, hasEnded, at-resumed}
 -- an accepted feed: the area stands for a longer message, and the log goes on to the nodes that do not reach its last bit
 pub record Feeds (P : Params) (M : List Bool) (add : Share) (to : List ℕ) : Type 0 where
   pub stands : Stands P (M ++ add .bits) to
-  pub log : Calls.logOf (settled (order P (M ++ add .bits))) ≡ Calls.logOf (settled (order P M)) ++ add .log
+  pub log : Calls.nodeLog (settled (order P (M ++ add .bits))) ≡ Calls.nodeLog (settled (order P M)) ++ add .log
   pub count : length (settled (order P (M ++ add .bits))) ≡ length (settled (order P M)) + add .count
   pub output : add .output ≡ none
 
@@ -34,7 +33,7 @@ pub record Feeds (P : Params) (M : List Bool) (add : Share) (to : List ℕ) : Ty
 pub record Ends (P : Params) (M : List Bool) (add : Share) (to : List ℕ) : Type 0 where
   pub closed : Closed P M to
   pub bits : add .bits ≡ []
-  pub log : Calls.logOf (allNodes (order P M)) ≡ Calls.logOf (settled (order P M)) ++ add .log
+  pub log : Calls.nodeLog (allNodes (order P M)) ≡ Calls.nodeLog (settled (order P M)) ++ add .log
   pub count : length (order P M) ≡ length (settled (order P M)) + add .count
   pub out : List ℕ
   pub output : add .output ≡ some out
@@ -112,7 +111,7 @@ module _ (P : Params) (M : List Bool) (area : List ℕ) (text : Option (List ℕ
       number = end-number area out log
 
       by : {e : Bool} (k : ℕ) → endNumber area out log ≡ k → At P M area e → Step P M area e text c
-      by (suc k) q at = refused c k (number ∙ q) (ap (λ (x : Ended). x .area) (end-refused area out log k q))
+      by (suc k) q at = refused c k (number ∙ q) (ap (λ (x : Finished). x .area) (end-refused area out log k q))
       by zero q (isOpen s) =
           let o = end-one P M area out log s (number ∙ q) in
           record {

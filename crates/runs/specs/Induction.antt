@@ -1,5 +1,4 @@
--- The proof of demand 3 over the list of calls, by their effects.
--- Assumes nothing.
+-- Laws: the proof of demand 3 over the list of calls, by their effects.
 use mathlib.Core.Path.{_≡_, refl, sym}
 use mathlib.Core.Bool.{Bool, true, false}
 use mathlib.Core.Option.{Option, none, some}
@@ -13,26 +12,26 @@ use Rattle.area.specs.Calls
 use Rattle.area.specs.Marks.{allNodes, settled}
 use Rattle.area.specs.Stands.{settled-opened, Stands, Closed}
 use Rattle.area.specs.Meets.{open-one}
-use Rattle.runs.specs.Runs.{Call, Outcome, outcomeOf, suspended, roleOf, Goes, Run, Share, nothing, shareOf, firstOf, joined, answered, areaAfter, shares, answersOf, areaOf, digestIn}
+use Rattle.runs.specs.Runs.{Call, Outcome, outcomeOf, suspended, roleOf, Goes, Run, Share, nothing, shareOf, firstOf, joinedShares, answered, areaAfter, shares, answersOf, areaOf, digestIn}
 use Rattle.runs.specs.Suspend.{At, isOpen, hasEnded}
 use Rattle.runs.specs.Effects.{Effect, still, fed, ended, moved, Held, step}
 
 -- ---- shares joined
 
-joined-none : (s : Share) → joined s nothing ≡ s
-unfolding joined
+joined-none : (s : Share) → joinedShares s nothing ≡ s
+unfolding joinedShares
 joined-none s = rw (append-nil (s .bits), append-nil (s .log), add-zero (s .count), last (s .output)) refl
   where
     last : (o : Option (List ℕ)) → firstOf o none ≡ o
     last none = refl
     last (some out) = refl
 
-none-joined : (s : Share) → joined nothing s ≡ s
-unfolding joined
+none-joined : (s : Share) → joinedShares nothing s ≡ s
+unfolding joinedShares
 none-joined s = rw (zero-add (s .count)) refl
 
-joined-assoc : (a b c : Share) → joined (joined a b) c ≡ joined a (joined b c)
-unfolding joined
+joined-assoc : (a b c : Share) → joinedShares (joinedShares a b) c ≡ joinedShares a (joinedShares b c)
+unfolding joinedShares
 joined-assoc a b c =
     rw (append-assoc (a .bits) (b .bits) (c .bits), append-assoc (a .log) (b .log) (c .log), add-assoc (a .count) (b .count) (c .count), first (a .output)) refl
   where
@@ -44,13 +43,13 @@ joined-assoc a b c =
 
 pub record Going (P : Params) (s : Share) (area : List ℕ) : Type 0 where
   pub stands : Stands P (s .bits) area
-  pub log : s .log ≡ Calls.logOf (settled (order P (s .bits)))
+  pub log : s .log ≡ Calls.nodeLog (settled (order P (s .bits)))
   pub count : s .count ≡ length (settled (order P (s .bits)))
   pub output : s .output ≡ none
 
 pub record Over (P : Params) (s : Share) (area : List ℕ) : Type 0 where
   pub closed : Closed P (s .bits) area
-  pub log : s .log ≡ Calls.logOf (allNodes (order P (s .bits)))
+  pub log : s .log ≡ Calls.nodeLog (allNodes (order P (s .bits)))
   pub count : s .count ≡ length (order P (s .bits))
   pub out : List ℕ
   pub output : s .output ≡ some out
@@ -78,8 +77,8 @@ moved-fits (over g) (hasEnded t) = over record {
 
 -- an effect keeps this; it is all that the proof of the list knows of a call
 effect-fits : {P : Params} {s add : Share} {area to : List ℕ} {e f : Bool} → Fits P s area e → Effect P (s .bits) area add to e f
-    → Fits P (joined s add) to f
-unfolding joined
+    → Fits P (joinedShares s add) to f
+unfolding joinedShares
 effect-fits {s = s} f (still n t) = rw (n, joined-none s, t) f
 effect-fits {s = s} f (moved n at) = rw (n, joined-none s) (moved-fits f at)
 effect-fits {P = P} {s = s} {add = add} (going g) (fed d) = going record {
@@ -100,14 +99,14 @@ effect-fits {P = P} {s = s} {add = add} (going g) (ended d) = over record {
 -- ---- the list
 
 pub list-fits : {e : Bool} (P : Params) (s : Share) (area : List ℕ) (text : Option (List ℕ)) (cs : List Call) → Fits P s area e → Held text area
-    → Goes area text cs → (f : Bool) × Fits P (joined s (shares (answered area cs))) (areaAfter area cs) f
+    → Goes area text cs → (f : Bool) × Fits P (joinedShares s (shares (answered area cs))) (areaAfter area cs) f
 unfolding Goes answered areaAfter shares
 list-fits {e} P s area text [] f h g = (e, rw (joined-none s) f)
 list-fits {e} P s area text (c ∷ cs) f h g =
     let o : Outcome = outcomeOf area c in
     let add : Share = shareOf c o in
     let t = step P (s .bits) area text h c (fits-at f) (g .0) in
-    let r = list-fits P (joined s add) (o .area) (suspended text (roleOf c o)) cs (effect-fits f (t .effect)) (t .held) (g .1) in
+    let r = list-fits P (joinedShares s add) (o .area) (suspended text (roleOf c o)) cs (effect-fits f (t .effect)) (t .held) (g .1) in
     (r .0, rw (← joined-assoc s add (shares (answered (o .area) cs))) (r .1))
 
 -- a run, from its accepted open

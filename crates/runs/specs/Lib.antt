@@ -3,8 +3,11 @@ pub mod RunLaws
 pub mod Suspend
 pub mod Effects
 pub mod Induction
+pub mod Statements
 pub mod Demand3
 pub mod Table
 pub mod Corollaries
 pub mod RunTest
 pub mod WorkedRun
+pub mod RunExamples
+pub mod RefusalExamples

@@ -1,5 +1,4 @@
--- What is a run, and what is none.
--- Assumes nothing.
+-- Laws: what is a run, and what is none.
 use mathlib.Core.Path.{_≡_, refl, ap}
 use mathlib.Core.Option.{Option, none, some}
 use mathlib.Core.List.{List, [], _∷_, _++_}

@@ -1,6 +1,5 @@
--- Runs. Document 01, "Runs": a list of calls on one stream, from an accepted open on, and its message, log, count and digest.
+-- Definitions: runs. Document 01, "Runs": a list of calls on one stream, from an accepted open on, and its message, log, count and digest.
 -- Each call answers by the definition that the contract of its function is an equation with.
--- Assumes nothing.
 use mathlib.Core.Path.{_≡_}
 use mathlib.Core.Bool.{Bool}
 use mathlib.Core.Option.{Option, none, some}
@@ -10,7 +9,7 @@ use lib.ListN.{take}
 use Rattle.lists.specs.Below.{Below}
 use Rattle.tree.specs.Tree.{Params, digestBytes}
 use Rattle.tree.specs.Refusals.{pieceBits}
-use Rattle.area.specs.Calls.{Opened, Fed, Ended, openOf, feedOf, endOf, levelOf}
+use Rattle.area.specs.Calls.{Opened, Fed, Finished, openOf, feedOf, endOf, levelOf}
 use Rattle.text.specs.Text.{Written, Taken, writeOf, readOf}
 
 -- lent bytes and lent words
@@ -53,7 +52,7 @@ outcomeOf area (feed piece n log _ _ _) =
     let f : Fed = feedOf area piece n log in
     record { number = f .number; count = f .count; area = f .area; log = f .log; output = [] }
 outcomeOf area (end digest log _ _) =
-    let e : Ended = endOf area digest log in
+    let e : Finished = endOf area digest log in
     record { number = e .number; count = e .count; area = e .area; log = e .log; output = e .digest }
 outcomeOf area (show level) = record { number = 0; count = 0; area = area; log = []; output = levelOf area level }
 outcomeOf area (write text _) =
@@ -178,8 +177,8 @@ firstOf none later = later
 firstOf (some out) later = some out
 
 -- bits and logs "joined in order"; "Its count is the sum of these counts"
-unfoldable pub joined : Share → Share → Share
-joined a b = record {
+unfoldable pub joinedShares : Share → Share → Share
+joinedShares a b = record {
   bits = a .bits ++ b .bits;
   log = a .log ++ b .log;
   count = a .count + b .count;
@@ -188,7 +187,7 @@ joined a b = record {
 
 unfoldable pub shares : List Answered → Share
 shares [] = nothing
-shares (a ∷ later) = joined (shareOf (a .call) (a .outcome)) (shares later)
+shares (a ∷ later) = joinedShares (shareOf (a .call) (a .outcome)) (shares later)
 
 -- of a run
 abbrev pub answersOf : Run → List Answered

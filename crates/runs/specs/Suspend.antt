@@ -1,8 +1,8 @@
--- An area that stands for a message, open or ended: when its text is read into any area, that area stands for the same message.
--- Assumes nothing.
+-- Laws: an area that stands for a message, open or ended: when its text is read into any area, that area stands for the same message.
 use mathlib.Core.Path.{_≡_, sym, ap, _∙_}
 use mathlib.Core.Bool.{Bool, true, false}
 use mathlib.Core.List.{List, _++_}
+use mathlib.Core.Option.{Option, some}
 use Prim.Native.Nat.{ℕ, _^_, _≤_}
 use native.Mathlib.Omega.{arith}
 use lib.ListN.{length, take, drop, length-append}
@@ -14,7 +14,8 @@ use Rattle.area.specs.Stands.{Head, Stands, Closed, stands-sound, closed-sound}
 use Rattle.area.specs.Moved.{stands-moved, closed-moved, stands-below, closed-below}
 use Rattle.text.specs.Text.{textOf, speltArea, readNumber, readOf}
 use Rattle.text.specs.LayoutLaws.{sound-front, text-front}
-use Rattle.text.specs.TextLaws.{SoundArea, spells-back, length-speltArea}
+use Rattle.text.specs.TextLaws.{spells-back, length-speltArea}
+use Rattle.text.specs.Terms.{SoundArea}
 use Rattle.text.specs.ReadLaws.{read-passed, read-accepted}
 
 -- false while the stream is open, true once it has ended
@@ -40,7 +41,7 @@ at-moved {P} {M} {area} to long t (isOpen s) = isOpen (stands-moved P M area to 
 at-moved {P} {M} {area} to long t (hasEnded s) = hasEnded (closed-moved P M area to long t s)
 
 -- its text spells its first 1,744 words, which are all that the text goes by
-at-spelt : {P : Params} {M : List Bool} (area : List ℕ) {e : Bool} → At P M area e → speltArea (textOf area) ≡ take areaWords area
+at-spelt : {P : Params} {M : List Bool} (area : List ℕ) {e : Bool} → At P M area e → speltArea (textOf area) ≡ some (take areaWords area)
 at-spelt area s =
     let front : List ℕ = take areaWords area in
     let sa : SoundArea front = record {
@@ -48,16 +49,18 @@ at-spelt area s =
       long = omega (arith, length-take-le areaWords area (at-head s .long));
       is-sound = sound-front area (at-head s .long) ∙ at-sound s;
     } in
-    ap speltArea (sym (text-front area (at-head s .long))) ∙ spells-back front sa ∙ take-take areaWords areaWords area (omega arith)
+    ap speltArea (sym (text-front area (at-head s .long))) ∙ spells-back front sa
+    ∙ ap {B = Option (List ℕ)} some (take-take areaWords areaWords area (omega arith))
 
 -- an accepted read of the area's text, into any area
 pub at-resumed : {P : Params} {M : List Bool} (area into text : List ℕ) {e : Bool} → At P M area e → text ≡ textOf area
     → readNumber into text ≡ 0 → At P M (readOf into text .area) e
 at-resumed area into text s t e =
     let p = read-passed into text e in
-    let to : List ℕ = speltArea text ++ drop areaWords into in
-    let l = length-speltArea text in
-    let front : take areaWords to ≡ take areaWords area =
-    take-at (speltArea text) (drop areaWords into) areaWords l ∙ ap speltArea t ∙ at-spelt area s in
-    let long : areaWords ≤ length to = rw (length-append (speltArea text) (drop areaWords into), l) (omega arith) in
-    rw (read-accepted into text (p .0) (p .1)) (at-moved to long (sym front) s)
+    let new : List ℕ = take areaWords area in
+    let spelt : speltArea text ≡ some new = ap speltArea t ∙ at-spelt area s in
+    let to : List ℕ = new ++ drop areaWords into in
+    let l = length-speltArea text new spelt in
+    let front : take areaWords to ≡ new = take-at new (drop areaWords into) areaWords l in
+    let long : areaWords ≤ length to = rw (length-append new (drop areaWords into), l) (omega arith) in
+    rw (read-accepted into text new (p .0) spelt (p .1)) (at-moved to long (sym front) s)

@@ -1,6 +1,5 @@
--- A run worked out by computing: an open of an area with something in it, feeds cut inside bytes, refused calls among them, a
+-- Examples: a run worked out by computing: an open of an area with something in it, feeds cut inside bytes, refused calls among them, a
 -- suspension into another area, an end, and calls after it. "r = 0 gives C = the last 16 words of B."
--- Assumes nothing.
 use mathlib.Core.Path.{_≡_, refl}
 use mathlib.Core.Bool.{Bool, true}
 use mathlib.Core.Option.{none, some}
@@ -15,10 +14,10 @@ use Rattle.tree.specs.Tree.{Params, keyWords, output, noChain, order, digest}
 use Rattle.tree.specs.Refusals.{pieceBits}
 use Rattle.area.specs.Area.{areaWords, paramsOf, levelsOf, withLevels, emptyLevel, emptyLevels, sound}
 use Rattle.area.specs.Marks.{allNodes}
-use Rattle.area.specs.Calls.{logOf, withBit, outWords, receive, feedBit, feedBits, closeAbove, closing, openNumber, openedArea, openOf, fedBits, feedNumber, fedArea, feedOf, closedBy, endNumber, endedArea, digestOut, endOf, shown, levelOf}
-use Rattle.digits.specs.Digits.{digits, speltWords}
+use Rattle.area.specs.Calls.{nodeLog, withBit, outWords, receive, feedBit, feedBits, closeAbove, closing, openNumber, openedArea, openOf, fedBits, feedNumber, fedArea, feedOf, closedBy, endNumber, endedArea, digestOut, endOf, shown, levelOf}
+use Rattle.digits.specs.Digits.{hexDigits, speltWords}
 use Rattle.text.specs.Text.{textOf, speltHead, speltArea, writeNumber, writeOf, readable, readNumber, readOf}
-use Rattle.runs.specs.Runs.{feed, end, show, write, read, readInto, reopen, outcomeOf, roleOf, Run, Answered, answered, shareOf, joined, shares, answersOf}
+use Rattle.runs.specs.Runs.{feed, end, show, write, read, readInto, reopen, outcomeOf, roleOf, Run, Answered, answered, shareOf, joinedShares, shares, answersOf}
 use Rattle.runs.specs.RunTest.{lent, Numbered, callsOf, goesIf, goes-is}
 
 -- ---- what is lent
@@ -27,14 +26,14 @@ abbrev params : Params
 params = record { key = 107 ∷ []; d = 12; limit = 0; rounds = 0 }
 
 -- an area with something in it, and another
-abbrev used : List ℕ
+abbrev pub used : List ℕ
 used = replicate (areaWords + 1) 7
 
-abbrev other : List ℕ
+abbrev pub other : List ℕ
 other = replicate (areaWords + 6) 5
 
 -- the text after 13 bits: line 1, line 2, and level 1, which has no sequential output and holds 1010 0101 1010 0
-abbrev zeros : ℕ → List ℕ
+abbrev pub zeros : ℕ → List ℕ
 zeros n = replicate n 48
 
 abbrev head : List ℕ
@@ -80,7 +79,7 @@ list =
     ∷ []
 
 works : goesIf (openOf used params .area) none list ≡ true
-unfolding numbers keyWords output compressed grown paramsOf levelsOf withLevels emptyLevel emptyLevels sound withBit outWords receive feedBit feedBits closeAbove closing openNumber openedArea openOf fedBits feedNumber fedArea feedOf closedBy endNumber endedArea digestOut endOf shown levelOf digits textOf speltWords speltHead speltArea writeNumber writeOf readable readNumber readOf outcomeOf roleOf goesIf
+unfolding numbers keyWords output compressed grown paramsOf levelsOf withLevels emptyLevel emptyLevels sound withBit outWords receive feedBit feedBits closeAbove closing openNumber openedArea openOf fedBits feedNumber fedArea feedOf closedBy endNumber endedArea digestOut endOf shown levelOf hexDigits textOf speltWords speltHead speltArea writeNumber writeOf readable readNumber readOf outcomeOf roleOf goesIf mathlib.Core.List.flatten
 works = refl
 
 pub workedRun : Run
@@ -110,12 +109,12 @@ log = 0x0100000000000000 ∷ 0x000000000000100c ∷ 0x0100000000000001 ∷ 0x000
 
 -- the message, log and count of the run, and the end's output; its third byte stays
 pub worked : shares (answersOf workedRun) ≡ record { bits = message; log = log; count = 2; output = some (0x1e ∷ 0x10 ∷ 3 ∷ []) }
-unfolding workedRun numbers keyWords output compressed grown paramsOf levelsOf withLevels emptyLevel emptyLevels sound withBit outWords receive feedBit feedBits closeAbove closing openNumber openedArea openOf fedBits feedNumber fedArea feedOf closedBy endNumber endedArea digestOut endOf shown levelOf digits textOf speltWords speltHead speltArea writeNumber writeOf readable readNumber readOf outcomeOf answered shareOf joined shares
+unfolding workedRun numbers keyWords output compressed grown paramsOf levelsOf withLevels emptyLevel emptyLevels sound withBit outWords receive feedBit feedBits closeAbove closing openNumber openedArea openOf fedBits feedNumber fedArea feedOf closedBy endNumber endedArea digestOut endOf shown levelOf hexDigits textOf speltWords speltHead speltArea writeNumber writeOf readable readNumber readOf outcomeOf answered shareOf joinedShares shares mathlib.Core.List.flatten
 worked = refl
 
 -- and by the tree: the digest is the last 12 bits, 0001 1110 0001
-pub worked-log : logOf (allNodes (order params message)) ≡ log
-unfolding numbers keyWords output noChain compressed grown
+pub worked-log : nodeLog (allNodes (order params message)) ≡ log
+unfolding numbers keyWords output noChain compressed grown mathlib.Core.List.flatten
 worked-log = refl
 
 pub worked-digest : digest params message ≡ 0x1e ∷ 0x10 ∷ []

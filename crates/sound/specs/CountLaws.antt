@@ -1,5 +1,4 @@
--- Laws of the counts in Area: where they end, how they go on, and that they fit.
--- Assumes nothing.
+-- Laws: of the counts in Area: where they end, how they go on, and that they fit.
 use mathlib.Core.Path.{_≡_, refl}
 use Prim.Native.Nat.{ℕ, zero, suc, _+_, _-_, _*_, _/_, _^_, _≤_, _<_}
 use native.Mathlib.Nat.{zero-div, mul-div-le}

@@ -1,7 +1,6 @@
--- When no bit of words is set from a bit on, as the code tests it: the rest of that bit's word and all words after it are zero.
--- Assumes nothing.
+-- Laws: when no bit of words is set from a bit on, as the code tests it: the rest of that bit's word and all words after it are zero.
 use mathlib.Core.Path.{_≡_, refl, sym, ap, _∙_}
-use mathlib.Core.Bool.{Bool, true, false}
+use mathlib.Core.Bool.{Bool, true, false, _&&_, and-assoc}
 use mathlib.Core.List.{List, [], _∷_, _++_}
 use Prim.Native.Nat.{ℕ, zero, suc, _+_, _-_, _*_, _/_, _%_, _^_, _≤_, _<_}
 use native.Mathlib.Nat.{mod-eq-of-lt, mod-lt, zero-mul}
@@ -12,7 +11,6 @@ use lib.Pow.{pow-add, pow-pos, split, low, shl-lt}
 use lib.ListN.{length, drop, getD, drop-of-length-le}
 use lib.Seq.{drop-cons, drop-drop, drop-append-le}
 use borrow.Author.Tests.{eq-eqb, ne-eqb, eqb-true, eqb-false}
-use Rattle.lists.specs.Both.{both, both-assoc}
 use Rattle.bits.specs.Bits.{bits, bitsOf, spell}
 use Rattle.bits.specs.BitsLaws.{length-bits, length-bitsOf, bitsOf-drop, spell-from, spell-bits, spell-drop}
 use Rattle.area.specs.Area.{allFalse}
@@ -21,10 +19,10 @@ use Rattle.sound.specs.LevelTests.{emptyFrom}
 -- ---- tests
 
 -- two numbers joined by `|` are zero if both are
-or-zero : (a b : ℕ) → eqb (bitOr a b) 0 ≡ both (eqb a 0) (eqb b 0)
+or-zero : (a b : ℕ) → eqb (bitOr a b) 0 ≡ (eqb a 0 && eqb b 0)
 or-zero a b = by (eqb a 0) (eqb b 0) refl refl
   where
-    by : (p q : Bool) → eqb a 0 ≡ p → eqb b 0 ≡ q → eqb (bitOr a b) 0 ≡ both p q
+    by : (p q : Bool) → eqb a 0 ≡ p → eqb b 0 ≡ q → eqb (bitOr a b) 0 ≡ (p && q)
     by true true e f =
         let x = eqb-true a 0 e in
         let y = eqb-true b 0 f in
@@ -38,7 +36,7 @@ or-zero a b = by (eqb a 0) (eqb b 0) refl refl
 
 -- ---- bits that are all false
 
-pub allFalse-append : (xs ys : List Bool) → allFalse (xs ++ ys) ≡ both (allFalse xs) (allFalse ys)
+pub allFalse-append : (xs ys : List Bool) → allFalse (xs ++ ys) ≡ (allFalse xs && allFalse ys)
 allFalse-append [] ys = refl
 allFalse-append (true ∷ xs) ys = refl
 allFalse-append (false ∷ xs) ys = allFalse-append xs ys
@@ -70,21 +68,21 @@ word-empty w s h g =
 
 -- ---- a part of words from a bit on
 
-empty-cons : (w : ℕ) (ws : List ℕ) → w < 2 ^ 64 → emptyFrom 0 (w ∷ ws) ≡ both (eqb w 0) (emptyFrom 0 ws)
+empty-cons : (w : ℕ) (ws : List ℕ) → w < 2 ^ 64 → emptyFrom 0 (w ∷ ws) ≡ (eqb w 0 && emptyFrom 0 ws)
 empty-cons w ws h =
     let z : w * 2 ^ 0 % 2 ^ 64 ≡ w = omega (arith, mod-eq-of-lt h) in
     allFalse-append (bits 64 w) (bitsOf 64 ws) ∙ rw (word-empty w 0 (omega arith) h, z)
 
 -- one word more is joined by `|`
 pub or-more : (all i : ℕ) (ws : List ℕ) → i < length ws → getD ws i 0 < 2 ^ 64
-    → both (eqb (bitOr all (getD ws i 0)) 0) (emptyFrom 0 (drop (i + 1) ws)) ≡ both (eqb all 0) (emptyFrom 0 (drop i ws))
+    → (eqb (bitOr all (getD ws i 0)) 0 && emptyFrom 0 (drop (i + 1) ws)) ≡ (eqb all 0 && emptyFrom 0 (drop i ws))
 or-more all i ws h g =
     let w : ℕ = getD ws i 0 in
     let q : i + 1 ≡ suc i = omega arith in
-    ap (λ (k : ℕ). both (eqb (bitOr all w) 0) (emptyFrom 0 (drop k ws))) q
-    ∙ ap (λ (b : Bool). both b (emptyFrom 0 (drop (suc i) ws))) (or-zero all w)
-    ∙ both-assoc (eqb all 0) (eqb w 0) (emptyFrom 0 (drop (suc i) ws))
-    ∙ ap (both (eqb all 0)) (sym (empty-cons w (drop (suc i) ws) g) ∙ ap (emptyFrom 0) (sym (drop-cons ws i 0 h)))
+    ap (λ (k : ℕ). (eqb (bitOr all w) 0 && emptyFrom 0 (drop k ws))) q
+    ∙ ap (λ (b : Bool). (b && emptyFrom 0 (drop (suc i) ws))) (or-zero all w)
+    ∙ and-assoc (eqb all 0) (eqb w 0) (emptyFrom 0 (drop (suc i) ws))
+    ∙ ap (_&&_ (eqb all 0)) (sym (empty-cons w (drop (suc i) ws) g) ∙ ap (emptyFrom 0) (sym (drop-cons ws i 0 h)))
 
 -- nothing is left past the end
 pub empty-end : (n : ℕ) (ws : List ℕ) → length ws ≤ n / 64 → emptyFrom n ws ≡ true
@@ -92,7 +90,7 @@ empty-end n ws h = rw (drop-of-length-le (bitsOf 64 ws) {i = n} (rw length-bitsO
 
 -- "words from index i + 1 on are all zero and the low bits of word i are zero"
 empty-word : (n : ℕ) (ws : List ℕ) → n / 64 < length ws → getD ws (n / 64) 0 < 2 ^ 64
-    → emptyFrom n ws ≡ both (eqb (getD ws (n / 64) 0 * 2 ^ (n % 64) % 2 ^ 64) 0) (emptyFrom 0 (drop (n / 64 + 1) ws))
+    → emptyFrom n ws ≡ (eqb (getD ws (n / 64) 0 * 2 ^ (n % 64) % 2 ^ 64) 0 && emptyFrom 0 (drop (n / 64 + 1) ws))
 empty-word n ws h g =
     let i : ℕ = n / 64 in
     let s : ℕ = n % 64 in

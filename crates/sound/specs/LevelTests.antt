@@ -1,7 +1,6 @@
--- Soundness of the levels as the code tests it, level by level, and that this is what Area says of them.
--- Assumes nothing.
+-- Laws: soundness of the levels as the code tests it, level by level, and that this is what Area says of them.
 use mathlib.Core.Path.{_≡_, refl, sym, ap, _∙_}
-use mathlib.Core.Bool.{Bool, true, false, not, _||_}
+use mathlib.Core.Bool.{Bool, true, false, not, _||_, _&&_}
 use mathlib.Core.List.{List, [], _∷_}
 use Prim.Native.Nat.{ℕ, zero, suc, _+_, _-_, _*_, _/_}
 use native.Mathlib.Nat.{zero-add}
@@ -9,7 +8,6 @@ use native.Mathlib.Omega.{arith}
 use borrow.Author.Tests.{eq-eqb, ne-eqb}
 use lib.Dec.{eqb, ltb, leb·zero, leb·suc-suc, eqb·suc-zero}
 use lib.ListN.{take, drop, replicate}
-use Rattle.lists.specs.Both.{both}
 use Rattle.bits.specs.Bits.{bitsOf}
 use Rattle.tree.specs.Tree.{blockBits, sequentialBits, outputBits, mostLevels}
 use Rattle.area.specs.Area.{allFalse, doneBlocks, heldBits, heldParallel, heldSequential, Hold, parallelHold, sequentialHold, holdsAbove, openHolds, holdsFor, clean, cleanAll, levelsFrom}
@@ -20,23 +18,23 @@ emptyFrom n ws = allFalse (drop n (bitsOf 64 ws))
 
 abbrev pub allEmpty : List (List ℕ) → Bool
 allEmpty [] = true
-allEmpty (ws ∷ up) = both (emptyFrom 0 ws) (allEmpty up)
+allEmpty (ws ∷ up) = emptyFrom 0 ws && allEmpty up
 
 -- a sequential level after c compressions of it, with some bits held
 abbrev pub soundSequential : ℕ → ℕ → List ℕ → Bool
-soundSequential c held ws = both (not (eqb c 0) || allFalse (take outputBits (bitsOf 64 ws))) (emptyFrom (outputBits + held) ws)
+soundSequential c held ws = (not (eqb c 0) || allFalse (take outputBits (bitsOf 64 ws))) && emptyFrom (outputBits + held) ws
 
 -- the levels above level 1, when i outputs came to the first of them; n levels from it up may be parallel
 abbrev pub soundAbove : ℕ → ℕ → List (List ℕ) → Bool
 soundAbove n i [] = true
-soundAbove zero i (ws ∷ up) = both (soundSequential (i / 3) (outputBits * heldSequential i) ws) (allEmpty up)
-soundAbove (suc n) i (ws ∷ up) = both (emptyFrom (outputBits * heldParallel i) ws) (soundAbove n (i / 4) up)
+soundAbove zero i (ws ∷ up) = soundSequential (i / 3) (outputBits * heldSequential i) ws && allEmpty up
+soundAbove (suc n) i (ws ∷ up) = emptyFrom (outputBits * heldParallel i) ws && soundAbove n (i / 4) up
 
 -- all levels of an open area
 abbrev pub soundOpen : ℕ → ℕ → List (List ℕ) → Bool
 soundOpen limit T [] = true
-soundOpen zero T (ws ∷ up) = both (soundSequential (doneBlocks sequentialBits T) (heldBits sequentialBits T) ws) (allEmpty up)
-soundOpen (suc n) T (ws ∷ up) = both (emptyFrom (heldBits blockBits T) ws) (soundAbove n (doneBlocks blockBits T) up)
+soundOpen zero T (ws ∷ up) = soundSequential (doneBlocks sequentialBits T) (heldBits sequentialBits T) ws && allEmpty up
+soundOpen (suc n) T (ws ∷ up) = emptyFrom (heldBits blockBits T) ws && soundAbove n (doneBlocks blockBits T) up
 
 -- ---- they are Area's
 
@@ -48,7 +46,7 @@ some zero = refl
 some (suc c) = leb·suc-suc 0 c ∙ leb·zero c ∙ sym (ap not (eqb·suc-zero c))
 
 clean-sequential : (c n : ℕ) (ws : List ℕ) → clean (sequentialHold c n) ws ≡ soundSequential c n ws
-clean-sequential c n ws = ap (λ (b : Bool). both (b || allFalse (take outputBits (bitsOf 64 ws))) (emptyFrom (outputBits + n) ws)) (some c)
+clean-sequential c n ws = ap (λ (b : Bool). ((b || allFalse (take outputBits (bitsOf 64 ws))) && emptyFrom (outputBits + n) ws)) (some c)
 
 -- as many levels as holds, none of which holds anything
 pub clean-empty : (area : List ℕ) (n k : ℕ) → cleanAll (replicate n (parallelHold 0)) (levelsFrom area n k) ≡ allEmpty (levelsFrom area n k)

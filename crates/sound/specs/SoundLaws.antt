@@ -1,7 +1,6 @@
--- Laws of soundness in Area, as the code tests it: level by level, and then the words before the levels.
--- Assumes nothing.
+-- Laws: of soundness in Area, as the code tests it: level by level, and then the words before the levels.
 use mathlib.Core.Path.{_≡_, refl, sym, ap, _∙_}
-use mathlib.Core.Bool.{Bool, true, false, _||_}
+use mathlib.Core.Bool.{Bool, true, false, _||_, _&&_, and-assoc}
 use mathlib.Core.List.{List, []}
 use Prim.Native.Nat.{ℕ, zero, suc, _+_, _-_, _*_, _/_, _%_, _≤_, _<_}
 use native.Mathlib.Omega.{arith}
@@ -9,7 +8,7 @@ use lib.Dec.{eqb}
 use lib.ListN.{length, take, drop, getD, length-replicate}
 use lib.Seq.{drop-drop, take-add}
 use borrow.Author.Tests.{eq-eqb, ne-eqb}
-use Rattle.lists.specs.Both.{both, both-assoc, both-first, both-second}
+use Rattle.lists.specs.And.{and-first, and-second}
 use Rattle.bits.specs.Bits.{bitsOf}
 use Rattle.bits.specs.BitsLaws.{bitsOf-append, bitsOf-take}
 use Rattle.tree.specs.Tree.{Params, blockBits, sequentialBits, mostLevels}
@@ -44,26 +43,26 @@ pub sequential-kept : (c held : ℕ) (ws : List ℕ) → (c ≡ 0 → ⊥) → s
 sequential-kept c held ws h = rw (ne-eqb c 0 h)
 
 pub sequential-none : (c held : ℕ) (ws : List ℕ) → c ≡ 0 → 16 ≤ length ws
-    → soundSequential c held ws ≡ both (emptyFrom 0 (take 16 ws)) (emptyFrom (1024 + held) ws)
+    → soundSequential c held ws ≡ (emptyFrom 0 (take 16 ws) && emptyFrom (1024 + held) ws)
 sequential-none c held ws h g = rw (eq-eqb c 0 h, chain-empty ws g)
 
 -- all levels of an open area
 pub open-none : (area : List ℕ) (limit T : ℕ) → limit < 1
     → soundOpen limit T (levelsOf area)
-    ≡ both (soundSequential (doneBlocks sequentialBits T) (heldBits sequentialBits T) (levelWords area 1)) (allEmpty (levelsFrom area 26 2))
+    ≡ (soundSequential (doneBlocks sequentialBits T) (heldBits sequentialBits T) (levelWords area 1) && allEmpty (levelsFrom area 26 2))
 unfolding levelsOf
 open-none area zero T h = refl
 open-none area (suc n) T h = absurd (omega arith)
 
 pub open-more : (area : List ℕ) (limit T : ℕ) → 1 ≤ limit
-    → soundOpen limit T (levelsOf area) ≡ both (emptyFrom (heldBits blockBits T) (levelWords area 1)) (soundAbove (limit - 1) (doneBlocks blockBits T) (levelsFrom area 26 2))
+    → soundOpen limit T (levelsOf area) ≡ (emptyFrom (heldBits blockBits T) (levelWords area 1) && soundAbove (limit - 1) (doneBlocks blockBits T) (levelsFrom area 26 2))
 unfolding levelsOf
 open-more area zero T h = absurd (omega arith)
 open-more area (suc n) T h = let f : suc n - 1 ≡ n = omega arith in rw f
 
 -- the levels of an area, one after the other
 pub above-more : (area : List ℕ) (n i k : ℕ) → 1 ≤ n → k ≤ 27
-    → soundAbove n i (levelsFrom area (28 - k) k) ≡ both (emptyFrom (1024 * (i % 4)) (levelWords area k)) (soundAbove (n - 1) (i / 4) (levelsFrom area (28 - (k + 1)) (k + 1)))
+    → soundAbove n i (levelsFrom area (28 - k) k) ≡ (emptyFrom (1024 * (i % 4)) (levelWords area k) && soundAbove (n - 1) (i / 4) (levelsFrom area (28 - (k + 1)) (k + 1)))
 above-more area zero i k h g = absurd (omega arith)
 above-more area (suc n) i k h g =
     let e : 28 - k ≡ suc (28 - (k + 1)) = omega arith in
@@ -73,7 +72,7 @@ above-more area (suc n) i k h g =
 
 pub above-last : (area : List ℕ) (n i k : ℕ) → n < 1 → k ≤ 27
     → soundAbove n i (levelsFrom area (28 - k) k)
-    ≡ both (soundSequential (i / 3) (1024 * (i % 3)) (levelWords area k)) (allEmpty (levelsFrom area (28 - (k + 1)) (k + 1)))
+    ≡ (soundSequential (i / 3) (1024 * (i % 3)) (levelWords area k) && allEmpty (levelsFrom area (28 - (k + 1)) (k + 1)))
 above-last area zero i k h g =
     let e : 28 - k ≡ suc (28 - (k + 1)) = omega arith in
     let q : k + 1 ≡ suc k = omega arith in
@@ -118,23 +117,23 @@ in-range-words k d l r e =
 
 -- all that soundness asks of the words before the levels
 unfoldable pub soundHead : List ℕ → Bool
-soundHead area = both (soundPhase area) (both (soundParams area) (both (soundKey area) (both (soundCount area) (soundLast area))))
+soundHead area = soundPhase area && (soundParams area && (soundKey area && (soundCount area && soundLast area)))
 
 pub head-phase : (area : List ℕ) → soundPhase area ≡ false → soundHead area ≡ false
 unfolding soundHead
-head-phase area p = both-first (soundPhase area) (both (soundParams area) (both (soundKey area) (both (soundCount area) (soundLast area)))) p
+head-phase area p = and-first (soundPhase area) (soundParams area && (soundKey area && (soundCount area && soundLast area))) p
 
-head-rest : (area : List ℕ) → soundPhase area ≡ true → soundHead area ≡ both (soundParams area) (both (soundKey area) (both (soundCount area) (soundLast area)))
+head-rest : (area : List ℕ) → soundPhase area ≡ true → soundHead area ≡ (soundParams area && (soundKey area && (soundCount area && soundLast area)))
 unfolding soundHead
-head-rest area p = both-second (soundPhase area) (both (soundParams area) (both (soundKey area) (both (soundCount area) (soundLast area)))) p
+head-rest area p = and-second (soundPhase area) (soundParams area && (soundKey area && (soundCount area && soundLast area))) p
 
 pub head-params : (area : List ℕ) → soundPhase area ≡ true → soundParams area ≡ false → soundHead area ≡ false
-head-params area p q = head-rest area p ∙ both-first (soundParams area) (both (soundKey area) (both (soundCount area) (soundLast area))) q
+head-params area p q = head-rest area p ∙ and-first (soundParams area) (soundKey area && (soundCount area && soundLast area)) q
 
-pub head-more : (area : List ℕ) → soundPhase area ≡ true → soundParams area ≡ true → soundHead area ≡ both (soundKey area) (both (soundCount area) (soundLast area))
-head-more area p q = head-rest area p ∙ both-second (soundParams area) (both (soundKey area) (both (soundCount area) (soundLast area))) q
+pub head-more : (area : List ℕ) → soundPhase area ≡ true → soundParams area ≡ true → soundHead area ≡ (soundKey area && (soundCount area && soundLast area))
+head-more area p q = head-rest area p ∙ and-second (soundParams area) (soundKey area && (soundCount area && soundLast area)) q
 
-pub sound-parts : (area : List ℕ) → sound area ≡ both (soundHead area) (soundLevels area)
+pub sound-parts : (area : List ℕ) → sound area ≡ (soundHead area && soundLevels area)
 unfolding sound soundHead
 sound-parts area =
     let a = soundPhase area in
@@ -144,8 +143,8 @@ sound-parts area =
     let e = soundLast area in
     let f = soundLevels area in
     sym
-    (both-assoc a (both b (both c (both d e))) f
-    ∙ ap (both a) (both-assoc b (both c (both d e)) f ∙ ap (both b) (both-assoc c (both d e) f ∙ ap (both c) (both-assoc d e f))))
+    (and-assoc a (b && (c && (d && e))) f
+    ∙ ap (_&&_ a) (and-assoc b (c && (d && e)) f ∙ ap (_&&_ b) (and-assoc c (d && e) f ∙ ap (_&&_ c) (and-assoc d e f))))
 
 pub levels-ended : (area : List ℕ) → getD area 0 0 ≡ 2 → soundLevels area ≡ allEmpty (levelsFrom area 27 1)
 unfolding levelsOf

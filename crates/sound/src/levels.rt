@@ -1,8 +1,8 @@
 // Whether the levels of an area are sound: every bit that is neither held nor of a sequential output is zero.
+ghost use mathlib.Core.Bool.{_&&_};
 ghost use mathlib.Core.Path.{_≡_};
 ghost use Prim.Native.Nat.{_+_, _-_, _≤_};
 ghost use lib.ListN.{length};
-ghost use Rattle.lists.specs.Both.{both};
 ghost use Rattle.area.specs.Area.{areaWords, levelWords, levelsFrom, levelsOf, soundLevels};
 ghost use Rattle.sound.specs.LevelTests.{allEmpty, soundSequential, soundAbove, soundOpen};
 use super::Area;
@@ -43,7 +43,7 @@ fn levels_empty(area: &[u64], level: usize) -> bool
 // Whether the sequential level is sound, and those above it hold nothing.
 fn last_sound(area: &[u64], level: usize, done: u64, held: usize) -> bool
     requires { ⌜ (areaWords ≤ length (now area)) × (1 ≤ level) × (level ≤ 27) × (held ≤ 3072) ⌝ }
-    ensures { λ r. ⌜ r ≡ both (soundSequential done held (levelWords (now (area .entry)) level)) (allEmpty (levelsFrom (now (area .entry)) (28 - (level + 1)) (level + 1))) ⌝ }
+    ensures { λ r. ⌜ r ≡ (soundSequential done held (levelWords (now (area .entry)) level) && allEmpty (levelsFrom (now (area .entry)) (28 - (level + 1)) (level + 1))) ⌝ }
 {
     let a = Area::HEAD + Area::LEVEL * (level - 1);
     let e = a + Area::LEVEL;

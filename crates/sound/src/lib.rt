@@ -1,10 +1,10 @@
-// Whether an area is sound. Each word is read once; the words that must be zero are joined by `|`, so that the loop is quick.
+// Whether an area is sound: first the words before the levels, then the levels (levels.rt). Bits that must be zero are tested by
+// joining their words by `|` (empty.rt), so that the loop is quick.
 ghost use mathlib.Core.Path.{_≡_};
-ghost use mathlib.Core.Bool.{_||_};
+ghost use mathlib.Core.Bool.{_||_, _&&_};
 ghost use Prim.Native.Nat.{_≤_};
 ghost use lib.Dec.{eqb};
 ghost use lib.ListN.{length, getD};
-ghost use Rattle.lists.specs.Both.{both};
 ghost use Rattle.area.specs.Area.{areaWords, countFor, soundKey, soundCount, soundLast, sound};
 ghost use Rattle.sound.specs.SoundLaws.{soundHead};
 use node::Block;
@@ -67,7 +67,7 @@ fn count_for(phase: u64, limit: u64, total: u64) -> u64
 // Whether unused key bytes are zero, word 14 is right and word 15 is 0.
 fn rest_sound(area: &[u64]) -> bool
     requires { ⌜ (areaWords ≤ length (now area)) × (getD (now area) 2 0 ≤ 64) × (getD (now area) 4 0 ≤ 64) ⌝ }
-    ensures { λ r. ⌜ r ≡ both (soundKey (now (area .entry))) (both (soundCount (now (area .entry))) (soundLast (now (area .entry)))) ⌝ }
+    ensures { λ r. ⌜ r ≡ (soundKey (now (area .entry)) && (soundCount (now (area .entry)) && soundLast (now (area .entry)))) ⌝ }
 {
     let from = 8 * area[2] as usize;
     if !empty::empty_from(&area[6..14], from) {

@@ -1,5 +1,4 @@
--- Laws of the end in Calls: the root's words and the digest, the wipe, and `endOf` refused and accepted.
--- Assumes nothing.
+-- Laws: of the end in Calls: the root's words and the digest, the wipe, and `endOf` refused and accepted.
 use mathlib.Core.Path.{_≡_, refl, sym, ap, _∙_}
 use mathlib.Core.Bool.{Bool, true, false}
 use mathlib.Core.List.{List, _∷_, _++_}
@@ -96,7 +95,7 @@ digest-written area out root d long ed e =
 -- ---- the wipe
 
 pub wiped : (area : List ℕ) → put 16 1728 area (replicate 1728 0) ≡ withLevels area emptyLevels
-unfolding withLevels emptyLevel emptyLevels
+unfolding withLevels emptyLevel emptyLevels mathlib.Core.List.flatten
 wiped area = ap (λ (x : List ℕ). take 16 area ++ (replicate 1728 0 ++ x)) (drop-drop 1728 16 area)
 
 -- what an accepted end shows

@@ -1,5 +1,4 @@
--- Laws of `feedOf` in Calls: the answer.
--- Assumes nothing.
+-- Laws: of `feedOf` in Calls: the answer.
 use mathlib.Core.Path.{_≡_, refl, sym}
 use mathlib.Core.List.{List}
 use Prim.Native.Nat.{ℕ, zero, suc}

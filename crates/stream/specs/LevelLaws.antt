@@ -1,13 +1,12 @@
--- Laws of `shown` and `levelOf` in Calls, one for each way that the code takes.
--- Assumes nothing.
+-- Laws: of `shown` and `levelOf` in Calls, one for each way that the code takes.
 use mathlib.Core.Path.{_≡_}
-use mathlib.Core.Bool.{true, false}
+use mathlib.Core.Bool.{true, false, _&&_}
 use mathlib.Core.List.{List, []}
 use Prim.Native.Nat.{ℕ, _≤_, _<_}
 use lib.Dec.{leb}
 use lib.ListN.{length}
 use borrow.Author.Tests.{lt-leb, le-leb, leb-true}
-use Rattle.lists.specs.Both.{both, both-parts}
+use Rattle.lists.specs.And.{and-parts}
 use Rattle.tree.specs.Tree.{mostLevels}
 use Rattle.area.specs.Area.{areaWords, levelWords, sound}
 use Rattle.area.specs.Calls.{shown, levelOf}
@@ -33,9 +32,9 @@ module _ (area : List ℕ) (level : ℕ) where
   pub shown-there : shown area level ≡ true → (areaWords ≤ length area) × (1 ≤ level) × (level ≤ mostLevels)
   unfolding shown
   shown-there e =
-      let a = both-parts (leb areaWords (length area)) (both (sound area) (both (leb 1 level) (leb level mostLevels))) e in
-      let b = both-parts (sound area) (both (leb 1 level) (leb level mostLevels)) (a .1) in
-      let c = both-parts (leb 1 level) (leb level mostLevels) (b .1) in
+      let a = and-parts (leb areaWords (length area)) (sound area && (leb 1 level && leb level mostLevels)) e in
+      let b = and-parts (sound area) (leb 1 level && leb level mostLevels) (a .1) in
+      let c = and-parts (leb 1 level) (leb level mostLevels) (b .1) in
       (leb-true areaWords (length area) (a .0), leb-true 1 level (c .0), leb-true level mostLevels (c .1))
 
   pub level-hidden : shown area level ≡ false → [] ≡ levelOf area level

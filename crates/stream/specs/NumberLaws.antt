@@ -1,8 +1,7 @@
--- The numbers that refuse a feed and an end, as the code tests them: first the area, and then the rest for an open area, whose
+-- Laws: the numbers that refuse a feed and an end, as the code tests them: first the area, and then the rest for an open area, whose
 -- word 14 tells how many nodes would be made.
--- Assumes nothing.
 use mathlib.Core.Path.{_≡_, refl, sym, ap, _∙_}
-use mathlib.Core.Bool.{Bool, true, false, not}
+use mathlib.Core.Bool.{Bool, true, false, not, cond}
 use mathlib.Core.List.{List}
 use Prim.Native.Nat.{ℕ, _+_, _-_, _*_, _/_, _^_, _≤_, _<_}
 use native.Mathlib.Omega.{arith}
@@ -11,10 +10,10 @@ use lib.ListN.{length, getD}
 use borrow.Author.Tests.{eq-eqb, ne-eqb, lt-ltb, le-ltb, ltb-false, eqb-false, not-false}
 use Rattle.tree.specs.Tree.{Node, digestBytes}
 use Rattle.tree.specs.Sizes.{treeNodes}
-use Rattle.tree.specs.Refusals.{pieceBits, orElse}
+use Rattle.tree.specs.Refusals.{pieceBits}
 use Rattle.area.specs.Area.{areaWords, phaseOf, totalOf, compressionsOf, openCount, sound}
 use Rattle.area.specs.Calls.{fedBits, closedBy, refusedArea, refusedEnded, feedNumber, endNumber}
-use Rattle.tree.specs.RefusalLaws.{orElse-passed}
+use Rattle.tree.specs.RefusalLaws.{test-passed}
 use Rattle.area.specs.Accepts.{closed-count}
 use Rattle.climb.specs.OpenArea.{OpenArea, open-done, limit-read, size-read}
 use Rattle.piece.specs.PieceLaws.{made-count}
@@ -40,16 +39,16 @@ area-open area later o = rw (le-ltb (length area) areaWords (o .long), o .sound,
 
 pub area-passed : (area : List ℕ) → refusedOpen area 0 ≡ 0 → OpenArea area
 area-passed area e =
-    let a = orElse-passed (ltb (length area) areaWords) 6 _ e in
-    let s = orElse-passed (not (sound area)) 6 _ (a .1) in
-    let p = orElse-passed (eqb (phaseOf area) 2) 9 0 (s .1) in
+    let a = test-passed (ltb (length area) areaWords) 6 _ e in
+    let s = test-passed (not (sound area)) 6 _ (a .1) in
+    let p = test-passed (eqb (phaseOf area) 2) 9 0 (s .1) in
     record { long = ltb-false (length area) areaWords (a .0); sound = not-false (sound area) (s .0); phase = eqb-false (phaseOf area) 2 (p .0) }
 
 -- a refused area is refused whatever comes later
 area-refused : (area : List ℕ) (later : ℕ) → (refusedOpen area 0 ≡ 0 → ⊥) → refusedOpen area 0 ≡ refusedOpen area later
 area-refused area later h = by (ltb (length area) areaWords) (not (sound area)) (eqb (phaseOf area) 2) h
   where
-    by : (a b c : Bool) → (orElse a 7 (orElse b 7 (orElse c 10 0)) ≡ 0 → ⊥) → orElse a 7 (orElse b 7 (orElse c 10 0)) ≡ orElse a 7 (orElse b 7 (orElse c 10 later))
+    by : (a b c : Bool) → (_≡_ {A = ℕ} (cond a 7 (cond b 7 (cond c 10 0))) 0 → ⊥) → cond a 7 (cond b 7 (cond c 10 0)) ≡ cond a 7 (cond b 7 (cond c 10 later))
     by true b c h = refl
     by false true c h = refl
     by false false true h = refl
@@ -110,7 +109,7 @@ module _ (area out log : List ℕ) where
 
   -- an open area: 9 is tested before 8
   end-rest : OpenArea area → endNumber area out log
-      ≡ orElse (ltb (length out) (digestBytes (getD area 3 0))) 9 (orElse (ltb (length log) (2 * length (closedBy area))) 8 0)
+      ≡ cond (ltb (length out) (digestBytes (getD area 3 0))) 9 (cond (ltb (length log) (2 * length (closedBy area))) 8 0)
   unfolding endNumber
   end-rest o = area-open area _ o ∙ rw (size-read area)
 

@@ -1,5 +1,4 @@
--- Laws of `openOf` in Calls: refused and accepted, and the area as the code writes it.
--- Assumes nothing.
+-- Laws: of `openOf` in Calls: refused and accepted, and the area as the code writes it.
 use mathlib.Core.Path.{_≡_, refl, sym, ap, _∙_}
 use mathlib.Core.List.{List, [], _∷_, _++_}
 use Prim.Native.Nat.{ℕ, zero, suc, _+_, _*_, _≤_, _<_}
@@ -7,7 +6,8 @@ use native.Mathlib.Omega.{arith}
 use lib.ListN.{length, take, drop, replicate}
 use lib.Seq.{sets}
 use borrow.Author.Tests.{lt-ltb, le-ltb}
-use Rattle.lists.specs.Part.{put, next-part, first-stores}
+use Rattle.lists.specs.Part.{put}
+use Rattle.lists.specs.PartLaws.{next-part, first-stores}
 use Rattle.bits.specs.Bits.{filled}
 use Rattle.tree.specs.Tree.{Params, keyWords}
 use Rattle.tree.specs.Refusals.{refusedParams}
@@ -22,7 +22,7 @@ pub open-written : (area key : List ℕ) (d limit rounds : ℕ) → areaWords �
     → (let A : List ℕ = sets area 0 (1 ∷ 0 ∷ length key ∷ d ∷ limit ∷ rounds ∷ []) in
     let Z : List ℕ = put 6 1738 A (replicate 1738 0) in
     put 6 8 Z (filled (take 8 (drop 6 Z)) 0 key 0 (8 * length key)) ≡ openedArea area (params key d limit rounds))
-unfolding openedArea emptyLevel emptyLevels
+unfolding openedArea emptyLevel emptyLevels mathlib.Core.List.flatten
 open-written area key d limit rounds h g =
     let vs : List ℕ = 1 ∷ 0 ∷ length key ∷ d ∷ limit ∷ rounds ∷ [] in
     let zs : List ℕ = replicate 1738 0 in

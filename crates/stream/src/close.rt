@@ -5,7 +5,6 @@ ghost use lib.ListN.{length, set};
 ghost use Rattle.area.specs.Area.{areaWords, withLevels, emptyLevels};
 ghost use Rattle.area.specs.Calls.{logged, closedBy, endedArea, digestOut, endOf};
 ghost use Rattle.area.specs.CallLaws.{EndPassed};
-ghost use Rattle.stream.specs.Answers.{ended};
 use super::number;
 use node::Answer;
 use sound::Area;
@@ -38,7 +37,7 @@ fn finish(area: &mut [u64], digest: &mut [u8], log: &mut [u64]) -> u64
 
 // Ends a stream.
 pub fn end(area: &mut [u64], digest: &mut [u8], log: &mut [u64]) -> Answer
-    ensures { λ o. ⌜ ended (o .number) (o .count) (now (area .exit)) (now (digest .exit)) (now (log .exit)) ≡ endOf (now (area .entry)) (now (digest .entry)) (now (log .entry)) ⌝ }
+    ensures { λ o. ⌜ record { number = o .number; count = o .count; area = now (area .exit); digest = now (digest .exit); log = now (log .exit) } ≡ endOf (now (area .entry)) (now (digest .entry)) (now (log .entry)) ⌝ }
 {
     let number = number::end_number(area, digest, log);
     if number != 0 {

@@ -5,7 +5,6 @@ ghost use Prim.Native.Nat.{_≤_};
 ghost use lib.ListN.{length};
 ghost use Rattle.area.specs.Area.{areaWords};
 ghost use Rattle.area.specs.Calls.{openedArea, openOf, feedOf, shown, levelOf, logWordsOf};
-ghost use Rattle.stream.specs.Answers.{params, opened, fed};
 use node::Answer;
 use node::Block;
 use node::Params;
@@ -16,7 +15,7 @@ mod close; // close.rt: the end of a stream
 
 pub use close::end;
 
-// The words of log that an end needs at most: two for a level.
+// The words of log that an end needs at most: two for its node at each level, of which a tree has at most 27.
 const END_WORDS: u64 = 2 * Params::LEVELS;
 
 // How many words of log are enough for a piece of so many bits, whatever open area it is fed to.
@@ -33,7 +32,7 @@ pub fn log_words(bits: u64) -> Answer
 // Writes the words of an open area with no bits.
 fn write_open(area: &mut [u64], key: &[u8], d: u64, limit: u64, rounds: u64)
     requires { ⌜ (areaWords ≤ length (now area)) × (length (now key) ≤ 64) ⌝ }
-    ensures { λ _. ⌜ now (area .exit) ≡ openedArea (now (area .entry)) (params (now (key .entry)) d limit rounds) ⌝ }
+    ensures { λ _. ⌜ now (area .exit) ≡ openedArea (now (area .entry)) (record { key = now (key .entry); d = d; limit = limit; rounds = rounds }) ⌝ }
 {
     area[0] = 1;
     area[1] = 0;
@@ -47,7 +46,7 @@ fn write_open(area: &mut [u64], key: &[u8], d: u64, limit: u64, rounds: u64)
 
 // Opens a stream in an area, whatever it held.
 pub fn open(area: &mut [u64], key: &[u8], d: u64, limit: u64, rounds: u64) -> Answer
-    ensures { λ o. ⌜ opened (o .number) (o .count) (now (area .exit)) ≡ openOf (now (area .entry)) (params (now (key .entry)) d limit rounds) ⌝ }
+    ensures { λ o. ⌜ record { number = o .number; count = o .count; area = now (area .exit) } ≡ openOf (now (area .entry)) (record { key = now (key .entry); d = d; limit = limit; rounds = rounds }) ⌝ }
 {
     if area.len() < Area::WORDS {
         return Answer::refused(7);
@@ -91,7 +90,7 @@ pub fn level(area: &[u64], level: u64) -> &[u64]
 
 // Feeds the first bits of a piece of bytes, and logs U and V of each node that is made.
 pub fn feed(area: &mut [u64], piece: &[u8], bits: u64, log: &mut [u64]) -> Answer
-    ensures { λ o. ⌜ fed (o .number) (o .count) (now (area .exit)) (now (log .exit)) ≡ feedOf (now (area .entry)) (now (piece .entry)) bits (now (log .entry)) ⌝ }
+    ensures { λ o. ⌜ record { number = o .number; count = o .count; area = now (area .exit); log = now (log .exit) } ≡ feedOf (now (area .entry)) (now (piece .entry)) bits (now (log .entry)) ⌝ }
 {
     let number = number::feed_number(area, piece, bits, log);
     if number != 0 {

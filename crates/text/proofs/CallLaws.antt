@@ -1,8 +1,8 @@
 -- What write and read answer, by the tests that the code makes.
--- Assumes nothing.
 use mathlib.Core.Path.{_≡_, sym, ap, _∙_}
 use mathlib.Core.Bool.{Bool, true, false}
 use mathlib.Core.List.{List, _++_}
+use mathlib.Core.Option.{some}
 use Prim.Native.Nat.{ℕ, _+_, _-_, _≤_, _<_}
 use native.Mathlib.Omega.{arith}
 use borrow.Author.Tests.{lt-ltb, le-ltb}
@@ -10,12 +10,17 @@ use borrow.Rule.Slice.PartMut.{putMid}
 use lib.ListN.{length, drop}
 use lib.Seq.{paste, take-all}
 use Rattle.area.specs.Area.{areaWords, sound}
-use Rattle.text.specs.Text.{textOf, speltArea, readable, writeNumber, writeOf, readNumber, readOf}
-use Rattle.text.specs.Answers.{written, taken}
+use Rattle.text.specs.Text.{textOf, speltArea, readable, Written, writeNumber, writeOf, Taken, readNumber, readOf}
 use Rattle.text.specs.TextLaws.{length-speltArea}
 use Rattle.text.specs.ReadLaws.{read-accepted, read-refused, write-accepted, write-refused}
 
 -- ---- an answer by its two numbers
+
+abbrev pub written : ℕ → ℕ → List ℕ → Written
+written number count text = record { number = number; count = count; text = text }
+
+abbrev pub taken : ℕ → ℕ → List ℕ → Taken
+taken number count area = record { number = number; count = count; area = area }
 
 pub written-as : (n c m d : ℕ) (text : List ℕ) → (n ≡ m) × (c ≡ d) → written n c text ≡ written m d text
 written-as n c m d text e = rw (e .0, e .1)
@@ -58,11 +63,11 @@ pub read-no : (area text : List ℕ) (r : Bool) → areaWords ≤ length area �
 unfolding readNumber
 read-no area text r h e f = sym (read-refused area text 10 (rw (le-ltb (length area) areaWords h, ← e, f)))
 
-pub read-done : (area text s last : List ℕ) (r : Bool) → areaWords ≤ length area → r ≡ readable text → r ≡ true → s ≡ speltArea text
+pub read-done : (area text s last : List ℕ) (r : Bool) → areaWords ≤ length area → r ≡ readable text → r ≡ true → speltArea text ≡ some s
     → last ≡ paste area 0 s (length s) → taken 0 0 last ≡ readOf area text
 read-done area text s last r h e f a l =
-    let n : length s ≡ 1744 = ap length a ∙ length-speltArea text in
+    let n : length s ≡ 1744 = length-speltArea text s a in
     let k : 0 + length s ≡ 1744 = omega arith in
-    let p : last ≡ speltArea text ++ drop 1744 area =
-    l ∙ ap (λ (x : List ℕ). x ++ drop (0 + length s) area) (take-all (length s) s (omega arith) ∙ a) ∙ ap (λ (m : ℕ). speltArea text ++ drop m area) k in
-    ap (taken 0 0) p ∙ sym (read-accepted area text h (sym e ∙ f))
+    let p : last ≡ s ++ drop 1744 area =
+    l ∙ ap (λ (x : List ℕ). x ++ drop (0 + length s) area) (take-all (length s) s (omega arith)) ∙ ap (λ (m : ℕ). s ++ drop m area) k in
+    ap (taken 0 0) p ∙ sym (read-accepted area text s h a (sym e ∙ f))

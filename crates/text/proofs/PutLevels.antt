@@ -1,5 +1,4 @@
 -- The lines of the levels, written one after the other, and the whole text.
--- Assumes nothing.
 use mathlib.Core.Path.{_≡_, refl, sym, ap, _∙_}
 use mathlib.Core.Bool.{true, false}
 use mathlib.Core.List.{List, [], _++_, append-assoc, append-nil}
@@ -14,7 +13,7 @@ use Rattle.text.specs.Text.{line1, line2, levelLine, textOf, levelBytes}
 use Rattle.text.specs.LayoutLaws.{length-levelWords}
 use Rattle.text.specs.LengthLaws.{length-levelLine, text-most}
 use Rattle.text.specs.Lines.{hasLineAt, linesAbove, above-yes, above-no, length-yes, above-all, text-lines, length-head, length-text, above-most}
-use Rattle.lists.specs.Part.{put-take, put-length}
+use Rattle.lists.specs.PartLaws.{put-take, put-length}
 use Rattle.digits.specs.Loops.{lent-next}
 
 -- a part whose first bytes, as many as `at`, are the lines of the first k levels

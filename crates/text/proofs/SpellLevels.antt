@@ -1,29 +1,30 @@
 -- The levels that a text spells, one after the other, in an area whose levels are empty at first.
--- Assumes nothing.
 use mathlib.Core.Path.{_≡_, refl, sym, ap, _∙_}
 use mathlib.Core.Bool.{Bool, true, false}
-use mathlib.Core.List.{List, [], _++_, append-assoc, append-nil}
+use mathlib.Core.List.{List, [], _++_, map, append-assoc, append-nil}
+use mathlib.Core.Option.{Option, none, some}
 use Prim.Native.Nat.{ℕ, _+_, _-_, _*_, _≤_, _<_}
 use native.Mathlib.Numerals.{add-one}
 use native.Mathlib.Omega.{arith}
-use lib.ListN.{length, take, drop, getD, replicate, replicate-append-replicate, drop-of-length-le}
+use lib.ListN.{length, take, drop, getD, replicate, length-map, replicate-append-replicate, drop-of-length-le}
 use lib.Seq.{take-at, drop-at, drop-cons, drop-drop, take-add, take-all, take-take, take-append-le, length-take-le}
-use Rattle.lists.specs.Concat.{concat}
-use Rattle.lists.specs.Part.{put, put-take, put-drop, put-length}
+use Rattle.lists.specs.Flatten.{map-append}
+use Rattle.lists.specs.Part.{put}
+use Rattle.lists.specs.PartLaws.{put-take, put-drop, put-length}
 use Rattle.tree.specs.Tree.{mostLevels}
 use Rattle.area.specs.Area.{headWords, blockWords, areaWords, phaseOf, totalOf, emptyLevel}
-use Rattle.digits.specs.Digits.{speltWords}
+use Rattle.digits.specs.Digits.{speltWords, allSpelt}
 use Rattle.text.specs.Text.{heldOf, levelBytes, speltLevels}
-use Rattle.digits.specs.DigitLaws.{length-speltWords}
+use Rattle.digits.specs.DigitLaws.{length-speltWords, all-known, known-all, all-part}
 use Rattle.text.specs.LengthLaws.{length-heldLevels}
-use Rattle.text.specs.Lines.{hasLineAt, linesAbove, zeroLevels, held-at, above-no, length-yes}
+use Rattle.text.specs.Lines.{hasLineAt, linesAbove, zeroLevels, values, levelSpelt, LevelSpelt, held-at, above-no, length-yes}
 use Rattle.text.specs.TextLaws.{held-front}
 use Rattle.text.proofs.LineStores.{words-front, drop-take}
 
 -- ---- the levels above the first k, from the text that begins at a place
 
-pub speltAbove : List Bool → List ℕ → ℕ → ℕ → List ℕ
-speltAbove hs text at k = concat (speltLevels (drop k hs) (drop at text))
+pub speltAbove : List Bool → List ℕ → ℕ → ℕ → List (Option ℕ)
+speltAbove hs text at k = speltLevels (drop k hs) (drop at text)
 
 above-true : (hs : List Bool) (text : List ℕ) (at k : ℕ) → k < length hs → getD hs k false ≡ true
     → speltAbove hs text at k ≡ speltWords 64 (drop 2 (drop at text)) ++ speltAbove hs text (at + levelBytes) (k + 1)
@@ -31,7 +32,7 @@ unfolding speltAbove
 above-true hs text at k h e = rw (add-one k, drop-cons hs k false h, e, drop-drop levelBytes at text)
 
 above-false : (hs : List Bool) (text : List ℕ) (at k : ℕ) → k < length hs → getD hs k false ≡ false
-    → speltAbove hs text at k ≡ emptyLevel ++ speltAbove hs text at (k + 1)
+    → speltAbove hs text at k ≡ map some emptyLevel ++ speltAbove hs text at (k + 1)
 unfolding speltAbove
 above-false hs text at k h e = rw (add-one k, drop-cons hs k false h, e)
 
@@ -40,10 +41,14 @@ unfolding speltAbove
 above-end hs text at k h = rw (drop-of-length-le hs h)
 
 -- a level's words lie within its line
-line-words : (text : List ℕ) → speltWords 64 (drop 2 (take levelBytes text)) ≡ speltWords 64 (drop 2 text)
+line-words : (text : List ℕ) → levelSpelt (take levelBytes text) ≡ levelSpelt text
 line-words text =
     ap (speltWords 64) (drop-take 2 1025 text) ∙ sym (words-front 64 (take 1025 (drop 2 text)))
     ∙ ap (speltWords 64) (take-take 1024 1025 (drop 2 text) (omega arith)) ∙ words-front 64 (drop 2 text)
+
+-- known words behind known words
+joined : (a b ws : List ℕ) → b ≡ a ++ ws → (xs : List (Option ℕ)) → map some b ++ xs ≡ map some a ++ (map some ws ++ xs)
+joined a b ws t xs = rw (t, map-append some a ws) (append-assoc (map some a) (map some ws) xs)
 
 -- ---- the area after k levels
 
@@ -57,7 +62,7 @@ pub record Spelling (area₀ text area : List ℕ) (at k : ℕ) : Type 0 where
   pub long : length area ≡ areaWords
   pub head : take headWords area ≡ take headWords area₀
   pub empty : drop (before k) area ≡ replicate (blockWords * (mostLevels - k)) 0
-  pub is : take (before k) area ++ speltAbove (heldOf area₀) text at k ≡ take headWords area₀ ++ concat (speltLevels (heldOf area₀) text)
+  pub is : map some (take (before k) area) ++ speltAbove (heldOf area₀) text at k ≡ map some (take headWords area₀) ++ speltLevels (heldOf area₀) text
 
 pub spelling-none : (area text : List ℕ) → length area ≡ areaWords → drop headWords area ≡ zeroLevels → length text ≡ length (linesAbove area 0) → Spelling area text area 0 0
 unfolding zeroLevels speltAbove
@@ -107,46 +112,64 @@ module _ (area₀ text area : List ℕ) (at k : ℕ) (s : Spelling area₀ text 
         head = s .head;
         empty = ap (λ (n : ℕ). drop n area) (sym next) ∙ after-empty;
         is =
-            ap (λ (x : List ℕ). x ++ speltAbove (heldOf area₀) text at (k + 1)) t
-            ∙ append-assoc (take (before k) area) emptyLevel (speltAbove (heldOf area₀) text at (k + 1))
-            ∙ ap (λ (x : List ℕ). take (before k) area ++ x) (sym (above-false (heldOf area₀) text at k inside (sym held ∙ e)))
+            joined (take (before k) area) (take (before (k + 1)) area) emptyLevel t (speltAbove (heldOf area₀) text at (k + 1))
+            ∙ ap (λ (x : List (Option ℕ)). map some (take (before k) area) ++ x) (sym (above-false (heldOf area₀) text at k inside (sym held ∙ e)))
             ∙ s .is;
       }
 
-  -- a level is filled from its line
-  pub spelling-yes : (last : List ℕ) → areaWords ≤ length area₀ → hasLineAt area (k + 1) ≡ true
-      → last ≡ put (before (k + 1 - 1)) blockWords area (speltWords blockWords (drop 2 (take (at + levelBytes - at) (drop at text))))
-      → Spelling area₀ text last (at + levelBytes) (k + 1)
-  spelling-yes last l e y =
-      let ws : List ℕ = speltWords 64 (drop 2 (drop at text)) in
-      let i : k + 1 - 1 ≡ k = omega arith in
-      let n : at + levelBytes - at ≡ levelBytes = omega arith in
-      let f : last ≡ put (before k) blockWords area ws =
-      y ∙ ap (λ (j : ℕ). put (before j) blockWords area (speltWords blockWords (drop 2 (take (at + levelBytes - at) (drop at text))))) i
-      ∙ ap (λ (m : ℕ). put (before k) blockWords area (speltWords blockWords (drop 2 (take m (drop at text))))) n
-      ∙ ap (put (before k) blockWords area) (line-words (drop at text)) in
-      let g : before k + blockWords ≤ length area = omega (arith, s .long) in
-      let w : length ws ≡ blockWords = length-speltWords 64 (drop 2 (drop at text)) in
-      let t : take (before (k + 1)) last ≡ take (before k) area ++ ws =
-      ap (λ (m : ℕ). take m last) (sym next) ∙ ap (take (before k + blockWords)) f ∙ put-take (before k) blockWords area ws g w in
-      record {
-        few = omega arith;
-        size = omega (arith, s .size, length-yes area₀ k h l (sym as-first ∙ e));
-        long = ap length f ∙ put-length (before k) blockWords area ws g w ∙ s .long;
-        head =
-            sym (take-take headWords (before (k + 1)) last (omega arith)) ∙ ap (take headWords) t
-            ∙ take-append-le headWords (take (before k) area) ws (rw (length-take-le (before k) area (omega (arith, s .long))) (omega arith))
-            ∙ take-take headWords (before k) area (omega arith) ∙ s .head;
-        empty = ap (λ (m : ℕ). drop m last) (sym next) ∙ ap (drop (before k + blockWords)) f ∙ put-drop (before k) blockWords area ws g w ∙ after-empty;
-        is =
-            ap (λ (x : List ℕ). x ++ speltAbove (heldOf area₀) text (at + levelBytes) (k + 1)) t
-            ∙ append-assoc (take (before k) area) ws (speltAbove (heldOf area₀) text (at + levelBytes) (k + 1))
-            ∙ ap (λ (x : List ℕ). take (before k) area ++ x) (sym (above-true (heldOf area₀) text at k inside (sym held ∙ e)))
-            ∙ s .is;
-      }
+  -- a level's line
+  module _ (last : List ℕ) (r : Bool) (l : areaWords ≤ length area₀) (e : hasLineAt area (k + 1) ≡ true)
+      (y : LevelSpelt r (k + 1) (take (at + levelBytes - at) (drop at text)) area last) where
+    -- what it spells
+    line-is : levelSpelt (take (at + levelBytes - at) (drop at text)) ≡ levelSpelt (drop at text)
+    line-is =
+        let n : at + levelBytes - at ≡ levelBytes = omega arith in
+        ap (λ (m : ℕ). levelSpelt (take m (drop at text))) n ∙ line-words (drop at text)
+
+    above-is : speltAbove (heldOf area₀) text at k ≡ levelSpelt (drop at text) ++ speltAbove (heldOf area₀) text (at + levelBytes) (k + 1)
+    above-is = above-true (heldOf area₀) text at k inside (sym held ∙ e)
+
+    -- the level is filled from it
+    pub spelling-yes : r ≡ true → Spelling area₀ text last (at + levelBytes) (k + 1)
+    spelling-yes q =
+        let xs : List (Option ℕ) = levelSpelt (drop at text) in
+        let ws : List ℕ = values xs in
+        let i : k + 1 - 1 ≡ k = omega arith in
+        let f : last ≡ put (before k) blockWords area ws =
+        y .yes q .1 ∙ ap (λ (j : ℕ). put (before j) blockWords area (values (levelSpelt (take (at + levelBytes - at) (drop at text))))) i
+        ∙ ap (λ (x : List (Option ℕ)). put (before k) blockWords area (values x)) line-is in
+        let x : xs ≡ map some ws = known-all xs ws (rw line-is at (y .yes q .0)) in
+        let g : before k + blockWords ≤ length area = omega (arith, s .long) in
+        let w : length ws ≡ blockWords = sym (length-map ws some) ∙ ap length (sym x) ∙ length-speltWords 64 (drop 2 (drop at text)) in
+        let t : take (before (k + 1)) last ≡ take (before k) area ++ ws =
+        ap (λ (m : ℕ). take m last) (sym next) ∙ ap (take (before k + blockWords)) f ∙ put-take (before k) blockWords area ws g w in
+        record {
+          few = omega arith;
+          size = omega (arith, s .size, length-yes area₀ k h l (sym as-first ∙ e));
+          long = ap length f ∙ put-length (before k) blockWords area ws g w ∙ s .long;
+          head =
+              sym (take-take headWords (before (k + 1)) last (omega arith)) ∙ ap (take headWords) t
+              ∙ take-append-le headWords (take (before k) area) ws (rw (length-take-le (before k) area (omega (arith, s .long))) (omega arith))
+              ∙ take-take headWords (before k) area (omega arith) ∙ s .head;
+          empty = ap (λ (m : ℕ). drop m last) (sym next) ∙ ap (drop (before k + blockWords)) f ∙ put-drop (before k) blockWords area ws g w ∙ after-empty;
+          is =
+              joined (take (before k) area) (take (before (k + 1)) last) ws t (speltAbove (heldOf area₀) text (at + levelBytes) (k + 1))
+              ∙ ap (λ (z : List (Option ℕ)). map some (take (before k) area) ++ z)
+              (ap (λ (z : List (Option ℕ)). z ++ speltAbove (heldOf area₀) text (at + levelBytes) (k + 1)) (sym x) ∙ sym above-is)
+              ∙ s .is;
+        }
+
+    -- or a digit of it is refused
+    pub spelling-refused : r ≡ false → none ≡ allSpelt (map some (take headWords area₀) ++ speltLevels (heldOf area₀) text)
+    spelling-refused q =
+        sym (ap allSpelt (sym (s .is) ∙ ap (λ (z : List (Option ℕ)). map some (take (before k) area) ++ z) above-is)
+        ∙ all-part (map some (take (before k) area)) (levelSpelt (drop at text)) (speltAbove (heldOf area₀) text (at + levelBytes) (k + 1)) (rw line-is at (y .no q)))
 
 pub spelling-all : (area₀ text area : List ℕ) (at k : ℕ) → Spelling area₀ text area at k → mostLevels ≤ k
-    → area ≡ take headWords area₀ ++ concat (speltLevels (heldOf area₀) text)
+    → some area ≡ allSpelt (map some (take headWords area₀) ++ speltLevels (heldOf area₀) text)
 spelling-all area₀ text area at k s h =
     let e = above-end (heldOf area₀) text at k (omega (arith, length-heldLevels (phaseOf area₀) (getD area₀ 4 0) (totalOf area₀))) in
-    sym (ap (λ (x : List ℕ). take (before k) area ++ x) e ∙ append-nil (take (before k) area) ∙ take-all (before k) area (omega (arith, s .long))) ∙ s .is
+    let t : map some (take (before k) area) ++ speltAbove (heldOf area₀) text at k ≡ map some area =
+    ap (λ (x : List (Option ℕ)). map some (take (before k) area) ++ x) e ∙ append-nil (map some (take (before k) area))
+    ∙ ap (map some) (take-all (before k) area (omega (arith, s .long))) in
+    sym (ap allSpelt (sym (s .is) ∙ t) ∙ all-known area)

@@ -1,14 +1,14 @@
--- The fields of line 1 as a table: the area's word that each tells, and where its digits stand.
--- Assumes nothing.
+-- Laws: the fields of line 1 as a table: the area's word that each tells, and where its digits stand.
 use mathlib.Core.Path.{_≡_, refl, ap, _∙_}
 use mathlib.Core.List.{List, [], _∷_, _++_, append-assoc, append-nil}
+use mathlib.Core.Option.{some}
 use Prim.Native.Nat.{ℕ, zero, suc, _+_, _-_, _^_, _≤_, _<_}
 use native.Mathlib.Numerals.{add-one}
 use native.Mathlib.Omega.{arith}
 use lib.ListN.{length, take, drop, getD}
 use lib.Seq.{drop-append-add}
 use Rattle.area.specs.Area.{phaseOf, totalOf, keyBytesOf, compressionsOf}
-use Rattle.digits.specs.Digits.{digits, spelt, numberAt, line}
+use Rattle.digits.specs.Digits.{hexDigits, spelt, numberAt, line}
 use Rattle.text.specs.Text.{line1}
 use Rattle.digits.specs.DigitLaws.{length-digits, digits-back, take-digits}
 
@@ -51,10 +51,10 @@ in-line (suc (suc (suc (suc (suc (suc (suc i))))))) h = absurd (omega arith)
 
 unfoldable pub fieldDigits : List ℕ → List ℕ → List ℕ
 fieldDigits area rest =
-    digits 2 (phaseOf area)
-    ++ (digits 2 (getD area 5 0)
-    ++ (digits 2 (getD area 4 0)
-    ++ (digits 2 (keyBytesOf area) ++ (digits 4 (getD area 3 0) ++ (digits 16 (totalOf area) ++ (digits 16 (compressionsOf area) ++ rest))))))
+    hexDigits 2 (phaseOf area)
+    ++ (hexDigits 2 (getD area 5 0)
+    ++ (hexDigits 2 (getD area 4 0)
+    ++ (hexDigits 2 (keyBytesOf area) ++ (hexDigits 4 (getD area 3 0) ++ (hexDigits 16 (totalOf area) ++ (hexDigits 16 (compressionsOf area) ++ rest))))))
 
 pub line1-fields : (area rest : List ℕ) → line1 area ++ rest ≡ fieldDigits area (10 ∷ rest)
 unfolding fieldDigits
@@ -65,14 +65,14 @@ unfolding fieldDigits
 fields-line area = simp (append-assoc, append-nil)
 
 -- the digits of a field are those of its word
-skip : (n k y at : ℕ) (rest : List ℕ) → take n (drop (k + at) (digits k y ++ rest)) ≡ take n (drop at rest)
+skip : (n k y at : ℕ) (rest : List ℕ) → take n (drop (k + at) (hexDigits k y ++ rest)) ≡ take n (drop at rest)
 skip n k y at rest =
-    let e : length (digits k y) + at ≡ k + at = rw (length-digits k y) refl in
-    ap (take n) (rw (← e) (drop-append-add (digits k y) rest at))
+    let e : length (hexDigits k y) + at ≡ k + at = rw (length-digits k y) refl in
+    ap (take n) (rw (← e) (drop-append-add (hexDigits k y) rest at))
 
 module _ (area rest : List ℕ) where
   pub field-digits : (i : ℕ) → i < 7
-      → take (endOf i - startOf i) (drop (startOf i) (fieldDigits area rest)) ≡ digits (endOf i - startOf i) (getD area (wordOf i) 0)
+      → take (endOf i - startOf i) (drop (startOf i) (fieldDigits area rest)) ≡ hexDigits (endOf i - startOf i) (getD area (wordOf i) 0)
   unfolding fieldDigits
   field-digits zero h = take-digits 2 (getD area 0 0) _
   field-digits (suc zero) h = skip 2 2 (getD area 0 0) 0 _ ∙ take-digits 2 (getD area 5 0) _
@@ -92,7 +92,7 @@ module _ (area rest : List ℕ) where
 
 -- a number that fits the digits of its field is read back
 pub field-back : (area rest : List ℕ) (i : ℕ) → i < 7 → getD area (wordOf i) 0 < 16 ^ (endOf i - startOf i)
-    → numberAt (line1 area ++ rest) (startOf i) (endOf i - startOf i) ≡ getD area (wordOf i) 0
+    → numberAt (line1 area ++ rest) (startOf i) (endOf i - startOf i) ≡ some (getD area (wordOf i) 0)
 field-back area rest i h g =
     ap (λ (l : List ℕ). numberAt l (startOf i) (endOf i - startOf i)) (line1-fields area rest) ∙ ap (spelt 0) (field-digits area (10 ∷ rest) i h)
     ∙ digits-back (endOf i - startOf i) (getD area (wordOf i) 0) g

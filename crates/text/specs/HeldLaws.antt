@@ -1,23 +1,23 @@
--- What soundness says of an area, as far as its text needs it: words 0 to 5 fit their digits, and a level without a line holds
+-- Laws: what soundness says of an area, as far as its text needs it: words 0 to 5 fit their digits, and a level without a line holds
 -- nothing.
--- Assumes nothing.
 use mathlib.Core.Path.{_≡_, refl, sym, _∙_}
-use mathlib.Core.Bool.{Bool, true, false, not, _||_}
+use mathlib.Core.Bool.{Bool, true, false, not, _||_, cond}
 use mathlib.Core.List.{List, [], _∷_, map}
 use Prim.Native.Nat.{ℕ, zero, suc, _+_, _^_, _≤_}
 use native.Mathlib.Omega.{arith}
 use borrow.Author.Tests.{eqb-true, ltb-false}
 use lib.Dec.{eqb, ltb}
 use lib.ListN.{length, take, drop, getD, length-replicate}
-use Rattle.lists.specs.Below.{Below, below-zeros}
+use Rattle.lists.specs.Below.{Below}
+use Rattle.lists.specs.BelowLaws.{below-zeros}
 use Rattle.bits.specs.Bits.{bitsOf}
 use Rattle.bits.specs.BitsLaws.{length-numbers, length-bitsOf, bitsOf-zeros, bitsOf-inj}
 use Rattle.tree.specs.Tree.{Params}
 use Rattle.tree.specs.Refusals.{refusedParams}
-use Rattle.area.specs.Area.{Hold, blockWords, phaseOf, totalOf, keyBytesOf, keyOf, levelsOf, paramsOf, emptyLevel, holdsFor, allFalse, clean, cleanAll, sound, soundLevels}
+use Rattle.area.specs.Area.{Hold, blockWords, phaseOf, totalOf, keyBytesOf, kOf, levelsOf, paramsOf, emptyLevel, holdsFor, allFalse, clean, cleanAll, sound, soundLevels}
 use Rattle.area.specs.AreaLaws.{allFalse-is}
-use Rattle.tree.specs.RefusalLaws.{orElse-passed}
-use Rattle.lists.specs.Both.{both-parts}
+use Rattle.tree.specs.RefusalLaws.{test-passed}
+use Rattle.lists.specs.And.{and-parts}
 use Rattle.area.specs.Moved.{sound-tests}
 use Rattle.text.specs.Text.{hasLine}
 use Rattle.text.specs.LayoutLaws.{Levels}
@@ -46,14 +46,14 @@ unfolding paramsOf
 ranges area e =
     let P : Params = paramsOf area in
     let t = sound-tests area e in
-    let p1 = orElse-passed (ltb (P .d) 1) 0 _ (eqb-true (refusedParams P 0) 0 (t .params)) in
-    let p2 = orElse-passed (ltb 512 (P .d)) 0 _ (p1 .1) in
-    let p3 = orElse-passed (ltb 64 (length (P .key))) 1 _ (p2 .1) in
-    let p4 = orElse-passed (ltb 64 (P .limit)) 2 _ (p3 .1) in
-    let p5 = orElse-passed (ltb 255 (P .rounds)) 3 0 (p4 .1) in
+    let p1 = test-passed (ltb (P .d) 1) 0 _ (eqb-true (refusedParams P 0) 0 (t .params)) in
+    let p2 = test-passed (ltb 512 (P .d)) 0 _ (p1 .1) in
+    let p3 = test-passed (ltb 64 (length (P .key))) 1 _ (p2 .1) in
+    let p4 = test-passed (ltb 64 (P .limit)) 2 _ (p3 .1) in
+    let p5 = test-passed (ltb 255 (P .rounds)) 3 0 (p4 .1) in
     record {
       phase = phase-range (phaseOf area) (t .phase);
-      keyBytes = rw (length-numbers 8 (keyBytesOf area) (bitsOf 64 (keyOf area))) at (ltb-false 64 (length (P .key)) (p3 .0));
+      keyBytes = rw (length-numbers 8 (keyBytesOf area) (bitsOf 64 (kOf area))) at (ltb-false 64 (length (P .key)) (p3 .0));
       d = ltb-false 512 (P .d) (p2 .0);
       limit = ltb-false 64 (P .limit) (p4 .0);
       rounds = ltb-false 255 (P .rounds) (p5 .0);
@@ -87,7 +87,7 @@ fit-one : (h : Hold) (ws : List ℕ) {hs : List Bool} {ls : List (List ℕ)} →
     → Fit hs ls → Fit (hasLine h ∷ hs) (ws ∷ ls)
 fit-one h ws {hs} {ls} l b e f =
     by (h .output) (eqb (h .bits) 0) refl
-    (both-parts (h .output || allFalse (take (h .reserved) (bitsOf 64 ws))) (allFalse (drop (h .reserved + h .bits) (bitsOf 64 ws))) e)
+    (and-parts (h .output || allFalse (take (h .reserved) (bitsOf 64 ws))) (allFalse (drop (h .reserved + h .bits) (bitsOf 64 ws))) e)
   where
     by : (o t : Bool) → eqb (h .bits) 0 ≡ t
         → (o || allFalse (take (h .reserved) (bitsOf 64 ws)) ≡ true) × (allFalse (drop (h .reserved + h .bits) (bitsOf 64 ws)) ≡ true)
@@ -103,7 +103,7 @@ fit-all [] [] n w e = none
 fit-all [] (ws ∷ ls) n w e = absurd (omega arith)
 fit-all (h ∷ hs) [] n w e = absurd (omega arith)
 fit-all (h ∷ hs) (ws ∷ ls) n w e =
-    let p = both-parts (clean h ws) (cleanAll hs ls) e in
+    let p = and-parts (clean h ws) (cleanAll hs ls) e in
     fit-one h ws (w .0) (w .1) (p .0) (fit-all hs ls (omega arith) (w .2) (p .1))
 
 -- the levels of a sound area

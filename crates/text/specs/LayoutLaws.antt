@@ -1,6 +1,5 @@
--- The parts of an area that a text is made of: its first 16 words one by one, and its levels. All of them lie in the first
+-- Laws: the parts of an area that a text is made of: its first 16 words one by one, and its levels. All of them lie in the first
 -- 1,744 words.
--- Assumes nothing.
 use mathlib.Core.Path.{_≡_, refl, sym, ap, _∙_}
 use mathlib.Core.List.{List, [], _∷_, _++_}
 use Prim.Native.Nat.{ℕ, zero, suc, _+_, _-_, _*_, _^_, _≤_, _<_}
@@ -8,11 +7,12 @@ use native.Mathlib.Omega.{arith}
 use lib.ListN.{length, take, drop, getD, length-drop}
 use lib.Seq.{take-add, drop-drop, drop-cons, take-take, length-take-le}
 use Rattle.lists.specs.Append.{cons-eq}
-use Rattle.lists.specs.Below.{Below, below-take, below-drop}
+use Rattle.lists.specs.Below.{Below}
+use Rattle.lists.specs.BelowLaws.{below-take, below-drop}
 use Rattle.tree.specs.Tree.{mostLevels}
-use Rattle.area.specs.Area.{headWords, blockWords, areaWords, keyOf, levelWords, levelsFrom, levelsOf, sound}
+use Rattle.area.specs.Area.{headWords, blockWords, areaWords, kOf, levelWords, levelsFrom, levelsOf, sound}
 use Rattle.area.specs.Moved.{Same, same-front, same-sound}
-use Rattle.digits.specs.Digits.{digits, wordDigits, line}
+use Rattle.digits.specs.Digits.{hexDigits, wordDigits, line}
 use Rattle.text.specs.Text.{heldLevels, levelLines, textOf}
 
 -- ---- the words before the levels
@@ -28,9 +28,9 @@ pub head-words : (area : List ℕ) → headWords ≤ length area →
     ∷ getD area 3 0
     ∷ getD area 4 0
     ∷ getD area 5 0
-    ∷ (keyOf area ++ (getD area 14 0 ∷ getD area 15 0 ∷ []))
+    ∷ (kOf area ++ (getD area 14 0 ∷ getD area 15 0 ∷ []))
 head-words area h =
-    let e : take 10 (drop 6 area) ≡ keyOf area ++ take 2 (drop 14 area) = take-add 8 2 (drop 6 area) ∙ rw (drop-drop 8 6 area) in
+    let e : take 10 (drop 6 area) ≡ kOf area ++ take 2 (drop 14 area) = take-add 8 2 (drop 6 area) ∙ rw (drop-drop 8 6 area) in
     let f : take 2 (drop 14 area) ≡ getD area 14 0 ∷ getD area 15 0 ∷ [] =
     take-one 1 14 area (omega arith) ∙ cons-eq refl (take-one 0 15 area (omega arith)) in
     take-one 15 0 area (omega arith)
@@ -39,9 +39,9 @@ head-words area h =
     ∙ cons-eq refl (take-one 12 3 area (omega arith)
     ∙ cons-eq refl (take-one 11 4 area (omega arith)
     ∙ cons-eq refl (take-one 10 5 area (omega arith)
-    ∙ cons-eq refl (e ∙ ap (λ (l : List ℕ). keyOf area ++ l) f))))))
+    ∙ cons-eq refl (e ∙ ap (λ (l : List ℕ). kOf area ++ l) f))))))
 
-pub length-keyOf : (area : List ℕ) → headWords ≤ length area → length (keyOf area) ≡ 8
+pub length-keyOf : (area : List ℕ) → headWords ≤ length area → length (kOf area) ≡ 8
 length-keyOf area h = length-take-le 8 (drop 6 area) (rw length-drop (omega arith))
 
 -- ---- the levels
@@ -83,11 +83,11 @@ sound-front area h = same-sound (take areaWords area) area (front-same area h)
 -- a text from what it tells
 unfoldable textBy : (phase r limit k d total count : ℕ) → List ℕ → List (List ℕ) → List ℕ
 textBy phase r limit k d total count key levels =
-    line (digits 2 phase ++ (digits 2 r ++ (digits 2 limit ++ (digits 2 k ++ (digits 4 d ++ (digits 16 total ++ digits 16 count))))))
+    line (hexDigits 2 phase ++ (hexDigits 2 r ++ (hexDigits 2 limit ++ (hexDigits 2 k ++ (hexDigits 4 d ++ (hexDigits 16 total ++ hexDigits 16 count))))))
     ++ (line (wordDigits key) ++ levelLines 1 (heldLevels phase limit total) levels)
 
 text-by : (area : List ℕ) → textOf area
-    ≡ textBy (getD area 0 0) (getD area 5 0) (getD area 4 0) (getD area 2 0) (getD area 3 0) (getD area 1 0) (getD area 14 0) (keyOf area) (levelsOf area)
+    ≡ textBy (getD area 0 0) (getD area 5 0) (getD area 4 0) (getD area 2 0) (getD area 3 0) (getD area 1 0) (getD area 14 0) (kOf area) (levelsOf area)
 unfolding textOf textBy
 text-by area = refl
 

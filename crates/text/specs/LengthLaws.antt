@@ -1,5 +1,4 @@
--- The length of a text: 45 and 129 bytes for the first two lines and 1,027 for each level that has one, at most 27,903.
--- Assumes nothing.
+-- Laws: the length of a text: 45 and 129 bytes for the first two lines and 1,027 for each level that has one, at most 27,903.
 use mathlib.Core.Path.{_≡_, refl, ap, _∙_}
 use mathlib.Core.Bool.{Bool, true, false}
 use mathlib.Core.List.{List, [], _∷_, _++_}
@@ -8,8 +7,8 @@ use native.Mathlib.Omega.{arith}
 use lib.Dec.{eqb}
 use lib.ListN.{length, getD, replicate, length-append, length-map, length-replicate}
 use Rattle.tree.specs.Tree.{mostLevels, blockBits}
-use Rattle.area.specs.Area.{Hold, headWords, blockWords, areaWords, phaseOf, totalOf, keyOf, doneBlocks, parallelHold, holdsAbove, openHolds, holdsFor, levelWords, levelsFrom, levelsOf}
-use Rattle.digits.specs.Digits.{digits, wordDigits}
+use Rattle.area.specs.Area.{Hold, headWords, blockWords, areaWords, phaseOf, totalOf, kOf, doneBlocks, parallelHold, holdsAbove, openHolds, holdsFor, levelWords, levelsFrom, levelsOf}
+use Rattle.digits.specs.Digits.{hexDigits, wordDigits}
 use Rattle.text.specs.Text.{line1, line2, levelLine, hasLine, heldLevels, heldOf, levelLines, textOf, line1Bytes, line2Bytes, levelBytes}
 use Rattle.digits.specs.DigitLaws.{length-digits, length-wordDigits}
 use Rattle.text.specs.LayoutLaws.{length-keyOf, length-levelWords}
@@ -18,13 +17,13 @@ pub length-line1 : (area : List ℕ) → length (line1 area) ≡ line1Bytes
 length-line1 area = simp (length-append, length-digits)
 
 pub length-line2 : (area : List ℕ) → headWords ≤ length area → length (line2 area) ≡ line2Bytes
-length-line2 area h = rw (length-append (wordDigits (keyOf area)) (10 ∷ []), length-wordDigits (keyOf area), length-keyOf area h)
+length-line2 area h = rw (length-append (wordDigits (kOf area)) (10 ∷ []), length-wordDigits (kOf area), length-keyOf area h)
 
 pub length-levelLine : (k : ℕ) (ws : List ℕ) → length ws ≡ blockWords → length (levelLine k ws) ≡ levelBytes
 length-levelLine k ws h =
     rw (
-      length-append (digits 2 k ++ wordDigits ws) (10 ∷ []),
-      length-append (digits 2 k) (wordDigits ws),
+      length-append (hexDigits 2 k ++ wordDigits ws) (10 ∷ []),
+      length-append (hexDigits 2 k) (wordDigits ws),
       length-digits 2 k,
       length-wordDigits ws,
       h,

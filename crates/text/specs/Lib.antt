@@ -1,10 +1,11 @@
-pub mod Text
-pub mod Answers
 pub mod FieldLaws
-pub mod LayoutLaws
 pub mod HeldLaws
+pub mod LayoutLaws
 pub mod LengthLaws
 pub mod Lines
-pub mod TextLaws
 pub mod ReadLaws
+pub mod ReadLeaves
+pub mod Terms
+pub mod Text
 pub mod TextExamples
+pub mod TextLaws

@@ -1,16 +1,18 @@
--- The lines of an area's levels, one level after the other, as the code goes through them.
--- Assumes nothing.
+-- Laws: the lines of an area's levels, one level after the other, as the code goes through them.
 use mathlib.Core.Path.{_≡_, refl, sym, ap, _∙_}
 use mathlib.Core.Bool.{Bool, true, false}
 use mathlib.Core.List.{List, [], _∷_, _++_, append-assoc}
+use mathlib.Core.Option.{Option, none, some, Option·getD}
 use Prim.Native.Nat.{ℕ, suc, _+_, _-_, _*_, _≤_, _<_}
 use native.Mathlib.Numerals.{add-one}
 use native.Mathlib.Omega.{arith}
-use lib.ListN.{length, drop, getD, replicate, length-append, drop-of-length-le}
+use lib.ListN.{length, take, drop, getD, replicate, length-append, drop-of-length-le}
 use lib.Seq.{drop-cons}
+use Rattle.lists.specs.Part.{put}
 use Rattle.tree.specs.Tree.{mostLevels}
 use Rattle.area.specs.Area.{headWords, blockWords, areaWords, phaseOf, totalOf, levelWords, levelsFrom, levelsOf}
-use Rattle.text.specs.Text.{line1, line2, levelLine, heldOf, levelLines, textOf, line1Bytes, line2Bytes, levelBytes, speltArea, readable}
+use Rattle.digits.specs.Digits.{speltWords, allSpelt}
+use Rattle.text.specs.Text.{line1, line2, levelLine, heldOf, levelLines, textOf, line1Bytes, line2Bytes, levelBytes, speltHead, speltArea, readable}
 use Rattle.text.specs.LayoutLaws.{length-levelWords}
 use Rattle.text.specs.LengthLaws.{length-line1, length-line2, length-levelLine, length-heldLevels, text-most}
 
@@ -26,9 +28,27 @@ linesAbove area k = levelLines (suc k) (drop k (heldOf area)) (levelsFrom area (
 unfoldable pub zeroLevels : List ℕ
 zeroLevels = replicate (mostLevels * blockWords) 0
 
--- whether a text is as long as the text of the area that it spells; if so, that area is at hand
+-- the words, where each is spelt
+abbrev pub values : List (Option ℕ) → List ℕ
+values ws = Option·getD (allSpelt ws) []
+
+-- whether the first two lines of a text spell words 0 to 15; if so, they are at hand, in an area whose levels are empty
+pub record HeadSpelt (r : Bool) (text area : List ℕ) : Type 0 where
+  pub yes : r ≡ true → (allSpelt (speltHead text) ≡ some (take headWords area)) × (area ≡ take headWords area ++ zeroLevels)
+  pub no : r ≡ false → allSpelt (speltHead text) ≡ none
+
+-- the words that a level's line spells
+abbrev pub levelSpelt : List ℕ → List (Option ℕ)
+levelSpelt line = speltWords blockWords (drop 2 line)
+
+-- whether a line spells a level's words; if so, the area on exit, last, is the area on entry with these words in the level's place
+pub record LevelSpelt (r : Bool) (level : ℕ) (line area last : List ℕ) : Type 0 where
+  pub yes : r ≡ true → (allSpelt (levelSpelt line) ≡ some (values (levelSpelt line))) × (last ≡ put (headWords + blockWords * (level - 1)) blockWords area (values (levelSpelt line)))
+  pub no : r ≡ false → allSpelt (levelSpelt line) ≡ none
+
+-- whether a text spells an area whose text is as long; if so, that area is at hand
 pub record Spelt (r : Bool) (text area : List ℕ) : Type 0 where
-  pub yes : r ≡ true → (area ≡ speltArea text) × (length text ≡ length (textOf area))
+  pub yes : r ≡ true → (speltArea text ≡ some area) × (length text ≡ length (textOf area))
   pub no : r ≡ false → readable text ≡ false
 
 -- ---- one level more

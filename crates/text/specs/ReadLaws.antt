@@ -1,10 +1,10 @@
--- Demand 2 for suspended text: reading what was written gives the same area; one text stands for one area; a text that is read
+-- Laws: demand 2 for suspended text: reading what was written gives the same area; one text stands for one area; a text that is read
 -- writes back as itself; and a text is read exactly if some sound area writes it.
--- Assumes nothing.
 use mathlib.Core.Path.{_≡_, refl, sym, ap, _∙_}
-use mathlib.Core.Bool.{true, not}
+use mathlib.Core.Bool.{true, not, cond}
 use mathlib.Core.List.{List, [], _∷_, _++_}
 use mathlib.Core.Logic.{_↔_}
+use mathlib.Core.Option.{Option, none, some, Option·some-injective}
 use Prim.Native.Nat.{ℕ, zero, suc, _^_, _≤_}
 use native.Mathlib.Omega.{arith}
 use borrow.Author.Tests.{eqb-true, eq-eqb, ltb-false, le-ltb, not-false}
@@ -12,35 +12,37 @@ use lib.Dec.{eqb, ltb}
 use lib.ListN.{length, take, drop, length-append}
 use lib.Seq.{take-at}
 use Rattle.lists.specs.Append.{cons-eq}
-use Rattle.lists.specs.Below.{Below, below-append, below-drop}
-use Rattle.tree.specs.Refusals.{orElse, refusedOutput}
+use Rattle.lists.specs.Below.{Below}
+use Rattle.lists.specs.BelowLaws.{below-append, below-drop}
+use Rattle.tree.specs.Refusals.{refusedOutput}
 use Rattle.area.specs.Area.{areaWords, sound}
-use Rattle.lists.specs.Both.{both-true, both-parts}
-use Rattle.tree.specs.RefusalLaws.{orElse-passed}
-use Rattle.text.specs.Text.{textOf, speltArea, same, readable, writeNumber, writeAnswer, writeOf, Taken, readNumber, readAnswer, readOf}
+use Rattle.lists.specs.And.{and-intro, and-parts}
+use Rattle.tree.specs.RefusalLaws.{test-passed}
+use Rattle.text.specs.Text.{textOf, speltArea, same, textIs, readable, writeNumber, writeAnswer, writeOf, Taken, readNumber, readAnswer, readOf}
 use Rattle.text.specs.LayoutLaws.{sound-front, text-front}
-use Rattle.text.specs.TextLaws.{SoundArea, spells-back, length-speltArea, speltArea-below}
+use Rattle.text.specs.TextLaws.{spells-back, length-speltArea, speltArea-below}
+use Rattle.text.specs.Terms.{SoundArea, WrittenBy}
 
 -- ---- tests
 
 pub same-refl : (xs : List ℕ) → same xs xs ≡ true
 same-refl [] = refl
-same-refl (x ∷ xs) = both-true (eq-eqb x x refl) (same-refl xs)
+same-refl (x ∷ xs) = and-intro (eq-eqb x x refl) (same-refl xs)
 
 pub same-eq : (xs ys : List ℕ) → same xs ys ≡ true → xs ≡ ys
 same-eq [] [] e = refl
 same-eq [] (y ∷ ys) e = let z : _≡_ {A = ℕ} 0 1 = cc in absurd (omega arith)
 same-eq (x ∷ xs) [] e = let z : _≡_ {A = ℕ} 0 1 = cc in absurd (omega arith)
 same-eq (x ∷ xs) (y ∷ ys) e =
-    let p = both-parts (eqb x y) (same xs ys) e in
+    let p = and-parts (eqb x y) (same xs ys) e in
     cons-eq (eqb-true x y (p .0)) (same-eq xs ys (p .1))
 
 -- ---- what is accepted
 
-pub read-accepted : (area text : List ℕ) → areaWords ≤ length area → readable text ≡ true
-    → readOf area text ≡ record { number = 0; count = 0; area = speltArea text ++ drop areaWords area }
+pub read-accepted : (area text new : List ℕ) → areaWords ≤ length area → speltArea text ≡ some new → readable text ≡ true
+    → readOf area text ≡ record { number = 0; count = 0; area = new ++ drop areaWords area }
 unfolding readOf readNumber
-read-accepted area text h e = rw (le-ltb (length area) areaWords h, e)
+read-accepted area text new h s e = rw (le-ltb (length area) areaWords h, e, s)
 
 pub read-number : (area text : List ℕ) → readOf area text .number ≡ readNumber area text
 unfolding readOf
@@ -57,8 +59,8 @@ read-refused area text k e = rw e
 pub read-passed : (area text : List ℕ) → readNumber area text ≡ 0 → (areaWords ≤ length area) × (readable text ≡ true)
 unfolding readNumber
 read-passed area text e =
-    let a = orElse-passed (ltb (length area) areaWords) 6 (orElse (not (readable text)) 11 0) e in
-    let b = orElse-passed (not (readable text)) 10 0 (a .1) in
+    let a = test-passed (ltb (length area) areaWords) 6 (cond (not (readable text)) 11 0) e in
+    let b = test-passed (not (readable text)) 10 0 (a .1) in
     (ltb-false (length area) areaWords (a .0), not-false (readable text) (b .0))
 
 pub write-number : (area out : List ℕ) → writeOf area out .number ≡ writeNumber area out
@@ -81,9 +83,9 @@ pub record WritePassed (area out : List ℕ) : Type 0 where
 pub write-passed : (area out : List ℕ) → writeNumber area out ≡ 0 → WritePassed area out
 unfolding writeNumber
 write-passed area out e =
-    let a = orElse-passed (ltb (length area) areaWords) 6 (orElse (not (sound area)) 7 (refusedOutput (length (textOf area)) out 0)) e in
-    let b = orElse-passed (not (sound area)) 6 (refusedOutput (length (textOf area)) out 0) (a .1) in
-    let c = orElse-passed (ltb (length out) (length (textOf area))) 8 0 (b .1) in
+    let a = test-passed (ltb (length area) areaWords) 6 (cond (not (sound area)) 7 (refusedOutput (length (textOf area)) out 0)) e in
+    let b = test-passed (not (sound area)) 6 (refusedOutput (length (textOf area)) out 0) (a .1) in
+    let c = test-passed (ltb (length out) (length (textOf area))) 8 0 (b .1) in
     record {
       long = ltb-false (length area) areaWords (a .0);
       is-sound = not-false (sound area) (b .0);
@@ -108,9 +110,8 @@ written-text area out e =
 pub text-readable : (area : List ℕ) → SoundArea area → readable (textOf area) ≡ true
 unfolding readable
 text-readable area s =
-    let e = spells-back area s in
-    both-true (ap sound e ∙ sound-front area (s .long) ∙ s .is-sound)
-    (ap (λ (x : List ℕ). same (textOf x) (textOf area)) e ∙ rw (text-front area (s .long)) (same-refl (textOf area)))
+    rw (spells-back area s) (and-intro (sound-front area (s .long) ∙ s .is-sound)
+    (rw (text-front area (s .long)) (same-refl (textOf area))))
 
 -- reading what was written is accepted and gives the same area in its first 1,744 words; the tail of the area read into stays
 pub read-back : (area out other : List ℕ) → Below (2 ^ 64) area → writeNumber area out ≡ 0 → areaWords ≤ length other
@@ -118,51 +119,73 @@ pub read-back : (area out other : List ℕ) → Below (2 ^ 64) area → writeNum
 read-back area out other b e h =
     let p = write-passed area out e in
     let s : SoundArea area = record { words = b; long = p .long; is-sound = p .is-sound } in
-    ap (readOf other) (written-text area out e)
-    ∙ read-accepted other (textOf area) h (text-readable area s)
-    ∙ ap (λ (x : List ℕ). record { number = 0; count = 0; area = x ++ drop areaWords other }) (spells-back area s)
+    ap (readOf other) (written-text area out e) ∙ read-accepted other (textOf area) (take areaWords area) h (spells-back area s) (text-readable area s)
 
 -- two sound areas with one text agree in those words
 pub one-text : (a b : List ℕ) → SoundArea a → SoundArea b → textOf a ≡ textOf b → take areaWords a ≡ take areaWords b
-one-text a b s t e = sym (spells-back a s) ∙ ap speltArea e ∙ spells-back b t
+one-text a b s t e =
+    Option·some-injective (take areaWords a) (take areaWords b) (sym (spells-back a s) ∙ ap speltArea e ∙ spells-back b t)
 
--- what a readable text spells is a sound area, and its text is that text
-readable-sound : (text : List ℕ) → readable text ≡ true → SoundArea (speltArea text) × (textOf (speltArea text) ≡ text)
+-- a readable text spells a sound area, and its text is that text
+pub record Readable (text : List ℕ) : Type 0 where
+  pub new : List ℕ
+  pub spelt : speltArea text ≡ some new
+  pub is : SoundArea new
+  pub writes : textOf new ≡ text
+
+pub readable-sound : (text : List ℕ) → readable text ≡ true → Readable text
 unfolding readable
-readable-sound text e =
-    let p = both-parts (sound (speltArea text)) (same (textOf (speltArea text)) text) e in
-    (record { words = speltArea-below text; long = omega (arith, length-speltArea text); is-sound = p .0 }, same-eq (textOf (speltArea text)) text (p .1))
+readable-sound text e = by (speltArea text) refl e
+  where
+    by : (o : Option (List ℕ)) → speltArea text ≡ o → textIs text o ≡ true → Readable text
+    by none f e = let z : _≡_ {A = ℕ} 0 1 = cc in absurd (omega arith)
+    by (some new) f e =
+        let p = and-parts (sound new) (same (textOf new) text) e in
+        record {
+          new = new;
+          spelt = f;
+          is = record { words = speltArea-below text new f; long = omega (arith, length-speltArea text new f); is-sound = p .0 };
+          writes = same-eq (textOf new) text (p .1);
+        }
 
-front : (text area : List ℕ) → take areaWords (speltArea text ++ drop areaWords area) ≡ speltArea text
-front text area = take-at (speltArea text) (drop areaWords area) areaWords (length-speltArea text)
+-- the area after an accepted read, new being what the text spells
+module _ (area text : List ℕ) (e : readNumber area text ≡ 0) where
+  accepted : Readable text
+  accepted = readable-sound text (read-passed area text e .1)
 
-front-long : (text area : List ℕ) → areaWords ≤ length (speltArea text ++ drop areaWords area)
-front-long text area = rw (length-append (speltArea text) (drop areaWords area), length-speltArea text) (omega arith)
+  last : List ℕ
+  last = accepted .new ++ drop areaWords area
+
+  read-last : readOf area text ≡ record { number = 0; count = 0; area = last }
+  unfolding last
+  read-last = let p = read-passed area text e in read-accepted area text (accepted .new) (p .0) (accepted .spelt) (p .1)
+
+  front : take areaWords last ≡ accepted .new
+  unfolding last
+  front = take-at (accepted .new) (drop areaWords area) areaWords (length-speltArea text (accepted .new) (accepted .spelt))
+
+  front-long : areaWords ≤ length last
+  unfolding last
+  front-long = rw (length-append (accepted .new) (drop areaWords area)) (omega (arith, accepted .is .long))
+
+  -- it is sound
+  read-sound-by : Below (2 ^ 64) area → SoundArea last
+  unfolding last
+  read-sound-by b = record {
+    words = below-append (accepted .is .words) (below-drop areaWords b);
+    long = front-long;
+    is-sound = sym (sound-front last front-long) ∙ ap sound front ∙ accepted .is .is-sound;
+  }
 
 -- an accepted read leaves a sound area
 pub read-sound : (area text : List ℕ) → Below (2 ^ 64) area → readNumber area text ≡ 0 → SoundArea (readOf area text .area)
-read-sound area text b e =
-    let p = read-passed area text e in
-    let s = readable-sound text (p .1) .0 in
-    let l = front-long text area in
-    rw (read-accepted area text (p .0) (p .1)) (record {
-      words = below-append (s .words) (below-drop areaWords b);
-      long = l;
-      is-sound = sym (sound-front (speltArea text ++ drop areaWords area) l) ∙ ap sound (front text area) ∙ s .is-sound;
-    })
+read-sound area text b e = rw (read-last area text e) (read-sound-by area text e b)
 
 -- a text that is read writes back as itself
 pub writes-back : (area text : List ℕ) → readNumber area text ≡ 0 → textOf (readOf area text .area) ≡ text
 writes-back area text e =
-    let p = read-passed area text e in
-    rw (read-accepted area text (p .0) (p .1))
-    (sym (text-front (speltArea text ++ drop areaWords area) (front-long text area)) ∙ ap textOf (front text area) ∙ readable-sound text (p .1) .1)
-
--- a sound area that writes a text
-pub record WrittenBy (text : List ℕ) : Type 0 where
-  pub area : List ℕ
-  pub is : SoundArea area
-  pub writes : textOf area ≡ text
+    rw (read-last area text e)
+    (sym (text-front (last area text e) (front-long area text e)) ∙ ap textOf (front area text e) ∙ accepted area text e .writes)
 
 -- "11, 0: text is not what writing some sound area gives"
 pub readable-iff : (area text : List ℕ) → areaWords ≤ length area → (readOf area text .number ≡ 0) ↔ WrittenBy text
@@ -172,9 +195,9 @@ readable-iff area text h = (there, back)
     there e =
         let p = read-passed area text (sym (read-number area text) ∙ e) in
         let s = readable-sound text (p .1) in
-        record { area = speltArea text; is = s .0; writes = s .1 }
+        record { area = s .new; is = s .is; writes = s .writes }
 
     back : WrittenBy text → readOf area text .number ≡ 0
     back w =
         let e : readable text ≡ true = ap readable (sym (w .writes)) ∙ text-readable (w .area) (w .is) in
-        ap (λ (x : Taken). x .number) (read-accepted area text h e)
+        ap (λ (x : Taken). x .number) (read-accepted area text (readable-sound text e .new) h (readable-sound text e .spelt) e)

@@ -1,15 +1,13 @@
--- A suspended stream as text. Document 01, "Suspended text", and the calls write and read. A text is a list of bytes.
--- Assumes nothing.
-use mathlib.Core.Bool.{Bool, true, false, not, _||_}
+-- Definitions: a suspended stream as text. Document 01, "Suspended text", and the calls write and read. A text is a list of bytes.
+use mathlib.Core.Bool.{Bool, true, false, not, _||_, _&&_, cond}
 use mathlib.Core.List.{List, [], _∷_, _++_, map}
+use mathlib.Core.Option.{Option, none, some, Option·getD}
 use Prim.Native.Nat.{ℕ, zero, suc, _+_}
 use lib.Dec.{eqb}
 use lib.ListN.{length, drop, getD}
-use Rattle.lists.specs.Concat.{concat}
-use Rattle.lists.specs.Both.{both}
-use Rattle.digits.specs.Digits.{digits, line, wordDigits, numberAt, speltWords}
-use Rattle.tree.specs.Refusals.{orElse, refusedOutput}
-use Rattle.area.specs.Area.{Hold, blockWords, areaWords, phaseOf, totalOf, keyBytesOf, keyOf, compressionsOf, levelsOf, emptyLevel, holdsFor, sound}
+use Rattle.digits.specs.Digits.{hexDigits, line, wordDigits, numberAt, speltWords, allSpelt}
+use Rattle.tree.specs.Refusals.{refusedOutput}
+use Rattle.area.specs.Area.{Hold, blockWords, areaWords, phaseOf, totalOf, keyBytesOf, kOf, compressionsOf, levelsOf, emptyLevel, holdsFor, sound}
 use Rattle.area.specs.Calls.{refusedShort, refusedArea}
 
 -- ---- the text of an area
@@ -18,18 +16,18 @@ use Rattle.area.specs.Calls.{refusedShort, refusedArea}
 abbrev pub line1 : List ℕ → List ℕ
 line1 area =
     line
-    (digits 2 (phaseOf area)
-    ++ (digits 2 (getD area 5 0)
-    ++ (digits 2 (getD area 4 0)
-    ++ (digits 2 (keyBytesOf area) ++ (digits 4 (getD area 3 0) ++ (digits 16 (totalOf area) ++ digits 16 (compressionsOf area)))))))
+    (hexDigits 2 (phaseOf area)
+    ++ (hexDigits 2 (getD area 5 0)
+    ++ (hexDigits 2 (getD area 4 0)
+    ++ (hexDigits 2 (keyBytesOf area) ++ (hexDigits 4 (getD area 3 0) ++ (hexDigits 16 (totalOf area) ++ hexDigits 16 (compressionsOf area)))))))
 
 -- "Line 2: K, 128 digits."
 abbrev pub line2 : List ℕ → List ℕ
-line2 area = line (wordDigits (keyOf area))
+line2 area = line (wordDigits (kOf area))
 
 -- "level (1 byte) and its 64 words, 1,026 digits"
 abbrev pub levelLine : ℕ → List ℕ → List ℕ
-levelLine level ws = line (digits 2 level ++ wordDigits ws)
+levelLine level ws = line (hexDigits 2 level ++ wordDigits ws)
 
 -- whether a level holds bits or has a sequential output
 abbrev pub hasLine : Hold → Bool
@@ -65,14 +63,15 @@ line2Bytes = 129
 abbrev pub levelBytes : ℕ
 levelBytes = 1027
 
--- the levels, from the lines of those that have one, in their order
-abbrev pub speltLevels : List Bool → List ℕ → List (List ℕ)
+-- the words of the levels, from the lines of those that have one, in their order. A level's number and the ends of lines are not
+-- spelt here: `readable` compares them with those of the area's text
+abbrev pub speltLevels : List Bool → List ℕ → List (Option ℕ)
 speltLevels [] text = []
-speltLevels (true ∷ hs) text = speltWords blockWords (drop 2 text) ∷ speltLevels hs (drop levelBytes text)
-speltLevels (false ∷ hs) text = emptyLevel ∷ speltLevels hs text
+speltLevels (true ∷ hs) text = speltWords blockWords (drop 2 text) ++ speltLevels hs (drop levelBytes text)
+speltLevels (false ∷ hs) text = map some emptyLevel ++ speltLevels hs text
 
 -- words 0 to 15, in the order of the area: phase, total, key bytes, d, L, r, K, compressions, 0
-unfoldable pub speltHead : List ℕ → List ℕ
+unfoldable pub speltHead : List ℕ → List (Option ℕ)
 speltHead text =
     numberAt text 0 2
     ∷ numberAt text 12 16
@@ -80,13 +79,15 @@ speltHead text =
     ∷ numberAt text 8 4
     ∷ numberAt text 4 2
     ∷ numberAt text 2 2
-    ∷ (speltWords 8 (drop line1Bytes text) ++ (numberAt text 28 16 ∷ 0 ∷ []))
+    ∷ (speltWords 8 (drop line1Bytes text) ++ (numberAt text 28 16 ∷ some 0 ∷ []))
 
--- the 1,744 words; which levels have a line goes by the phase, L and total of line 1
-unfoldable pub speltArea : List ℕ → List ℕ
-speltArea text =
-    let head : List ℕ = speltHead text in
-    head ++ concat (speltLevels (heldOf head) (drop (line1Bytes + line2Bytes) text))
+-- the 1,744 words, or none if a digit is refused; which levels have a line goes by the phase, L and total of line 1
+abbrev pub speltBelow : List ℕ → Option (List ℕ) → Option (List ℕ)
+speltBelow text none = none
+speltBelow text (some head) = allSpelt (map some head ++ speltLevels (heldOf head) (drop (line1Bytes + line2Bytes) text))
+
+unfoldable pub speltArea : List ℕ → Option (List ℕ)
+speltArea text = speltBelow text (allSpelt (speltHead text))
 
 -- ---- write text
 
@@ -119,19 +120,24 @@ abbrev pub same : List ℕ → List ℕ → Bool
 same [] [] = true
 same [] (y ∷ ys) = false
 same (x ∷ xs) [] = false
-same (x ∷ xs) (y ∷ ys) = both (eqb x y) (same xs ys)
+same (x ∷ xs) (y ∷ ys) = eqb x y && same xs ys
 
--- "text is not what writing some sound area gives": the area that the digits spell is sound, and writes this text
+-- "text is not what writing some sound area gives": a digit is refused, or the area that the digits spell is unsound or writes
+-- another text
+abbrev pub textIs : List ℕ → Option (List ℕ) → Bool
+textIs text none = false
+textIs text (some area) = sound area && same (textOf area) text
+
 unfoldable pub readable : List ℕ → Bool
-readable text = both (sound (speltArea text)) (same (textOf (speltArea text)) text)
+readable text = textIs text (speltArea text)
 
 -- "Read 7, 11"
 unfoldable pub readNumber : List ℕ → List ℕ → ℕ
-readNumber area text = refusedShort area (orElse (not (readable text)) 11 0)
+readNumber area text = refusedShort area (cond (not (readable text)) 11 0)
 
--- "words from 1,744 on are never touched"
+-- "words from 1,744 on are never touched"; a text that is read spells an area, so that [] never stands for one
 abbrev pub readAnswer : ℕ → List ℕ → List ℕ → Taken
-readAnswer zero area text = record { number = 0; count = 0; area = speltArea text ++ drop areaWords area }
+readAnswer zero area text = record { number = 0; count = 0; area = Option·getD (speltArea text) [] ++ drop areaWords area }
 readAnswer (suc k) area text = record { number = suc k; count = 0; area = area }
 
 unfoldable pub readOf : List ℕ → List ℕ → Taken

@@ -1,8 +1,8 @@
--- Texts by computing: of an opened area, of areas that hold bits, of an ended one; and texts that are not read.
--- Assumes nothing.
+-- Examples: texts by computing: of an opened area, of areas that hold bits, of an ended one; and texts that are not read.
 use mathlib.Core.Path.{_≡_, refl}
 use mathlib.Core.Bool.{true}
 use mathlib.Core.List.{List, [], _∷_, _++_, map}
+use mathlib.Core.Option.{none}
 use Prim.Native.Nat.{ℕ, _+_, _-_, _*_, _^_}
 use Prim.Native.Char.{code}
 use Prim.Native.String as string
@@ -12,7 +12,7 @@ use Rattle.compress.specs.Compress.{grown, compressed}
 use Rattle.tree.specs.Tree.{Params, keyWords, output}
 use Rattle.area.specs.Area.{areaWords, blockWords, paramsOf, levelsOf, withLevels, emptyLevel, emptyLevels, sound}
 use Rattle.area.specs.Calls.{withBit, outWords, receive, feedBit, feedBits, closeAbove, closing, openNumber, openedArea, openOf, fedBits, feedNumber, fedArea, feedOf, closedBy, endNumber, endedArea, digestOut, endOf}
-use Rattle.digits.specs.Digits.{digits, speltWords}
+use Rattle.digits.specs.Digits.{hexDigits, speltWords}
 use Rattle.text.specs.Text.{textOf, speltHead, speltArea, readable, writeNumber, writeOf, readNumber, readOf}
 
 -- the bytes of a text of ASCII characters
@@ -43,12 +43,12 @@ abbrev openedText : List ℕ
 openedText = ascii "01684003010000000000000000000000000000000000\n0102ab" ++ (zeros 122 ++ ascii "\n")
 
 opened-written : writeOf opened out ≡ record { number = 0; count = 174; text = openedText ++ drop 174 out }
-unfolding keyWords numbers openNumber openedArea openOf paramsOf levelsOf emptyLevels emptyLevel sound digits textOf writeNumber writeOf
+unfolding keyWords numbers openNumber openedArea openOf paramsOf levelsOf emptyLevels emptyLevel sound hexDigits textOf writeNumber writeOf mathlib.Core.List.flatten
 opened-written = refl
 
 -- it is read into an area that holds something else, whose last two words stay
 opened-read : readOf used openedText ≡ record { number = 0; count = 0; area = opened }
-unfolding keyWords numbers openNumber openedArea openOf paramsOf levelsOf emptyLevels emptyLevel sound digits textOf speltWords speltHead speltArea readable readNumber readOf
+unfolding keyWords numbers openNumber openedArea openOf paramsOf levelsOf emptyLevels emptyLevel sound hexDigits textOf speltWords speltHead speltArea readable readNumber readOf mathlib.Core.List.flatten
 opened-read = refl
 
 -- ---- areas that hold bits
@@ -56,14 +56,20 @@ opened-read = refl
 abbrev ones : ℕ → Params → List ℕ
 ones n P = feedOf (openOf used P .area) (replicate (n + 1) 255) n out .area
 
+-- line 2 of an area without a key
+abbrev noKey : List ℕ
+noKey = zeros 128 ++ ascii "\n"
+
 -- no key, d = 8, r = 0
 abbrev plain : ℕ → Params
 plain limit = record { key = []; d = 8; limit = limit; rounds = 0 }
 
 -- nine bits, L = 64: a line for level 1
-nine-bits : textOf (ones 9 (plain 64))
-    ≡ ascii "01004000000800000000000000090000000000000000\n" ++ (zeros 128 ++ (ascii "\n01ff8" ++ (zeros 1021 ++ ascii "\n")))
-unfolding keyWords numbers output compressed grown paramsOf levelsOf withLevels emptyLevels emptyLevel sound withBit outWords receive feedBit feedBits openNumber openedArea openOf fedBits feedNumber fedArea feedOf digits textOf
+abbrev nineText : List ℕ
+nineText = ascii "01004000000800000000000000090000000000000000\n" ++ (noKey ++ (ascii "01ff8" ++ (zeros 1021 ++ ascii "\n")))
+
+nine-bits : textOf (ones 9 (plain 64)) ≡ nineText
+unfolding keyWords numbers output compressed grown paramsOf levelsOf withLevels emptyLevels emptyLevel sound withBit outWords receive feedBit feedBits openNumber openedArea openOf fedBits feedNumber fedArea feedOf hexDigits textOf mathlib.Core.List.flatten
 nine-bits = refl
 
 -- 4,097 bits, all ones, L = 1: one compression. Level 2 is sequential and has no output yet, and what it holds follows 16 words
@@ -77,51 +83,75 @@ twoLevels =
 abbrev twoLevelsText : List ℕ
 twoLevelsText =
     ascii "01000100000800000000000010010000000000000001\n"
-    ++ (zeros 128 ++ (ascii "\n018" ++ (zeros 1023 ++ (ascii "\n02" ++ (zeros 256 ++ (replicate 256 102 ++ (zeros 512 ++ ascii "\n")))))))
+    ++ (noKey ++ (ascii "018" ++ (zeros 1023 ++ (ascii "\n02" ++ (zeros 256 ++ (replicate 256 102 ++ (zeros 512 ++ ascii "\n")))))))
 
 two-levels : (textOf twoLevels ≡ twoLevelsText) × (readable twoLevelsText ≡ true)
-unfolding numbers paramsOf levelsOf emptyLevel sound digits textOf speltWords speltHead speltArea readable
+unfolding numbers paramsOf levelsOf emptyLevel sound hexDigits textOf speltWords speltHead speltArea readable mathlib.Core.List.flatten
 two-levels = (refl, refl)
 
 -- ---- an ended area: two lines, one compression for the empty message
 
-ended-text : textOf (endOf (openOf used (plain 64) .area) out out .area) ≡ ascii "02004000000800000000000000000000000000000001\n" ++ (zeros 128 ++ ascii "\n")
-unfolding keyWords numbers output compressed grown paramsOf levelsOf withLevels emptyLevels emptyLevel sound outWords closeAbove closing openNumber openedArea openOf closedBy endNumber endedArea digestOut endOf digits textOf
+ended-text : textOf (endOf (openOf used (plain 64) .area) out out .area) ≡ ascii "02004000000800000000000000000000000000000001\n" ++ noKey
+unfolding keyWords numbers output compressed grown paramsOf levelsOf withLevels emptyLevels emptyLevel sound outWords closeAbove closing openNumber openedArea openOf closedBy endNumber endedArea digestOut endOf hexDigits textOf mathlib.Core.List.flatten
 ended-text = refl
 
--- ---- texts that are not read: each of them differs from a text that is read in one thing
+-- ---- texts that are not read, and texts that are, from which each but the empty one differs in one thing
 
-abbrev rest : List ℕ
-rest = zeros 128 ++ ascii "\n"
+-- an opened area without a key, d = 8, L = 64, r = 0
+abbrev plainText : List ℕ
+plainText = ascii "01004000000800000000000000000000000000000000\n" ++ noKey
+
+abbrev undamaged : List (List ℕ)
+undamaged =
+    openedText
+    ∷ plainText
+    ∷ nineText
+    -- r = 10; a key of one byte
+    ∷ (ascii "010a4000000800000000000000000000000000000000\n" ++ noKey)
+    ∷ (ascii "01004001000800000000000000000000000000000000\na0" ++ drop 2 noKey)
+    ∷ []
+
+undamaged-read : map (λ (text : List ℕ). readOf used text .number) undamaged ≡ replicate 5 0
+unfolding numbers paramsOf levelsOf emptyLevel sound hexDigits textOf speltWords speltHead speltArea readable readNumber readOf mathlib.Core.List.flatten
+undamaged-read = refl
+
+-- "a capital is refused": in r, in K, in a level's words; and a byte that is neither digit nor letter, in the total
+abbrev noDigits : List (List ℕ)
+noDigits =
+    (ascii "010A4000000800000000000000000000000000000000\n" ++ noKey)
+    ∷ (ascii "01004001000800000000000000000000000000000000\nA0" ++ drop 2 noKey)
+    ∷ (ascii "01004000000800000000000000090000000000000000\n" ++ (noKey ++ (ascii "01fF8" ++ (zeros 1021 ++ ascii "\n"))))
+    ∷ (ascii "010040000008 0000000000000000000000000000000\n" ++ noKey)
+    ∷ []
+
+-- they spell no area
+nothing-spelt : map speltArea noDigits ≡ replicate 4 none
+unfolding numbers paramsOf levelsOf emptyLevel sound hexDigits speltWords speltHead speltArea
+nothing-spelt = refl
 
 abbrev damaged : List (List ℕ)
 damaged =
-    -- a capital in r, or in K
-    (ascii "010A4000000800000000000000000000000000000000\n" ++ rest)
-    ∷ (ascii "01004001000800000000000000000000000000000000\nA0" ++ drop 2 rest)
-    -- a byte more, the last byte missing, no byte at all
-    ∷ (openedText ++ (10 ∷ []))
+    -- a byte more than the opened area's text, its last byte missing, no byte at all
+    (openedText ++ (10 ∷ []))
     ∷ take 173 openedText
     ∷ []
-    -- phase 0 and 3, L = 65, 65 key bytes, d = 0 and 513
-    ∷ (ascii "00004000000800000000000000000000000000000000\n" ++ rest)
-    ∷ (ascii "03004000000800000000000000000000000000000000\n" ++ rest)
-    ∷ (ascii "01004100000800000000000000000000000000000000\n" ++ rest)
-    ∷ (ascii "01004041000800000000000000000000000000000000\n" ++ rest)
-    ∷ (ascii "01004000000000000000000000000000000000000000\n" ++ rest)
-    ∷ (ascii "01004000020100000000000000000000000000000000\n" ++ rest)
-    -- a compression too many, a key byte past the key, a line of zeros, a held level without its line
-    ∷ (ascii "01004000000800000000000000000000000000000001\n" ++ rest)
-    ∷ (ascii "01004000000800000000000000000000000000000000\n01" ++ drop 2 rest)
-    ∷ (ascii "01004000000800000000000000000000000000000000\n" ++ (rest ++ (ascii "01" ++ (zeros 1024 ++ ascii "\n"))))
-    ∷ (ascii "01004000000800000000000000090000000000000000\n" ++ rest)
+    -- the plain text with phase 0 and 3, L = 65, 65 key bytes, d = 0 and 513
+    ∷ (ascii "00004000000800000000000000000000000000000000\n" ++ noKey)
+    ∷ (ascii "03004000000800000000000000000000000000000000\n" ++ noKey)
+    ∷ (ascii "01004100000800000000000000000000000000000000\n" ++ noKey)
+    ∷ (ascii "01004041000800000000000000000000000000000000\n" ++ noKey)
+    ∷ (ascii "01004000000000000000000000000000000000000000\n" ++ noKey)
+    ∷ (ascii "01004000020100000000000000000000000000000000\n" ++ noKey)
+    -- with a compression too many, a key byte past the key, a line of zeros
+    ∷ (ascii "01004000000800000000000000000000000000000001\n" ++ noKey)
+    ∷ (ascii "01004000000800000000000000000000000000000000\n01" ++ drop 2 noKey)
+    ∷ (plainText ++ (ascii "01" ++ (zeros 1024 ++ ascii "\n")))
+    -- nine bits without the line of level 1, with another number of it, with a bit past the nine
+    ∷ (ascii "01004000000800000000000000090000000000000000\n" ++ noKey)
+    ∷ (ascii "01004000000800000000000000090000000000000000\n" ++ (noKey ++ (ascii "02ff8" ++ (zeros 1021 ++ ascii "\n"))))
+    ∷ (ascii "01004000000800000000000000090000000000000000\n" ++ (noKey ++ (ascii "01ffc" ++ (zeros 1021 ++ ascii "\n"))))
     ∷ []
 
--- the text that they differ from
-undamaged : readable (ascii "010a4000000800000000000000000000000000000000\n" ++ rest) ≡ true
-unfolding numbers paramsOf levelsOf emptyLevel sound digits textOf speltWords speltHead speltArea readable
-undamaged = refl
-
-damaged-refused : map (λ (text : List ℕ). readOf used text .number) damaged ≡ replicate 15 11
-unfolding numbers paramsOf levelsOf emptyLevel sound digits textOf speltWords speltHead speltArea readable readNumber readOf
+damaged-refused : map (λ (text : List ℕ). readOf used text .number) (noDigits ++ damaged) ≡ replicate 19 11
+unfolding numbers paramsOf levelsOf emptyLevel sound hexDigits textOf speltWords speltHead speltArea readable readNumber readOf mathlib.Core.List.flatten
 damaged-refused = refl

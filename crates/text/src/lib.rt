@@ -1,6 +1,5 @@
 // A suspended stream as text. Document 01, "Suspended text".
 ghost use mathlib.Core.Path.{_≡_};
-ghost use Rattle.text.specs.Answers.{written, taken};
 ghost use Rattle.text.specs.Text.{writeOf, readOf};
 use node::Answer;
 use sound::Area;
@@ -12,7 +11,7 @@ mod spell; // spell.rt: the area that a text spells
 
 // Writes the text of an area.
 pub fn write(area: &[u64], text: &mut [u8]) -> Answer
-    ensures { λ o. ⌜ written (o .number) (o .count) (now (text .exit)) ≡ writeOf (now (area .entry)) (now (text .entry)) ⌝ }
+    ensures { λ o. ⌜ record { number = o .number; count = o .count; text = now (text .exit) } ≡ writeOf (now (area .entry)) (now (text .entry)) ⌝ }
 {
     if area.len() < Area::WORDS {
         return Answer::refused(7);
@@ -30,7 +29,7 @@ pub fn write(area: &[u64], text: &mut [u8]) -> Answer
 
 // Reads a text into an area, whatever it held. Nothing is stored before the text is known to be one that a sound area writes.
 pub fn read(area: &mut [u64], text: &[u8]) -> Answer
-    ensures { λ o. ⌜ taken (o .number) (o .count) (now (area .exit)) ≡ readOf (now (area .entry)) (now (text .entry)) ⌝ }
+    ensures { λ o. ⌜ record { number = o .number; count = o .count; area = now (area .exit) } ≡ readOf (now (area .entry)) (now (text .entry)) ⌝ }
 {
     if area.len() < Area::WORDS {
         return Answer::refused(7);

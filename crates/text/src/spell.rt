@@ -1,59 +1,63 @@
-// The area that a text spells, and whether it is the text of that area.
+// The area that a text spells, if no digit is refused, and whether it is the text of that area.
 ghost use mathlib.Core.Path.{_≡_};
-ghost use mathlib.Core.Bool.{true, false};
-ghost use mathlib.Core.List.{_++_};
-ghost use Prim.Native.Nat.{_+_, _-_, _*_, _≤_};
+ghost use mathlib.Core.Bool.{true, cond};
+ghost use mathlib.Core.List.{_++_, map};
+ghost use mathlib.Core.Option.{none, some};
+ghost use Prim.Native.Nat.{_+_, _≤_};
 ghost use lib.ListN.{length, take, drop, replicate};
-ghost use Rattle.lists.specs.Concat.{concat};
-ghost use Rattle.lists.specs.Part.{put};
 ghost use Rattle.tree.specs.Tree.{mostLevels};
-ghost use Rattle.area.specs.Area.{headWords, blockWords, areaWords};
-ghost use Rattle.digits.specs.Digits.{speltWords};
-ghost use Rattle.text.specs.Text.{heldOf, textOf, line1Bytes, line2Bytes, levelBytes, speltLevels, speltHead, speltArea, same, readable};
-ghost use Rattle.text.specs.Lines.{zeroLevels, linesAbove, Spelt};
+ghost use Rattle.area.specs.Area.{headWords, areaWords};
+ghost use Rattle.digits.specs.Digits.{allSpelt};
+ghost use Rattle.text.specs.Text.{heldOf, textOf, line1Bytes, line2Bytes, levelBytes, speltLevels, speltArea, same, readable};
+ghost use Rattle.text.specs.Lines.{zeroLevels, linesAbove, HeadSpelt, LevelSpelt, Spelt};
 use super::held;
 use super::lines;
 use super::put;
+use digits::Reading;
 use node::Params;
 use sound::Area;
 
-// Words 0 to 15 from the first two lines, into words that are zero.
-fn spell_head(area: &mut [u64], text: &[u8])
+// Words 0 to 15 from the first two lines, into words that are zero. Answers false at the first byte that is no digit.
+fn spell_head(area: &mut [u64], text: &[u8]) -> bool
     requires { ⌜ (now area ≡ replicate areaWords 0) × (line1Bytes + line2Bytes ≤ length (now text)) ⌝ }
-    ensures { λ _. ⌜ now (area .exit) ≡ speltHead (now (text .entry)) ++ zeroLevels ⌝ }
+    ensures { λ r. ⌜ HeadSpelt r (now (text .entry)) (now (area .exit)) ⌝ }
 {
     let mut a: usize = 0;
     let mut i = 0;
     while i < lines::FIELDS {
         let w = lines::FIELD_WORD[i];
         let e = lines::FIELD_END[i];
-        area[w] = digits::number(&text[a..e]);
+        match digits::number(&text[a..e]) {
+            Reading::Number(x) => area[w] = x,
+            Reading::NoDigit => return false,
+        }
         a = e;
         i += 1;
     }
     digits::spell_words(
         &mut area[lines::KEY..lines::KEY_END],
         &text[lines::LINE1..lines::HEAD_END],
-    );
+    )
 }
 
-// A level from its line.
-fn spell_level(area: &mut [u64], line: &[u8], level: u64)
+// A level from its line. Answers false at the first byte of its words that is no digit.
+fn spell_level(area: &mut [u64], line: &[u8], level: u64) -> bool
     requires { ⌜ (areaWords ≤ length (now area)) × (length (now line) ≡ levelBytes) × (1 ≤ level) × (level ≤ mostLevels) ⌝ }
-    ensures { λ _. ⌜ now (area .exit) ≡ put (headWords + blockWords * (level - 1)) blockWords (now (area .entry)) (speltWords blockWords (drop 2 (now (line .entry)))) ⌝ }
+    ensures { λ r. ⌜ LevelSpelt r level (now (line .entry)) (now (area .entry)) (now (area .exit)) ⌝ }
 {
     let a = Area::HEAD + Area::LEVEL * (level as usize - 1);
     let e = a + Area::LEVEL;
     digits::spell_words(
         &mut area[a..e],
         &line[lines::NUMBER_DIGITS..lines::LEVEL_DIGITS],
-    );
+    )
 }
 
-// The levels from their lines, into an area whose levels are empty.
-fn spell_levels(area: &mut [u64], text: &[u8])
+// The levels from their lines, into an area whose levels are empty. Answers false at the first byte of their words that is no
+// digit.
+fn spell_levels(area: &mut [u64], text: &[u8]) -> bool
     requires { ⌜ (length (now area) ≡ areaWords) × (drop headWords (now area) ≡ zeroLevels) × (length (now text) ≡ length (linesAbove (now area) 0)) ⌝ }
-    ensures { λ _. ⌜ now (area .exit) ≡ take headWords (now (area .entry)) ++ concat (speltLevels (heldOf (now (area .entry))) (now (text .entry))) ⌝ }
+    ensures { λ r. ⌜ cond r (some (now (area .exit))) none ≡ allSpelt (map some (take headWords (now (area .entry))) ++ speltLevels (heldOf (now (area .entry))) (now (text .entry))) ⌝ }
 {
     let mut at: usize = 0;
     let mut k: u64 = 0;
@@ -61,13 +65,17 @@ fn spell_levels(area: &mut [u64], text: &[u8])
         k += 1;
         if held::has_line(area, k) {
             let e = at + lines::LEVEL;
-            spell_level(area, &text[at..e], k);
+            if !spell_level(area, &text[at..e], k) {
+                return false;
+            }
             at = e;
         }
     }
+    true
 }
 
-// The area that a text spells, into words that are zero, if the text is as long as that area's.
+// The area that a text spells, into words that are zero. Answers false if a digit is refused or the text is not as long as that
+// area's.
 fn spell_area(area: &mut [u64], text: &[u8]) -> bool
     requires { ⌜ now area ≡ replicate areaWords 0 ⌝ }
     ensures { λ r. ⌜ Spelt r (now (text .entry)) (now (area .exit)) ⌝ }
@@ -75,12 +83,13 @@ fn spell_area(area: &mut [u64], text: &[u8]) -> bool
     if text.len() < lines::HEAD {
         return false;
     }
-    spell_head(area, text);
+    if !spell_head(area, text) {
+        return false;
+    }
     if text.len() != held::text_bytes(area) {
         return false;
     }
-    spell_levels(area, &text[lines::HEAD..]);
-    true
+    spell_levels(area, &text[lines::HEAD..])
 }
 
 // Whether two parts of one length hold the same bytes.
@@ -98,7 +107,7 @@ fn same_bytes(x: &[u8], y: &[u8]) -> bool
     true
 }
 
-// Whether an area's text, which is as long, is the given one: it is written again and compared.
+// Whether an area's text is the given one, which is as long: it is written again and compared.
 fn writes(area: &[u64], text: &[u8]) -> bool
     requires { ⌜ (areaWords ≤ length (now area)) × (length (now text) ≡ length (textOf (now area))) ⌝ }
     ensures { λ r. ⌜ r ≡ same (textOf (now (area .entry))) (now (text .entry)) ⌝ }
@@ -109,16 +118,18 @@ fn writes(area: &[u64], text: &[u8]) -> bool
     same_bytes(&again[0..n], text)
 }
 
-// Whether a text is what writing some sound area gives. Words that are zero are lent, and hold that area then.
+// Whether a text is what writing some sound area gives. The words that are lent are zero before; if it is, they hold that area
+// afterwards; if not, what they hold is left open.
 pub fn is_readable(area: &mut [u64], text: &[u8]) -> bool
     requires { ⌜ now area ≡ replicate areaWords 0 ⌝ }
-    ensures { λ r. ⌜ (r ≡ readable (now (text .entry))) × (r ≡ true → now (area .exit) ≡ speltArea (now (text .entry))) ⌝ }
+    ensures { λ r. ⌜ (r ≡ readable (now (text .entry))) × (r ≡ true → speltArea (now (text .entry)) ≡ some (now (area .exit))) ⌝ }
 {
     if !spell_area(area, text) {
         return false;
     }
-    if !sound::is_sound(area) {
+    let fits = sound::is_sound(area);
+    if !writes(area, text) {
         return false;
     }
-    writes(area, text)
+    fits
 }

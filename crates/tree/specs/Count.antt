@@ -1,29 +1,23 @@
--- How many nodes a tree has: level by level, in its order, and by a formula on the number of bits and the height limit.
--- Assumes nothing.
+-- Laws: how many nodes a tree has: level by level, in its order, and by a formula on the number of bits and the height limit.
 use mathlib.Core.Path.{_≡_, refl, sym, ap, _∙_}
-use mathlib.Core.Bool.{Bool, true, false}
-use mathlib.Core.List.{List, [], _∷_, _++_, map, List·Permᴰ, List·Permᴰ·nil, List·Permᴰ·cons, List·Permᴰ·swap, List·Permᴰ·trans}
+use mathlib.Core.Bool.{Bool, true, false, cond}
+use mathlib.Core.List.{List, [], _∷_, _++_, map, List·Permᴰ, List·Permᴰ·nil, List·Permᴰ·cons, List·Permᴰ·swap, List·Permᴰ·trans, flatten}
 use Prim.Native.Nat.{ℕ, zero, suc, _+_, _-_, _*_, _^_, _≤_, _<_}
 use native.Mathlib.Nat.{add-zero}
 use native.Mathlib.Omega.{arith}
-use borrow.Author.Tests.{eqb-false}
+use borrow.Author.Tests.{eqb-true, eqb-false}
 use lib.Dec.{eqb}
-use lib.ListN.{length, getD, length-map}
-use Rattle.lists.specs.Concat.{concat}
+use lib.ListN.{length, getD, replicate, length-map, length-replicate}
 use Rattle.bits.specs.Bits.{digit}
-use Rattle.tree.specs.Tree.{Params, Node, Mark, blockBits, sequentialBits, outputBits, mostLevels, blocks, tree, order}
-use Rattle.tree.specs.Sizes.{levelNodes, nodesIf, nodesFrom, treeNodes}
+use Rattle.tree.specs.Tree.{Params, Node, Mark, blockBits, sequentialBits, outputBits, mostLevels, blocks, levels, tree, order}
+use Rattle.tree.specs.Sizes.{levelNodes, nodesFrom, treeNodes}
 use Rattle.tree.specs.Place.{levelAt}
-use Rattle.tree.specs.TreeLaws.{counts, countsIf, levels-counts}
-use Rattle.tree.specs.Height.{Above, no-level, sequential-level, parallel-level, Levels, sequential-tree, parallel-tree, tree-levels}
-use Rattle.tree.specs.OrderLaws.{marked, order-levels}
+use Rattle.tree.specs.TreeLaws.{counts, levels-counts}
+use Rattle.tree.specs.Height.{Above, no-level, sequential-level, parallel-level, Levels, sequential-tree, parallel-tree, tree-levels, tree-enough}
+use Rattle.tree.specs.OrderLaws.{order-levels}
+use Rattle.tree.specs.Terms.{total, heightFrom, treeHeight, marked}
 
 -- ---- numbers: the nodes, and those that reach the last bit
-
--- the sum of what f gives for the elements of a list
-abbrev pub total {ℓ} : {A : Type ℓ} → (A → ℕ) → List A → ℕ
-total f [] = 0
-total f (x ∷ xs) = f x + total f xs
 
 total-append : {A : Type 0} (f : A → ℕ) (xs ys : List A) → total f (xs ++ ys) ≡ total f xs + total f ys
 total-append f [] ys = omega arith
@@ -37,11 +31,12 @@ total-perm f (List·Permᴰ·trans p q) = total-perm f p ∙ total-perm f q
 
 -- whatever is counted of the nodes in their order is counted level by level
 pub order-total : (f : Mark → ℕ) (P : Params) (M : List Bool) → total f (order P M) ≡ total (λ (ns : List Node). total f (marked ns)) (tree P M)
+unfolding flatten
 order-total f P M = total-perm f (order-levels P M) ∙ by-level (tree P M)
   where
-    by-level : (T : List (List Node)) → total f (concat (map marked T)) ≡ total (λ (ns : List Node). total f (marked ns)) T
+    by-level : (T : List (List Node)) → total f (flatten (map marked T)) ≡ total (λ (ns : List Node). total f (marked ns)) T
     by-level [] = refl
-    by-level (ns ∷ T) = total-append f (marked ns) (concat (map marked T)) ∙ ap (λ (k : ℕ). total f (marked ns) + k) (by-level T)
+    by-level (ns ∷ T) = total-append f (marked ns) (flatten (map marked T)) ∙ ap (λ (k : ℕ). total f (marked ns) + k) (by-level T)
 
 -- the order is as long as the levels together
 pub order-length : (P : Params) (M : List Bool) → length (order P M) ≡ total length (tree P M)
@@ -103,12 +98,12 @@ levelNodes-some m (suc k) = rw (levelNodes-suc m k) (omega arith)
 pub nodesFrom-bound : (n c : ℕ) → 0 < c → nodesFrom n c < 2 * c
 nodesFrom-bound zero c h = go (eqb c 1) (eqb-false c 1)
   where
-    go : (b : Bool) → (b ≡ false → c ≡ 1 → ⊥) → nodesIf b c (blocks 3 c) < 2 * c
+    go : (b : Bool) → (b ≡ false → c ≡ 1 → ⊥) → cond b c (c + blocks 3 c) < 2 * c
     go true f = omega arith
     go false f = omega (arith, f refl)
 nodesFrom-bound (suc n) c h = go (eqb c 1) (eqb-false c 1) (nodesFrom-bound n (blocks 4 c) (omega arith))
   where
-    go : (b : Bool) → (b ≡ false → c ≡ 1 → ⊥) → nodesFrom n (blocks 4 c) < 2 * (blocks 4 c) → nodesIf b c (nodesFrom n (blocks 4 c)) < 2 * c
+    go : (b : Bool) → (b ≡ false → c ≡ 1 → ⊥) → nodesFrom n (blocks 4 c) < 2 * (blocks 4 c) → cond b c (c + nodesFrom n (blocks 4 c)) < 2 * c
     go true f u = omega arith
     go false f u = omega (arith, f refl)
 
@@ -120,12 +115,12 @@ counts-nodes : (n m : ℕ) → total (λ (c : ℕ). c) (counts n m) ≡ treeNode
 counts-nodes zero m = omega arith
 counts-nodes (suc n) m = go n (blocks blockBits m) (omega arith) (counts-nodes n (outputBits * blocks blockBits m))
   where
-    if : (b : Bool) (c : ℕ) (above : List ℕ) (k : ℕ) → total (λ (c : ℕ). c) above ≡ k → total (λ (c : ℕ). c) (countsIf b c above) ≡ nodesIf b c k
+    if : (b : Bool) (c : ℕ) (above : List ℕ) (k : ℕ) → total (λ (c : ℕ). c) above ≡ k → total (λ (c : ℕ). c) (cond b (c ∷ []) (c ∷ above)) ≡ cond b c (c + k)
     if true c above k e = omega arith
     if false c above k e = omega arith
 
     go : (n c : ℕ) → 0 < c → total (λ (c : ℕ). c) (counts n (outputBits * c)) ≡ treeNodes n (outputBits * c)
-        → total (λ (c : ℕ). c) (countsIf (eqb c 1) c (counts n (outputBits * c))) ≡ nodesFrom n c
+        → total (λ (c : ℕ). c) (cond (eqb c 1) (c ∷ []) (c ∷ counts n (outputBits * c))) ≡ nodesFrom n c
     go zero c h e = if (eqb c 1) c (counts zero (outputBits * c)) (blocks 3 c) (e ∙ third c h)
     go (suc n) c h e = if (eqb c 1) c (counts (suc n) (outputBits * c)) (nodesFrom n (blocks 4 c)) (e ∙ ap (nodesFrom n) (fourth c h))
 
@@ -185,28 +180,15 @@ sequential-nodes P M h g = go (tree-levels P M) h g
 
 -- ---- the number of levels by a formula
 
-abbrev pub heightIf : Bool → ℕ → ℕ
-heightIf true above = 1
-heightIf false above = suc above
-
--- the levels from one of c nodes up; n of those above it may be parallel
-abbrev pub heightFrom : ℕ → ℕ → ℕ
-heightFrom zero c = heightIf (eqb c 1) 1
-heightFrom (suc n) c = heightIf (eqb c 1) (heightFrom n (blocks 4 c))
-
-abbrev pub treeHeight : ℕ → ℕ → ℕ
-treeHeight zero m = 1
-treeHeight (suc n) m = heightFrom n (blocks blockBits m)
-
-pub tree-height : (P : Params) (M : List Bool) → length (tree P M) ≡ treeHeight (P .limit) (length M)
-tree-height P M = sym (length-map (tree P M) length) ∙ ap length (levels-counts P (P .limit) 1 M) ∙ all (P .limit) (length M)
+pub levels-tall : (P : Params) (n level : ℕ) (M : List Bool) → length (levels P n level M) ≡ treeHeight n (length M)
+levels-tall P n level M = sym (length-map (levels P n level M) length) ∙ ap length (levels-counts P n level M) ∙ all n (length M)
   where
-    if : (b : Bool) (c : ℕ) (above : List ℕ) (k : ℕ) → length above ≡ k → length (countsIf b c above) ≡ heightIf b k
+    if : (b : Bool) (c : ℕ) (above : List ℕ) (k : ℕ) → length above ≡ k → length (cond b (c ∷ []) (c ∷ above)) ≡ cond b 1 (suc k)
     if true c above k e = refl
     if false c above k e = ap suc e
 
     go : (n c : ℕ) → 0 < c → length (counts n (outputBits * c)) ≡ treeHeight n (outputBits * c)
-        → length (countsIf (eqb c 1) c (counts n (outputBits * c))) ≡ heightFrom n c
+        → length (cond (eqb c 1) (c ∷ []) (c ∷ counts n (outputBits * c))) ≡ heightFrom n c
     go zero c h e = if (eqb c 1) c (counts zero (outputBits * c)) 1 refl
     go (suc n) c h e = if (eqb c 1) c (counts (suc n) (outputBits * c)) (heightFrom n (blocks 4 c)) (e ∙ ap (heightFrom n) (fourth c h))
 
@@ -214,16 +196,24 @@ tree-height P M = sym (length-map (tree P M) length) ∙ ap length (levels-count
     all zero m = refl
     all (suc n) m = go n (blocks blockBits m) (omega arith) (all n (outputBits * blocks blockBits m))
 
--- the formula at edges, up to the longest message: limit, bits and nodes
-abbrev pub edges : List (ℕ × ℕ × ℕ)
-edges =
-    (64, 0, 1) ∷ (64, 4096, 1) ∷ (64, 4097, 3) ∷ (64, 16384, 5) ∷ (64, 16385, 8) ∷ (0, 0, 1) ∷ (0, 3072, 1) ∷ (0, 3073, 2) ∷ (1, 4096, 1)
-    ∷ (1, 12288, 4) ∷ (1, 12289, 6) ∷ (2, 16384, 5) ∷ (64, 2 ^ 64 - 1, 6004799503160661) ∷ (27, 2 ^ 64 - 1, 6004799503160661)
-    ∷ (26, 2 ^ 64 - 1, 6004799503160662) ∷ (1, 2 ^ 64 - 1, 6004799503160662) ∷ (0, 2 ^ 64 - 1, 6004799503160662) ∷ []
+pub tree-height : (P : Params) (M : List Bool) → length (tree P M) ≡ treeHeight (P .limit) (length M)
+tree-height P M = levels-tall P (P .limit) 1 M
 
-pub edges-hold : map (λ (e : ℕ × ℕ × ℕ). treeNodes (e .0) (e .1)) edges ≡ map (λ (e : ℕ × ℕ × ℕ). e .2) edges
-edges-hold = refl
+-- 27 levels are reached: by every message of 2^64 - 1 bits, with a sequential level (L = 26) and without one
+pub highest : (P : Params) (M : List Bool) → length M ≡ 2 ^ 64 - 1 → 26 ≤ P .limit → length (tree P M) ≡ mostLevels
+highest P M h g = go (eqb (P .limit) 26) (eqb-true (P .limit) 26) (eqb-false (P .limit) 26)
+  where
+    go : (b : Bool) → (b ≡ true → P .limit ≡ 26) → (b ≡ false → P .limit ≡ 26 → ⊥) → length (tree P M) ≡ mostLevels
+    go true e f = tree-height P M ∙ rw (e refl, h)
+    go false e f = ap length (tree-enough P M (omega arith) (omega (arith, f refl))) ∙ levels-tall P mostLevels 1 M ∙ rw h
 
--- 27 levels are reached, with and without a sequential one
-pub highest : (treeHeight 64 (2 ^ 64 - 1) ≡ mostLevels) × (treeHeight 26 (2 ^ 64 - 1) ≡ mostLevels)
-highest = (refl, refl)
+-- and there is such a message, for every P with such a limit
+longest : List Bool
+longest = replicate (2 ^ 64 - 1) false
+
+length-longest : length longest ≡ 2 ^ 64 - 1
+unfolding longest
+length-longest = length-replicate (2 ^ 64 - 1) false
+
+pub highest-reached : (P : Params) → 26 ≤ P .limit → (M : List Bool) × (length M < 2 ^ 64) × (length (tree P M) ≡ mostLevels)
+highest-reached P g = (longest, omega (arith, length-longest), highest P longest length-longest g)

@@ -1,15 +1,15 @@
--- The rows of document 01, "Reels by hand", that are marked *: one table and one theorem, by computing; and the report's
+-- Examples: the rows of document 01, "Reels by hand", that are marked *: one table and one theorem, by computing; and the report's
 -- first example (C.1), which has 5 rounds.
 -- "r = 0 gives C = the last 16 words of B. Message all ones, L = 64 unless named, d = 8 unless named."
--- Assumes nothing.
 use mathlib.Core.Path.{_≡_, refl}
 use mathlib.Core.Bool.{true, false}
 use mathlib.Core.List.{List, [], _∷_, map}
-use Prim.Native.Nat.{ℕ}
+use Prim.Native.Nat.{ℕ, _-_, _^_}
 use lib.ListN.{length, replicate, getD}
 use Rattle.bits.specs.Bits.{bitsOf, numbers}
 use Rattle.compress.specs.Compress.{S, nextS, stepped, word, grown, compressed}
 use Rattle.tree.specs.Tree.{Params, Mark, keyWords, output, noChain, noNode, digest, order}
+use Rattle.tree.specs.Sizes.{treeNodes}
 
 -- a row: bits, d and L; nodes and digest; and each U or V that the row names, with the node's place in the order
 pub record Row : Type 0 where
@@ -57,7 +57,7 @@ computed w = record {
 }
 
 pub rows-hold : map computed rows ≡ rows
-unfolding numbers keyWords output noChain compressed grown
+unfolding numbers keyWords output noChain compressed grown mathlib.Core.List.flatten
 rows-hold = refl
 
 -- the report, C.1: the message "abc", d = 256, r = 5
@@ -65,3 +65,13 @@ pub first-example : digest (record { key = []; d = 256; limit = 64; rounds = 5 }
     ≡ numbers 8 32 (bitsOf 64 (0x8854c14dc284f840 ∷ 0xed71ad7ba542855c ∷ 0xe189633e48c797a5 ∷ 0x5121a746be48cec8 ∷ []))
 unfolding numbers keyWords output compressed grown word stepped S nextS
 first-example = refl
+
+-- the formula at edges, up to the longest message: limit, bits and nodes
+abbrev pub edges : List (ℕ × ℕ × ℕ)
+edges =
+    (64, 0, 1) ∷ (64, 4096, 1) ∷ (64, 4097, 3) ∷ (64, 16384, 5) ∷ (64, 16385, 8) ∷ (0, 0, 1) ∷ (0, 3072, 1) ∷ (0, 3073, 2) ∷ (1, 4096, 1)
+    ∷ (1, 12288, 4) ∷ (1, 12289, 6) ∷ (2, 16384, 5) ∷ (64, 2 ^ 64 - 1, 6004799503160661) ∷ (27, 2 ^ 64 - 1, 6004799503160661)
+    ∷ (26, 2 ^ 64 - 1, 6004799503160662) ∷ (1, 2 ^ 64 - 1, 6004799503160662) ∷ (0, 2 ^ 64 - 1, 6004799503160662) ∷ []
+
+pub edges-hold : map (λ (e : ℕ × ℕ × ℕ). treeNodes (e .0) (e .1)) edges ≡ map (λ (e : ℕ × ℕ × ℕ). e .2) edges
+edges-hold = refl

@@ -1,21 +1,21 @@
--- Document 01, "Tree": "U differs between any two nodes of one tree." Level by level, and in a level by index, U rises; and the
+-- Laws: Document 01, "Tree": "U differs between any two nodes of one tree." Level by level, and in a level by index, U rises; and the
 -- order holds the same nodes.
--- Assumes nothing.
 use mathlib.Core.Path.{_≡_, refl, sym, ap, _∙_}
 use mathlib.Core.Logic.{_≢_, ∥∥₁-elim}
 use mathlib.Core.HLevel.{¬-prop}
 use mathlib.Core.Bool.{Bool, true, false}
-use mathlib.Core.List.{List, [], _∷_, _++_, map, Permᴰ·map, Permᴰ·symm, Permᴰ·pairwise, Pairwise·nil, Pairwise·cons, List·Nodup, List·Memᴰ, List·Memᴰ·head, List·Memᴰ·tail}
+use mathlib.Core.List.{List, [], _∷_, _++_, map, Permᴰ·map, Permᴰ·symm, Permᴰ·pairwise, Pairwise·nil, Pairwise·cons, List·Nodup, List·Memᴰ, List·Memᴰ·head, List·Memᴰ·tail, flatten}
 use Prim.Native.Nat.{ℕ, zero, suc, _+_, _^_, _≤_, _<_}
 use native.Mathlib.Nat.{le-refl}
 use native.Mathlib.Omega.{arith}
 use borrow.Author.Tests.{eqb-true, eqb-false}
 use lib.Dec.{eqb}
 use lib.ListN.{length, drop, getD, length-map}
-use Rattle.lists.specs.Concat.{concat, map-append}
-use Rattle.tree.specs.Tree.{Params, Node, Mark, blockBits, sequentialBits, nodeU, node, output, words, blocks, padding, padded, par, seq, noChain, parallel, joined, levels, tree, order}
+use Rattle.lists.specs.Flatten.{map-append}
+use Rattle.tree.specs.Tree.{Params, Node, Mark, blockBits, sequentialBits, nodeU, node, output, words, blocks, padding, padded, par, seq, noChain, parallel, joinedOutputs, levels, tree, order}
 use Rattle.tree.specs.TreeLaws.{length-joined-parallel, levels-one, levels-more}
-use Rattle.tree.specs.OrderLaws.{marked, order-levels}
+use Rattle.tree.specs.OrderLaws.{order-levels}
+use Rattle.tree.specs.Terms.{marked}
 
 -- numbers that rise, from a first one on
 data Rising : ℕ → List ℕ → Type 0 where
@@ -57,20 +57,21 @@ module _ (P : Params) where
       next-index level i (seq-rising level p (suc i) (output (P .rounds) a) (suc n) (drop sequentialBits X) rest (rising-from (omega arith) r))
 
   -- a level has fewer than 2 ^ 56 nodes, so that its U are below those of the level above it
-  levels-rising : (n level : ℕ) (M : List Bool) → length M < 2 ^ 64 → Rising (nodeU level 0) (concat (map us (levels P n level M)))
+  levels-rising : (n level : ℕ) (M : List Bool) → length M < 2 ^ 64 → Rising (nodeU level 0) (flatten (map us (levels P n level M)))
+  unfolding flatten
   levels-rising zero level M h = seq-rising level (padding sequentialBits (length M)) 0 noChain (blocks sequentialBits (length M)) (padded sequentialBits M) [] none
   levels-rising (suc n) level M h = go (eqb (blocks blockBits (length M)) 1) refl (levels-rising n)
     where
       go : (b : Bool) → eqb (blocks blockBits (length M)) 1 ≡ b
-          → ((level : ℕ) (N : List Bool) → length N < 2 ^ 64 → Rising (nodeU level 0) (concat (map us (levels P n level N))))
-          → Rising (nodeU level 0) (concat (map us (levels P (suc n) level M)))
+          → ((level : ℕ) (N : List Bool) → length N < 2 ^ 64 → Rising (nodeU level 0) (flatten (map us (levels P n level N))))
+          → Rising (nodeU level 0) (flatten (map us (levels P (suc n) level M)))
       go true e up =
           rw (levels-one P n level M (eqb-true (blocks blockBits (length M)) 1 e))
           (par-rising level 1 (padding blockBits (length M)) 0 (blocks blockBits (length M)) (padded blockBits M) [] none)
       go false e up =
           rw (levels-more P n level M (omega (arith, eqb-false (blocks blockBits (length M)) 1 e)))
           (par-rising level 0 (padding blockBits (length M)) 0 (blocks blockBits (length M)) (padded blockBits M) _
-          (rising-from (omega arith) (up (suc level) (joined P (parallel P level false M)) (omega (arith, length-joined-parallel P level false M)))))
+          (rising-from (omega arith) (up (suc level) (joinedOutputs P (parallel P level false M)) (omega (arith, length-joined-parallel P level false M)))))
 
 abbrev markUs : List Mark → List ℕ
 markUs ms = map (λ (m : Mark). m .node .u) ms
@@ -80,9 +81,10 @@ marked-us [] = refl
 marked-us (n ∷ []) = refl
 marked-us (n ∷ m ∷ ns) = ap (λ (l : List ℕ). n .u ∷ l) (marked-us (m ∷ ns))
 
-levels-us : (T : List (List Node)) → markUs (concat (map marked T)) ≡ concat (map us T)
+levels-us : (T : List (List Node)) → markUs (flatten (map marked T)) ≡ flatten (map us T)
+unfolding flatten
 levels-us [] = refl
-levels-us (ns ∷ T) = map-append (λ (m : Mark). m .node .u) (marked ns) (concat (map marked T)) ∙ rw (marked-us ns, levels-us T)
+levels-us (ns ∷ T) = map-append (λ (m : Mark). m .node .u) (marked ns) (flatten (map marked T)) ∙ rw (marked-us ns, levels-us T)
 
 -- "U differs between any two nodes of one tree": in the list of the U of the order no number is found twice
 pub order-nodup : (P : Params) (M : List Bool) → length M < 2 ^ 64 → List·Nodup (map (λ (m : Mark). m .node .u) (order P M))

@@ -1,5 +1,4 @@
--- How many nodes stand above how many, and how high a tree is. Document 01, "Tree": "No tree has more than 27 levels."
--- Assumes nothing.
+-- Laws: how many nodes stand above how many, and how high a tree is. Document 01, "Tree": "No tree has more than 27 levels."
 use mathlib.Core.Path.{_≡_, refl, sym, ap, _∙_}
 use mathlib.Core.Bool.{Bool, true, false}
 use mathlib.Core.List.{List, [], _∷_}
@@ -9,7 +8,7 @@ use native.Mathlib.Omega.{arith}
 use borrow.Author.Tests.{eqb-true, eqb-false}
 use lib.Dec.{eqb}
 use lib.ListN.{length}
-use Rattle.tree.specs.Tree.{Params, Node, blockBits, sequentialBits, outputBits, mostLevels, blocks, parallel, sequential, joined, levels, tree, lastOr}
+use Rattle.tree.specs.Tree.{Params, Node, blockBits, sequentialBits, outputBits, mostLevels, blocks, parallel, sequential, joinedOutputs, levels, tree}
 use Rattle.tree.specs.TreeLaws.{length-parallel, length-sequential, length-joined-parallel, levels-one, levels-more}
 
 -- the outputs of at most 4 ^ (k + 1) blocks fill at most 4 ^ k blocks
@@ -33,7 +32,7 @@ module _ (P : Params) where
       go true e up = rw (levels-one P n level M (eqb-true (blocks blockBits (length M)) 1 e)) (omega arith)
       go false e up =
           rw (levels-more P n level M (some M e))
-          (omega (arith, up (suc level) (joined P (parallel P level false M)) (quarter k (length M) _ h (length-joined-parallel P level false M))))
+          (omega (arith, up (suc level) (joinedOutputs P (parallel P level false M)) (quarter k (length M) _ h (length-joined-parallel P level false M))))
 
   -- so the number of levels that may be parallel says nothing once it is more than k
   pub levels-enough : (n k level : ℕ) (M : List Bool) → length M ≤ blockBits * 4 ^ k → k < n → levels P n level M ≡ levels P (suc k) level M
@@ -48,43 +47,14 @@ module _ (P : Params) where
       go false e up =
           levels-more P n level M (some M e)
           ∙ ap (λ (above : List (List Node)). parallel P level false M ∷ above)
-          (up (suc level) (joined P (parallel P level false M)) (quarter k (length M) _ h (length-joined-parallel P level false M)) (omega arith))
+          (up (suc level) (joinedOutputs P (parallel P level false M)) (quarter k (length M) _ h (length-joined-parallel P level false M)) (omega arith))
           ∙ sym (levels-more P (suc k) level M (some M e))
-
-  -- there is a last level
-  pub last-level : (n level : ℕ) (M : List Bool) (x y : List Node) → lastOr x (levels P n level M) ≡ lastOr y (levels P n level M)
-  last-level zero level M x y = refl
-  last-level (suc n) level M x y = go (eqb (blocks blockBits (length M)) 1) refl
-    where
-      go : (b : Bool) → eqb (blocks blockBits (length M)) 1 ≡ b → lastOr x (levels P (suc n) level M) ≡ lastOr y (levels P (suc n) level M)
-      go true e = rw (levels-one P n level M (eqb-true (blocks blockBits (length M)) 1 e))
-      go false e = rw (levels-more P n level M (some M e))
-
-  -- a tree that has no more levels than may be parallel has one node in its last level
-  pub parallel-top : (n level : ℕ) (M : List Bool) → length (levels P n level M) ≤ n → length (lastOr [] (levels P n level M)) ≡ 1
-  parallel-top zero level M h = absurd (omega arith)
-  parallel-top (suc n) level M h = go (eqb (blocks blockBits (length M)) 1) refl h (parallel-top n)
-    where
-      above : List Bool
-      above = joined P (parallel P level false M)
-
-      go : (b : Bool) → eqb (blocks blockBits (length M)) 1 ≡ b → length (levels P (suc n) level M) ≤ suc n
-          → ((level : ℕ) (N : List Bool) → length (levels P n level N) ≤ n → length (lastOr [] (levels P n level N)) ≡ 1)
-          → length (lastOr [] (levels P (suc n) level M)) ≡ 1
-      go true e h up = rw (levels-one P n level M (eqb-true (blocks blockBits (length M)) 1 e)) (length-parallel P level true M ∙ eqb-true _ _ e)
-      go false e h up =
-          rw (levels-more P n level M (some M e), last-level n (suc level) above (parallel P level false M) [])
-          (up (suc level) above (let g : length (levels P (suc n) level M) ≡ suc (length (levels P n (suc level) above)) = ap length (levels-more P n level M (some M e)) in omega arith))
 
 -- "No tree has more than 27 levels": 2 ^ 64 bits are 4 ^ 26 blocks
 pub height : (P : Params) (M : List Bool) → length M < 2 ^ 64 → length (tree P M) ≤ mostLevels
 height P M h = levels-bound P (P .limit) 26 1 M (omega arith)
 
--- and so a limit of 27 or more never has a sequential level: the last level has one node
-pub no-sequential : (P : Params) (M : List Bool) → length M < 2 ^ 64 → mostLevels ≤ P .limit → length (lastOr [] (tree P M)) ≡ 1
-no-sequential P M h g = parallel-top P (P .limit) 1 M (omega (arith, height P M h))
-
--- and any such limit gives the levels that 27 parallel levels give
+-- so any limit of 27 or more gives the levels that 27 parallel levels give
 pub tree-enough : (P : Params) (M : List Bool) → length M < 2 ^ 64 → mostLevels ≤ P .limit → tree P M ≡ levels P mostLevels 1 M
 tree-enough P M h g = levels-enough P (P .limit) 26 1 M (omega arith) (omega arith)
 
@@ -121,7 +91,7 @@ module _ (P : Params) where
       go false e up =
           rw (levels-more P n level M (some M e))
           (parallel-level (under false)
-          (up (suc level) (length (parallel P level false M)) (joined P (parallel P level false M))
+          (up (suc level) (length (parallel P level false M)) (joinedOutputs P (parallel P level false M))
           (rw (length-parallel P level false M) (length-joined-parallel P level false M)) (omega (arith, length-parallel P level false M, some M e))))
 
 -- a tree has such levels
@@ -137,5 +107,5 @@ tree-levels P M = all (P .limit)
         go false e =
             rw (levels-more P n 1 M (some M e))
             (parallel-tree (length-parallel P 1 false M)
-            (levels-above P n 2 (length (parallel P 1 false M)) (joined P (parallel P 1 false M))
+            (levels-above P n 2 (length (parallel P 1 false M)) (joinedOutputs P (parallel P 1 false M))
             (rw (length-parallel P 1 false M) (length-joined-parallel P 1 false M)) (omega (arith, length-parallel P 1 false M, some M e))))

@@ -1,12 +1,11 @@
--- The order of nodes holds exactly the nodes of the levels; its last is the root; and of each level the last node alone reaches
+-- Laws: the order of nodes holds exactly the nodes of the levels; its last is the root; and of each level the last node alone reaches
 -- the message's last bit. Document 01, "Tree", "Order of nodes: each right after its last child, children from the left; a
 -- sequential node also after the node before it", and "Runs", "A node reaches the last bit if ..".
--- Assumes nothing.
 use mathlib.Core.Path.{_≡_, refl, sym, ap, _∙_, subst}
 use mathlib.Core.Bool.{Bool, true, false}
 use mathlib.Core.Logic.{_⊎_, inl, inr}
 use mathlib.Core.Option.{Option, none, some, Option·map, Option·none-ne-some}
-use mathlib.Core.List.{List, [], _∷_, _++_, map, append-nil, append-assoc, List·Permᴰ, List·Permᴰ·nil, List·Permᴰ·cons, List·Permᴰ·swap, List·Permᴰ·trans, Permᴰ·refl, Permᴰ·append-left, Permᴰ·append-right, Permᴰ·append-nil, Permᴰ·middle, Permᴰ·symm}
+use mathlib.Core.List.{List, [], _∷_, _++_, map, append-nil, append-assoc, List·Permᴰ, List·Permᴰ·nil, List·Permᴰ·cons, List·Permᴰ·swap, List·Permᴰ·trans, Permᴰ·refl, Permᴰ·append-left, Permᴰ·append-right, Permᴰ·append-nil, Permᴰ·middle, Permᴰ·symm, flatten}
 use Prim.Native.Nat.{ℕ, zero, suc, _+_, _*_, _≤_, _<_}
 use native.Mathlib.Nat.{mul-suc}
 use native.Mathlib.Omega.{arith}
@@ -15,19 +14,10 @@ use lib.Dec.{eqb, eqb·suc-suc}
 use lib.ListN.{length, getElem?, take, drop, length-drop, length-map}
 use lib.Seq.{take-all}
 use Rattle.lists.specs.Append.{cons-eq}
-use Rattle.lists.specs.Concat.{concat}
 use Rattle.tree.specs.Tree.{Params, Node, Mark, Subtree, blockBits, sequentialBits, leaves, anyReaches, listing, parent, parents, climb, lastIndex, subtrees, tree, order, lastOr, noNode, root}
 use Rattle.tree.specs.Place.{levelAt, nodeAt}
 use Rattle.tree.specs.Height.{Children, Above, no-level, sequential-level, parallel-level, Levels, sequential-tree, parallel-tree, tree-levels}
-
-abbrev pub mark : Node → Bool → Mark
-mark n b = record { node = n; reaches = b }
-
--- a level's nodes with their marks: the last of them reaches the message's last bit, and no other
-abbrev pub marked : List Node → List Mark
-marked [] = []
-marked (n ∷ []) = mark n true ∷ []
-marked (n ∷ m ∷ ns) = mark n false ∷ marked (m ∷ ns)
+use Rattle.tree.specs.Terms.{mark, marked, In, Placed}
 
 abbrev tops : List Subtree → List Mark
 tops ss = map (λ (s : Subtree). s .top) ss
@@ -88,16 +78,19 @@ leaves-nodes last index (a ∷ ns) = cons-eq refl (leaves-nodes last (suc index)
 -- ---- the listing holds the nodes below, and the tops
 
 leaves-listing : (last index : ℕ) (ns : List Node) → listing (leaves last index ns) ≡ tops (leaves last index ns)
+unfolding flatten
 leaves-listing last index [] = refl
 leaves-listing last index (a ∷ ns) = cons-eq refl (leaves-listing last (suc index) ns)
 
 listing-split : (k : ℕ) (ss : List Subtree) → listing (take k ss) ++ listing (drop k ss) ≡ listing ss
+unfolding flatten
 listing-split zero ss = refl
 listing-split (suc k) [] = refl
 listing-split (suc k) (s ∷ ss) = append-assoc (s .nodes) (listing (take k ss)) (listing (drop k ss)) ∙ ap (λ (l : List Mark). s .nodes ++ l) (listing-split k ss)
 
 parents-listing : (k : ℕ) (below : List Subtree) (ns : List Node) → length below ≤ k * length ns
     → List·Permᴰ (listing (parents k below ns)) (listing below ++ tops (parents k below ns))
+unfolding flatten
 parents-listing k [] [] h = List·Permᴰ·nil
 parents-listing k (s ∷ below) [] h = absurd (omega arith)
 parents-listing k below (a ∷ ns) h =
@@ -116,7 +109,7 @@ parents-listing k below (a ∷ ns) h =
 record Climbed (below : List Subtree) (T : List (List Node)) (ss : List Subtree) : Type 0 where
   last : Last ss
   nodes : topNodes ss ≡ lastOr (topNodes below) T
-  listed : List·Permᴰ (listing ss) (listing below ++ concat (map marked T))
+  listed : List·Permᴰ (listing ss) (listing below ++ flatten (map marked T))
   ends : ((x : Mark) → lastOr x (listing below) ≡ lastOr x (tops below)) → (x : Mark) → lastOr x (listing ss) ≡ lastOr x (tops ss)
 
 lastOr-append {ℓ} : {A : Type ℓ} (x : A) (xs ys : List A) → lastOr x (xs ++ ys) ≡ lastOr (lastOr x xs) ys
@@ -124,6 +117,7 @@ lastOr-append x [] ys = refl
 lastOr-append x (y ∷ xs) ys = lastOr-append y xs ys
 
 parents-ends : (k : ℕ) (below : List Subtree) (ns : List Node) (x : Mark) → lastOr x (listing (parents k below ns)) ≡ lastOr x (tops (parents k below ns))
+unfolding flatten
 parents-ends k below [] x = refl
 parents-ends k below (a ∷ ns) x =
     let m : Mark = mark a (anyReaches (take k below)) in
@@ -133,6 +127,7 @@ parents-ends k below (a ∷ ns) x =
 
 -- one level up
 climb-one : (k : ℕ) (below : List Subtree) (ns : List Node) → Last below → Children k (length below) (length ns) → Climbed below (ns ∷ []) (parents k below ns)
+unfolding flatten
 climb-one k [] [] l c = elim l [ ]
 climb-one k (s ∷ below) [] l c = absurd (omega arith)
 climb-one k below (a ∷ ns) l c = record {
@@ -154,16 +149,18 @@ length-tops {ss = ss} v = sym (length-map ss (λ (s : Subtree). s .top .node)) �
 
 -- one level and then others
 climb-on : {below mid ss : List Subtree} {ns : List Node} {T : List (List Node)} → Climbed below (ns ∷ []) mid → Climbed mid T ss → Climbed below (ns ∷ T) ss
+unfolding flatten
 climb-on {below} {mid} {ss} {ns} {T} v w =
     let p : List·Permᴰ (listing mid) (listing below ++ marked ns) = rw append-nil at (v .listed) in
     record {
       last = w .last;
       nodes = w .nodes ∙ ap (λ (x : List Node). lastOr x T) (v .nodes);
-      listed = List·Permᴰ·trans (w .listed) (rw append-assoc at (Permᴰ·append-right (concat (map marked T)) p));
+      listed = List·Permᴰ·trans (w .listed) (rw append-assoc at (Permᴰ·append-right (flatten (map marked T)) p));
       ends = λ f. w .ends (v .ends f);
     }
 
 climbed : {n c : ℕ} {T : List (List Node)} → Above n c T → (below : List Subtree) → Last below → length below ≡ c → Climbed below T (climb n below T)
+unfolding flatten
 climbed no-level below l e = record { last = l; nodes = refl; listed = Permᴰ·symm (Permᴰ·append-nil (listing below)); ends = λ f. f }
 climbed (sequential-level {c} {ns} h) below l e = climb-one 3 below ns l (rw e h)
 climbed (parallel-level {n} {c} {ns} {above} h a) below l e =
@@ -174,6 +171,7 @@ climbed (parallel-level {n} {c} {ns} {above} h a) below l e =
 
 -- level 1 stands above no subtree
 climb-leaves : (last : ℕ) (ns : List Node) → suc last ≡ length ns → Climbed [] (ns ∷ []) (leaves last 0 ns)
+unfolding flatten
 climb-leaves last ns e = record {
   last = l;
   nodes = leaves-nodes last 0 ns;
@@ -195,11 +193,13 @@ tree-climbed (parallel-tree {n} {m} {ns} {above} h a) =
 
 -- The order holds the nodes of the levels and no others, each as often as they do; and of each level the last node, and no
 -- other, reaches the message's last bit. (A permutation: a chain of swaps of neighbours.)
-pub order-levels : (P : Params) (M : List Bool) → List·Permᴰ (order P M) (concat (map marked (tree P M)))
+pub order-levels : (P : Params) (M : List Bool) → List·Permᴰ (order P M) (flatten (map marked (tree P M)))
+unfolding flatten
 order-levels P M = tree-climbed (tree-levels P M) .listed
 
 -- the last node of the order is the root, whether its level is parallel or sequential, and it reaches the last bit
 pub order-last : (P : Params) (M : List Bool) (x : Mark) → lastOr x (order P M) ≡ mark (root P M) true
+unfolding flatten
 order-last P M x = v .ends (λ y. refl) x ∙ last-top (v .last) x ∙ ap (λ (ns : List Node). mark (lastOr noNode ns) true) (v .nodes)
   where
     v : Climbed [] (tree P M) (subtrees (P .limit) (length M) (tree P M))
@@ -211,10 +211,6 @@ order-last P M x = v .ends (λ y. refl) x ∙ last-top (v .last) x ∙ ap (λ (n
     last-top (more {s = s} {ss = t ∷ ss} e l) x = last-top l (s .top)
 
 -- ---- the order and the places
-
--- an element stands in a list, at an index
-abbrev pub In {ℓ} : {A : Type ℓ} → A → List A → Type ℓ
-In a xs = (i : ℕ) × (getElem? xs i ≡ some a)
 
 in-left : {A : Type 0} (a : A) (xs ys : List A) (i : ℕ) → getElem? xs i ≡ some a → In a (xs ++ ys)
 in-left a [] ys i e = absurd (Option·none-ne-some a e)
@@ -250,13 +246,6 @@ marked-at (n ∷ []) (suc i) = refl
 marked-at (n ∷ m ∷ ns) zero = rw (ne-eqb 1 (length (n ∷ m ∷ ns)) (λ e. omega arith))
 marked-at (n ∷ m ∷ ns) (suc i) = marked-at (m ∷ ns) i ∙ rw (eqb·suc-suc (suc i) (length (m ∷ ns)))
 
--- where a marked node stands in a tree: its level and index; it reaches the last bit if it is the last of its level
-pub record Placed (T : List (List Node)) (m : Mark) : Type 0 where
-  pub level : ℕ
-  pub index : ℕ
-  pub at : nodeAt T level index ≡ some (m .node)
-  pub reaches : m .reaches ≡ eqb (suc index) (length (levelAt T level))
-
 placed-here : (ns : List Node) (T : List (List Node)) (m : Mark) (i : ℕ) → getElem? (marked ns) i ≡ some m → Placed (ns ∷ T) m
 placed-here ns T m i e = go (getElem? ns i) refl (sym (marked-at ns i) ∙ e)
   where
@@ -266,15 +255,16 @@ placed-here ns T m i e = go (getElem? ns i) refl (sym (marked-at ns i) ∙ e)
         let r : mark n (eqb (suc i) (length ns)) ≡ m = cc in
         record { level = 1; index = i; at = p ∙ ap (λ (x : Mark). some (x .node)) r; reaches = sym (ap (λ (x : Mark). x .reaches) r) }
 
-placed : (T : List (List Node)) (m : Mark) → In m (concat (map marked T)) → Placed T m
+placed : (T : List (List Node)) (m : Mark) → In m (flatten (map marked T)) → Placed T m
+unfolding flatten
 placed [] m (i, e) = absurd (Option·none-ne-some m e)
-placed (ns ∷ T) m r = go (in-append m (marked ns) (concat (map marked T)) r) (placed T m)
+placed (ns ∷ T) m r = go (in-append m (marked ns) (flatten (map marked T)) r) (placed T m)
   where
     up : (level index : ℕ) → nodeAt T level index ≡ some (m .node) → m .reaches ≡ eqb (suc index) (length (levelAt T level)) → Placed (ns ∷ T) m
     up zero index e q = absurd (Option·none-ne-some (m .node) e)
     up (suc level) index e q = record { level = suc (suc level); index = index; at = e; reaches = q }
 
-    go : In m (marked ns) ⊎ In m (concat (map marked T)) → (In m (concat (map marked T)) → Placed T m) → Placed (ns ∷ T) m
+    go : In m (marked ns) ⊎ In m (flatten (map marked T)) → (In m (flatten (map marked T)) → Placed T m) → Placed (ns ∷ T) m
     go (inl (i, e)) f = placed-here ns T m i e
     go (inr q) f = up (f q .level) (f q .index) (f q .at) (f q .reaches)
 
@@ -285,10 +275,11 @@ order-placed P M m r = placed (tree P M) m (in-perm m (order-levels P M) (r .0) 
 -- and the node of every place stands in the order, with that mark
 pub place-ordered : (P : Params) (M : List Bool) (level index : ℕ) (n : Node) → nodeAt (tree P M) level index ≡ some n
     → In (mark n (eqb (suc index) (length (levelAt (tree P M) level)))) (order P M)
+unfolding flatten
 place-ordered P M level index n e = let r = go (tree P M) level e in in-perm _ (Permᴰ·symm (order-levels P M)) (r .0) (r .1)
   where
-    go : (T : List (List Node)) (level : ℕ) → nodeAt T level index ≡ some n → In (mark n (eqb (suc index) (length (levelAt T level)))) (concat (map marked T))
+    go : (T : List (List Node)) (level : ℕ) → nodeAt T level index ≡ some n → In (mark n (eqb (suc index) (length (levelAt T level)))) (flatten (map marked T))
     go T zero e = absurd (Option·none-ne-some n e)
     go [] (suc level) e = absurd (Option·none-ne-some n e)
-    go (ns ∷ T) (suc zero) e = in-left _ (marked ns) (concat (map marked T)) index (marked-at ns index ∙ ap (Option·map (λ (n : Node). mark n (eqb (suc index) (length ns)))) e)
-    go (ns ∷ T) (suc (suc level)) e = in-right _ (marked ns) (concat (map marked T)) (go T (suc level) e)
+    go (ns ∷ T) (suc zero) e = in-left _ (marked ns) (flatten (map marked T)) index (marked-at ns index ∙ ap (Option·map (λ (n : Node). mark n (eqb (suc index) (length ns)))) e)
+    go (ns ∷ T) (suc (suc level)) e = in-right _ (marked ns) (flatten (map marked T)) (go T (suc level) e)

@@ -1,5 +1,4 @@
--- Where a node stands in a tree: its level, counted from 1, and its index in that level, counted from 0.
--- Assumes nothing.
+-- Definitions: where a node stands in a tree: its level, counted from 1, and its index in that level, counted from 0.
 use mathlib.Core.Path.{_≡_}
 use mathlib.Core.Option.{Option}
 use mathlib.Core.List.{List, [], _∷_}

@@ -1,6 +1,5 @@
--- What stands at a place of a tree: the node at a level and an index has their U and the tree's K, and the root's place holds
+-- Laws: what stands at a place of a tree: the node at a level and an index has their U and the tree's K, and the root's place holds
 -- the root.
--- Assumes nothing.
 use mathlib.Core.Path.{_≡_, refl, sym, ap, _∙_, subst}
 use mathlib.Core.Bool.{Bool, true, false}
 use mathlib.Core.Option.{Option, some}
@@ -9,12 +8,14 @@ use Prim.Native.Nat.{ℕ, zero, suc, _+_, _-_, _*_, _^_, _≤_, _<_}
 use native.Mathlib.Omega.{arith}
 use lib.Dec.{eqb}
 use lib.ListN.{length, drop, getD, getElem?}
-use Rattle.lists.specs.Below.{Below, below-append}
+use Rattle.lists.specs.Below.{Below}
+use Rattle.lists.specs.BelowLaws.{below-append}
 use Rattle.bits.specs.Bits.{digit}
 use Rattle.bits.specs.BitsLaws.{digit-le, length-numbers, numbers-below}
-use Rattle.tree.specs.Tree.{Params, Valid, Node, words, keyWords, nodeU, node, output, blocks, padding, padded, par, seq, noChain, parallel, sequential, joined, levels, tree, lastOr, noNode, rootOf, root}
+use Rattle.tree.specs.Tree.{Params, Valid, Node, words, keyWords, nodeU, node, output, blocks, padding, padded, par, seq, noChain, parallel, sequential, joinedOutputs, levels, tree, lastOr, noNode, rootOf, root}
 use Rattle.tree.specs.Place.{levelAt, nodeAt, RootAt}
 use Rattle.tree.specs.TreeLaws.{Words, keyWords-below, nodeU-inj, nodeU-below, nodeV-below, length-output-node, length-seqBlock, lastOnly, lastOnly-le, length-par, length-seq, length-parallel, length-sequential, length-joined-parallel, par-at, seq-at, chainAt, above, levels-some}
+use Rattle.tree.specs.Terms.{rootLevel, rootIndex}
 
 -- ---- a list's element at an index
 
@@ -26,7 +27,7 @@ index-below [] j a e = absurd (no-node a e)
 index-below (n ∷ ns) zero a e = omega arith
 index-below (n ∷ ns) (suc j) a e = omega (arith, index-below ns j a e)
 
-level-below : (T : List (List Node)) (l index : ℕ) (a : Node) → nodeAt T (suc l) index ≡ some a → l < length T
+pub level-below : (T : List (List Node)) (l index : ℕ) (a : Node) → nodeAt T (suc l) index ≡ some a → l < length T
 level-below [] l index a e = absurd (no-node a e)
 level-below (ns ∷ T) zero index a e = omega arith
 level-below (ns ∷ T) (suc l) index a e = omega (arith, level-below T l index a e)
@@ -34,7 +35,7 @@ level-below (ns ∷ T) (suc l) index a e = omega (arith, level-below T l index a
 -- ---- the node at a place
 
 -- what the definitions say of the node at a level and an index
-pub record Stands (P : Params) (level index : ℕ) (a : Node) : Type 0 where
+pub record AtPlace (P : Params) (level index : ℕ) (a : Node) : Type 0 where
   pub z : ℕ
   pub p : ℕ
   pub block : List ℕ
@@ -49,7 +50,7 @@ same-some a b e = cc
 
 module _ (P : Params) where
   par-stands : (level z p i n : ℕ) (X : List Bool) (j : ℕ) (a : Node) → z ≤ 1 → p ≤ 4096 → getElem? (par P level z p i n X) j ≡ some a
-      → Stands P level (i + j) a
+      → AtPlace P level (i + j) a
   par-stands level z p i n X j a hz hp e =
       let h : j < n = omega (arith, index-below (par P level z p i n X) j a e, length-par P level z p i n X) in
       record {
@@ -64,7 +65,7 @@ module _ (P : Params) where
       }
 
   seq-stands : (level p i : ℕ) (c : List Bool) (n : ℕ) (X : List Bool) (j : ℕ) (a : Node) → p ≤ 4096 → getElem? (seq P level p i c n X) j ≡ some a
-      → Stands P level (i + j) a
+      → AtPlace P level (i + j) a
   seq-stands level p i c n X j a hp e =
       let h : j < n = omega (arith, index-below (seq P level p i c n X) j a e, length-seq P level p i c n X) in
       record {
@@ -78,26 +79,26 @@ module _ (P : Params) where
         blockWords = below-append (numbers-below 64 16 (chainAt P level i c X j)) (numbers-below 64 48 (drop (3072 * j) X));
       }
 
-  parallel-stands : (level : ℕ) (alone : Bool) (M : List Bool) (j : ℕ) (a : Node) → getElem? (parallel P level alone M) j ≡ some a → Stands P level j a
+  parallel-stands : (level : ℕ) (alone : Bool) (M : List Bool) (j : ℕ) (a : Node) → getElem? (parallel P level alone M) j ≡ some a → AtPlace P level j a
   parallel-stands level alone M j a e =
       let s : 0 + j ≡ j = omega arith in
       rw s at (par-stands level (digit alone) (padding 4096 (length M)) 0 (blocks 4096 (length M)) (padded 4096 M) j a (digit-le alone) (omega arith) e)
 
-  sequential-stands : (level : ℕ) (M : List Bool) (j : ℕ) (a : Node) → getElem? (sequential P level M) j ≡ some a → Stands P level j a
+  sequential-stands : (level : ℕ) (M : List Bool) (j : ℕ) (a : Node) → getElem? (sequential P level M) j ≡ some a → AtPlace P level j a
   sequential-stands level M j a e =
       let s : 0 + j ≡ j = omega arith in
       rw s at (seq-stands level (padding 3072 (length M)) 0 noChain (blocks 3072 (length M)) (padded 3072 M) j a (omega arith) e)
 
   -- in the levels from one up, l levels above it
-  pub levels-stands : (n level : ℕ) (M : List Bool) (l i : ℕ) (a : Node) → nodeAt (levels P n level M) (suc l) i ≡ some a → Stands P (level + l) i a
+  pub levels-stands : (n level : ℕ) (M : List Bool) (l i : ℕ) (a : Node) → nodeAt (levels P n level M) (suc l) i ≡ some a → AtPlace P (level + l) i a
   levels-stands zero level M zero i a e =
       let s : level + 0 ≡ level = omega arith in
       rw s (sequential-stands level M i a e)
   levels-stands zero level M (suc l) i a e = absurd (no-node a e)
   levels-stands (suc n) level M l i a e = go (eqb (blocks 4096 (length M)) 1) l (λ Y k. levels-stands n (suc level) Y k i a) e
     where
-      go : (b : Bool) (l : ℕ) → ((Y : List Bool) (k : ℕ) → nodeAt (levels P n (suc level) Y) (suc k) i ≡ some a → Stands P (suc level + k) i a)
-          → nodeAt (above P n level b M) (suc l) i ≡ some a → Stands P (level + l) i a
+      go : (b : Bool) (l : ℕ) → ((Y : List Bool) (k : ℕ) → nodeAt (levels P n (suc level) Y) (suc k) i ≡ some a → AtPlace P (suc level + k) i a)
+          → nodeAt (above P n level b M) (suc l) i ≡ some a → AtPlace P (level + l) i a
       go true zero f e =
           let s : level + 0 ≡ level = omega arith in
           rw s (parallel-stands level true M i a e)
@@ -107,9 +108,9 @@ module _ (P : Params) where
           rw s (parallel-stands level false M i a e)
       go false (suc l) f e =
           let s : suc level + l ≡ level + suc l = omega arith in
-          rw s at (f (joined P (parallel P level false M)) l e)
+          rw s at (f (joinedOutputs P (parallel P level false M)) l e)
 
-  pub tree-stands : (M : List Bool) (level index : ℕ) (a : Node) → nodeAt (tree P M) level index ≡ some a → Stands P level index a
+  pub tree-stands : (M : List Bool) (level index : ℕ) (a : Node) → nodeAt (tree P M) level index ≡ some a → AtPlace P level index a
   tree-stands M zero index a e = absurd (no-node a e)
   tree-stands M (suc l) index a e =
       let s : 1 + l ≡ suc l = omega arith in
@@ -137,7 +138,7 @@ module _ (P : Params) where
     where
       go : (b : Bool) → ((Y : List Bool) → length (levels P n (suc level) Y) ≤ suc n) → length (above P n level b M) ≤ suc (suc n)
       go true f = omega arith
-      go false f = omega (arith, f (joined P (parallel P level false M)))
+      go false f = omega (arith, f (joinedOutputs P (parallel P level false M)))
 
   -- no level has more nodes than 3,072 bits a node need
   pub levels-width : (n level : ℕ) (M : List Bool) (l : ℕ) → length (levelAt (levels P n level M) (suc l)) ≤ blocks 3072 (length M)
@@ -150,7 +151,7 @@ module _ (P : Params) where
       go true zero f = omega (arith, length-parallel P level true M)
       go true (suc l) f = omega arith
       go false zero f = omega (arith, length-parallel P level false M)
-      go false (suc l) f = omega (arith, f (joined P (parallel P level false M)) l, length-joined-parallel P level false M)
+      go false (suc l) f = omega (arith, f (joinedOutputs P (parallel P level false M)) l, length-joined-parallel P level false M)
 
   -- a place of a tree is no higher than the levels that L allows; its index is below the nodes that 3,072 bits a node need
   pub tree-level : (M : List Bool) (level index : ℕ) (a : Node) → nodeAt (tree P M) level index ≡ some a → (1 ≤ level) × (level ≤ suc (P .limit))
@@ -194,7 +195,7 @@ module _ (P : Params) where
       go true zero f h = omega (arith, length-parallel P level true M)
       go true (suc l) f h = absurd (omega arith)
       go false zero f h = omega (arith, length-parallel P level false M)
-      go false (suc l) f h = f (joined P (parallel P level false M)) l (omega arith)
+      go false (suc l) f h = f (joinedOutputs P (parallel P level false M)) l (omega arith)
 
 last-level : (o : List Node) (T : List (List Node)) (l : ℕ) → suc l ≡ length T → getD T l [] ≡ lastOr o T
 last-level o [] l h = absurd (omega arith)
@@ -215,13 +216,6 @@ pub root-place : (T : List (List Node)) (level index : ℕ) → RootAt T level i
 root-place T zero index h = absurd (omega arith)
 root-place T (suc l) index h = rw (← (last-level [] T l (h .0))) (last-node noNode (getD T l []) index (h .1))
 
--- and stands in every tree: its level, and its index
-abbrev pub rootLevel : List (List Node) → ℕ
-rootLevel T = length T
-
-abbrev pub rootIndex : List (List Node) → ℕ
-rootIndex T = length (levelAt T (length T)) - 1
-
 pub root-at-levels : (P : Params) (n level : ℕ) (M : List Bool) → RootAt (levels P n level M) (rootLevel (levels P n level M)) (rootIndex (levels P n level M))
 root-at-levels P n level M = (refl, go (levels P n level M) (levels-some P n level M) (λ l h. levels-filled P n level M l h))
   where
@@ -234,14 +228,14 @@ root-at P M = root-at-levels P (P .limit) 1 M
 
 -- the root of the levels from one up stands in the last of them
 pub root-stands-levels : (P : Params) (n level : ℕ) (M : List Bool)
-    → Stands P (level + (rootLevel (levels P n level M) - 1)) (rootIndex (levels P n level M)) (rootOf (levels P n level M))
+    → AtPlace P (level + (rootLevel (levels P n level M) - 1)) (rootIndex (levels P n level M)) (rootOf (levels P n level M))
 root-stands-levels P n level M =
     let T : List (List Node) = levels P n level M in
     let s : rootLevel T ≡ suc (rootLevel T - 1) = omega (arith, levels-some P n level M) in
     let e : nodeAt T (rootLevel T) (rootIndex T) ≡ some (rootOf T) = root-place T (rootLevel T) (rootIndex T) (root-at-levels P n level M) in
     levels-stands P n level M (rootLevel T - 1) (rootIndex T) (rootOf T) (subst (λ (k : ℕ). nodeAt T k (rootIndex T) ≡ some (rootOf T)) s e)
 
-pub root-stands : (P : Params) (M : List Bool) → Stands P (rootLevel (tree P M)) (rootIndex (tree P M)) (root P M)
+pub root-stands : (P : Params) (M : List Bool) → AtPlace P (rootLevel (tree P M)) (rootIndex (tree P M)) (root P M)
 root-stands P M =
     tree-stands P M (rootLevel (tree P M)) (rootIndex (tree P M)) (root P M)
     (root-place (tree P M) (rootLevel (tree P M)) (rootIndex (tree P M)) (root-at P M))

@@ -1,7 +1,6 @@
--- Laws of Refusals: how long a piece's bits are, and what parameters that are not refused say.
--- Assumes nothing.
+-- Laws: of Refusals: how long a piece's bits are, and what parameters that are not refused say.
 use mathlib.Core.Path.{_≡_, refl}
-use mathlib.Core.Bool.{Bool, true, false}
+use mathlib.Core.Bool.{Bool, true, false, cond}
 use mathlib.Core.List.{List}
 use Prim.Native.Nat.{ℕ, suc, _*_, _≤_}
 use native.Mathlib.Omega.{arith}
@@ -11,7 +10,7 @@ use lib.ListN.{length, length-take}
 use Rattle.lists.specs.Below.{Below}
 use Rattle.bits.specs.BitsLaws.{length-bitsOf}
 use Rattle.tree.specs.Tree.{Params, Valid, mostKeyBytes, mostDigestBits, mostLimit, mostRounds}
-use Rattle.tree.specs.Refusals.{pieceBits, orElse, refusedSize, refusedParams}
+use Rattle.tree.specs.Refusals.{pieceBits, refusedSize, refusedParams}
 
 pub length-pieceBits : (bytes : List ℕ) (bits : ℕ) → bits ≤ 8 * length bytes → length (pieceBits bytes bits) ≡ bits
 length-pieceBits bytes bits h = simp (length-take, length-bitsOf) (omega arith)
@@ -19,14 +18,14 @@ length-pieceBits bytes bits h = simp (length-take, length-bitsOf) (omega arith)
 -- ---- tests in their order
 
 -- accepted: this test and those after it let the call pass
-pub orElse-passed : (b : Bool) (k later : ℕ) → orElse b (suc k) later ≡ 0 → (b ≡ false) × (later ≡ 0)
-orElse-passed true k later e = absurd (omega arith)
-orElse-passed false k later e = (refl, e)
+pub test-passed : (b : Bool) (k later : ℕ) → cond b (suc k) later ≡ 0 → (b ≡ false) × (later ≡ 0)
+test-passed true k later e = absurd (omega arith)
+test-passed false k later e = (refl, e)
 
 -- refused: if the tests of d, the key, L and r have a number, those after them do not matter
 tests-refused : (a b c d e : Bool) (later : ℕ)
-    → (orElse a 1 (orElse b 1 (orElse c 2 (orElse d 3 (orElse e 4 0)))) ≡ 0 → ⊥)
-    → orElse a 1 (orElse b 1 (orElse c 2 (orElse d 3 (orElse e 4 later)))) ≡ orElse a 1 (orElse b 1 (orElse c 2 (orElse d 3 (orElse e 4 0))))
+    → (_≡_ {A = ℕ} (cond a 1 (cond b 1 (cond c 2 (cond d 3 (cond e 4 0))))) 0 → ⊥)
+    → cond a 1 (cond b 1 (cond c 2 (cond d 3 (cond e 4 later)))) ≡ cond a 1 (cond b 1 (cond c 2 (cond d 3 (cond e 4 0))))
 tests-refused true b c d e later h = refl
 tests-refused false true c d e later h = refl
 tests-refused false false true d e later h = refl
@@ -43,8 +42,8 @@ size-refused d later h = tests-refused (ltb d 1) (ltb 512 d) false false false l
 
 pub size-accepted : (d later : ℕ) → refusedSize d 0 ≡ 0 → refusedSize d later ≡ later
 size-accepted d later h =
-    let a = orElse-passed (ltb d 1) 0 _ h in
-    let b = orElse-passed (ltb 512 d) 0 0 (a .1) in
+    let a = test-passed (ltb d 1) 0 _ h in
+    let b = test-passed (ltb 512 d) 0 0 (a .1) in
     rw (a .0, b .0)
 
 -- ---- the ranges of parameters that are not refused
@@ -58,11 +57,11 @@ pub record Ranges (P : Params) : Type 0 where
 
 pub params-ranges : (P : Params) → refusedParams P 0 ≡ 0 → Ranges P
 params-ranges P e =
-    let a = orElse-passed (ltb (P .d) 1) 0 _ e in
-    let c = orElse-passed (ltb 512 (P .d)) 0 _ (a .1) in
-    let k = orElse-passed (ltb 64 (length (P .key))) 1 _ (c .1) in
-    let l = orElse-passed (ltb 64 (P .limit)) 2 _ (k .1) in
-    let r = orElse-passed (ltb 255 (P .rounds)) 3 0 (l .1) in
+    let a = test-passed (ltb (P .d) 1) 0 _ e in
+    let c = test-passed (ltb 512 (P .d)) 0 _ (a .1) in
+    let k = test-passed (ltb 64 (length (P .key))) 1 _ (c .1) in
+    let l = test-passed (ltb 64 (P .limit)) 2 _ (k .1) in
+    let r = test-passed (ltb 255 (P .rounds)) 3 0 (l .1) in
     record {
       dLow = ltb-false (P .d) 1 (a .0);
       dHigh = ltb-false 512 (P .d) (c .0);

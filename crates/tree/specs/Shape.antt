@@ -1,6 +1,5 @@
--- U, V and the marks of the order go by the numbers alone: the message's length, the key's length, d, L and r. The bits of the
+-- Laws: U, V and the marks of the order go by the numbers alone: the message's length, the key's length, d, L and r. The bits of the
 -- message and of the key have no part in them.
--- Assumes nothing.
 use mathlib.Core.Path.{_≡_, refl, sym, ap, _∙_}
 use mathlib.Core.Bool.{Bool, true, false, _||_}
 use mathlib.Core.List.{List, [], _∷_, _++_, map}
@@ -10,10 +9,11 @@ use borrow.Author.Tests.{eqb-true, eqb-false}
 use lib.Dec.{eqb}
 use lib.ListN.{length, take, drop}
 use Rattle.lists.specs.Append.{cons-eq}
-use Rattle.lists.specs.Concat.{map-append}
+use Rattle.lists.specs.Flatten.{map-append}
 use Rattle.bits.specs.Bits.{digit}
-use Rattle.tree.specs.Tree.{Params, Node, Mark, Subtree, blockBits, sequentialBits, nodeU, nodeV, node, output, words, blocks, padding, padded, par, seq, noChain, parallel, sequential, joined, levels, tree, leaves, anyReaches, listing, parent, parents, climb, lastIndex, subtrees, order}
+use Rattle.tree.specs.Tree.{Params, Node, Mark, Subtree, blockBits, sequentialBits, nodeU, nodeV, node, output, words, blocks, padding, padded, par, seq, noChain, parallel, sequential, joinedOutputs, levels, tree, leaves, anyReaches, listing, parent, parents, climb, lastIndex, subtrees, order}
 use Rattle.tree.specs.TreeLaws.{length-joined-parallel, levels-one, levels-more}
+use Rattle.tree.specs.Terms.{shapeOf}
 
 -- a node without what comes from the bits of the message and of the key
 abbrev bare : Node → Node
@@ -42,6 +42,7 @@ any-bare [] = refl
 any-bare (s ∷ ss) = ap (λ (b : Bool). s .top .reaches || b) (any-bare ss)
 
 listing-bare : (ss : List Subtree) → listing (map bareTree ss) ≡ map bareMark (listing ss)
+unfolding mathlib.Core.List.flatten
 listing-bare [] = refl
 listing-bare (s ∷ ss) = ap (λ (l : List Mark). map bareMark (s .nodes) ++ l) (listing-bare ss) ∙ sym (map-append bareMark (s .nodes) (listing ss))
 
@@ -116,14 +117,10 @@ module _ (P Q : Params) (same : (z p : ℕ) → nodeV P z p ≡ nodeV Q z p) whe
           let h : 1 < blocks blockBits (length M) = omega (arith, eqb-false (blocks blockBits (length M)) 1 q) in
           rw (levels-more P n level M h, levels-more Q n level N (omega arith))
           (cons-eq (parallel-bare level false M N e)
-          (up (suc level) (joined P (parallel P level false M)) (joined Q (parallel Q level false N))
+          (up (suc level) (joinedOutputs P (parallel P level false M)) (joinedOutputs Q (parallel Q level false N))
           (omega (arith, length-joined-parallel P level false M, length-joined-parallel Q level false N))))
 
 -- ---- the order
-
--- U, V and whether the node reaches the last bit
-abbrev pub shapeOf : Mark → ℕ × ℕ × Bool
-shapeOf m = (m .node .u, m .node .v, m .reaches)
 
 shape-bare : (ms : List Mark) → map shapeOf ms ≡ map shapeOf (map bareMark ms)
 shape-bare [] = refl

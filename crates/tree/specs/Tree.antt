@@ -1,13 +1,11 @@
--- The tree of a message. Document 01, "Compression" (K, U, V) and "Tree"; the report, figures 2.4 to 2.6: each level from
+-- Definitions: the tree of a message. Document 01, "Compression" (K, U, V) and "Tree"; the report, figures 2.4 to 2.6: each level from
 -- the one below. A message is a list of bits, and so are the joined outputs of a level.
--- Assumes nothing.
-use mathlib.Core.Bool.{Bool, true, false, _||_}
-use mathlib.Core.List.{List, [], _∷_, _++_, map}
+use mathlib.Core.Bool.{Bool, true, false, cond, _||_}
+use mathlib.Core.List.{List, [], _∷_, _++_, map, flatten}
 use Prim.Native.Nat.{ℕ, zero, suc, _+_, _-_, _*_, _/_, _^_, _≤_, max}
 use lib.Dec.{eqb}
 use lib.ListN.{length, take, drop, replicate}
 use Rattle.lists.specs.Below.{Below}
-use Rattle.lists.specs.Concat.{concat}
 use Rattle.bits.specs.Bits.{digit, bitsOf, numbers}
 use Rattle.compress.specs.Compress.{compressed, windowOf}
 
@@ -74,12 +72,12 @@ abbrev pub nodeU : ℕ → ℕ → ℕ
 nodeU level index = level * 2 ^ 56 + index
 
 -- a field of so many bits, below those that stand above it
-abbrev pub field : ℕ → ℕ → ℕ → ℕ
-field above width x = above * 2 ^ width + x
+abbrev pub bitField : ℕ → ℕ → ℕ → ℕ
+bitField above width x = above * 2 ^ width + x
 
 -- "V, high to low: four zero bits, r (12 bits), L (8), z (4), p (16), key bytes (8), d (12)."
 abbrev pub nodeV : Params → ℕ → ℕ → ℕ
-nodeV P z p = field (field (field (field (field (field 0 12 (P .rounds)) 8 (P .limit)) 4 z) 16 p) 8 (length (P .key))) 12 (P .d)
+nodeV P z p = bitField (bitField (bitField (bitField (bitField (bitField 0 12 (P .rounds)) 8 (P .limit)) 4 z) 16 p) 8 (length (P .key))) 12 (P .d)
 
 abbrev pub node : Params → ℕ → ℕ → ℕ → ℕ → List ℕ → Node
 node P level index z p block = record { k = keyWords (P .key); u = nodeU level index; v = nodeV P z p; block = block }
@@ -125,22 +123,18 @@ sequential P level M =
     seq P level (padding sequentialBits (length M)) 0 noChain (blocks sequentialBits (length M)) (padded sequentialBits M)
 
 -- the outputs of a level, joined
-abbrev pub joined : Params → List Node → List Bool
-joined P ns = concat (map (output (P .rounds)) ns)
+abbrev pub joinedOutputs : Params → List Node → List Bool
+joinedOutputs P ns = flatten (map (output (P .rounds)) ns)
 
+-- the levels from this one up, over the bits M; n of them may be parallel, and the one above those is sequential;
 -- "One node only: it is the root": no level stands above it
-abbrev pub topIf : Bool → List Node → List (List Node) → List (List Node)
-topIf true ns above = ns ∷ []
-topIf false ns above = ns ∷ above
-
--- the levels from this one up, over the bits M; n of them may be parallel, and the one above those is sequential
 abbrev pub levels : Params → ℕ → ℕ → List Bool → List (List Node)
 levels P zero level M = sequential P level M ∷ []
 levels P (suc n) level M =
     let alone : Bool = eqb (blocks blockBits (length M)) 1 in
     let ns : List Node = parallel P level alone M in
-    let above : List (List Node) = levels P n (suc level) (joined P ns) in
-    topIf alone ns above
+    let above : List (List Node) = levels P n (suc level) (joinedOutputs P ns) in
+    cond alone (ns ∷ []) (ns ∷ above)
 
 -- "Levels count from 1. Level 1 works on the message, each higher level on the outputs below, joined."
 abbrev pub tree : Params → List Bool → List (List Node)
@@ -169,14 +163,14 @@ abbrev pub digestBytes : ℕ → ℕ
 digestBytes d = (d + 7) / 8
 
 -- the digest that a root gives, and that of a message
-abbrev pub digestOf : Params → Node → List ℕ
-digestOf P m = numbers 8 (digestBytes (P .d)) (rootBits P m ++ replicate 7 false)
+abbrev pub rootDigest : Params → Node → List ℕ
+rootDigest P m = numbers 8 (digestBytes (P .d)) (rootBits P m ++ replicate 7 false)
 
 abbrev pub digestBits : Params → List Bool → List Bool
 digestBits P M = rootBits P (root P M)
 
 abbrev pub digest : Params → List Bool → List ℕ
-digest P M = digestOf P (root P M)
+digest P M = rootDigest P (root P M)
 
 -- ---- the order of nodes
 
@@ -204,7 +198,7 @@ anyReaches [] = false
 anyReaches (s ∷ ss) = s .top .reaches || anyReaches ss
 
 abbrev pub listing : List Subtree → List Mark
-listing ss = concat (map (λ (s : Subtree). s .nodes) ss)
+listing ss = flatten (map (λ (s : Subtree). s .nodes) ss)
 
 -- "each right after its last child, children from the left"
 abbrev pub parent : Node → List Subtree → Subtree

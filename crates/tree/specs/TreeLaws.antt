@@ -1,8 +1,7 @@
--- Laws of the definitions in Tree: how long each list is, which node stands at an index of a level, and how the levels follow
+-- Laws: of the definitions in Tree: how long each list is, which node stands at an index of a level, and how the levels follow
 -- one another.
--- Assumes nothing.
 use mathlib.Core.Path.{_≡_, refl, sym, ap, _∙_}
-use mathlib.Core.Bool.{Bool, true, false}
+use mathlib.Core.Bool.{Bool, true, false, cond}
 use mathlib.Core.Option.{some}
 use mathlib.Core.List.{List, [], _∷_, _++_, map, append-nil}
 use Prim.Native.Nat.{ℕ, zero, suc, _+_, _-_, _*_, _/_, _%_, _^_, _≤_, _<_, max}
@@ -13,12 +12,13 @@ use lib.Dec.{eqb, eqb→eq, eqb·suc-suc, lit<, T}
 use lib.ListN.{length, drop, replicate, getElem?, length-append, length-replicate}
 use lib.Seq.{drop-drop, take-all}
 use Rattle.lists.specs.Append.{append-split, cons-eq}
-use Rattle.lists.specs.Below.{Below, none, more, below-append, below-zeros}
+use Rattle.lists.specs.Below.{Below, none, more}
+use Rattle.lists.specs.BelowLaws.{below-append, below-zeros}
 use Rattle.bits.specs.Bits.{digit, bitsOf}
 use Rattle.bits.specs.BitsLaws.{length-numbers, length-bitsOf, numbers-inj, bitsOf-inj, numbers-below, numbers-bitsOf}
 use Rattle.compress.specs.Compress.{Q, compressed, windowOf}
 use Rattle.compress.specs.CompressLaws.{length-compressed, compressed-below}
-use Rattle.tree.specs.Tree.{Params, Valid, Node, words, keyWords, nodeU, nodeV, node, output, blocks, padding, padded, par, seq, noChain, parallel, sequential, joined, topIf, levels, rootOf}
+use Rattle.tree.specs.Tree.{Params, Valid, Node, words, keyWords, nodeU, nodeV, node, output, blocks, padding, padded, par, seq, noChain, parallel, sequential, joinedOutputs, levels, rootOf}
 
 -- ---- K
 
@@ -145,34 +145,32 @@ pub data Sized (r : ℕ) : List Node → Type 0 where
   nil : Sized r []
   cons : {a : Node} {ns : List Node} → length (output r a) ≡ 1024 → Sized r ns → Sized r (a ∷ ns)
 
-pub length-joined : (P : Params) {ns : List Node} → Sized (P .rounds) ns → length (joined P ns) ≡ 1024 * length ns
+pub length-joined : (P : Params) {ns : List Node} → Sized (P .rounds) ns → length (joinedOutputs P ns) ≡ 1024 * length ns
+unfolding mathlib.Core.List.flatten
 length-joined P nil = refl
-length-joined P (cons {a = a} {ns = ns} h hs) = length-append (output (P .rounds) a) (joined P ns) ∙ omega (arith, length-joined P hs)
+length-joined P (cons {a = a} {ns = ns} h hs) = length-append (output (P .rounds) a) (joinedOutputs P ns) ∙ omega (arith, length-joined P hs)
 
 -- ---- the nodes of a parallel level
 
 -- what only the last of n nodes has: 0 at an index j before it
-abbrev pub onlyIf : Bool → ℕ → ℕ
-onlyIf true x = x
-onlyIf false x = 0
 
 abbrev pub lastOnly : ℕ → ℕ → ℕ → ℕ
-lastOnly n j x = onlyIf (eqb (suc j) n) x
+lastOnly n j x = cond (eqb (suc j) n) x 0
 
 pub lastOnly-before : (n j x : ℕ) → suc j < n → lastOnly n j x ≡ 0
 lastOnly-before n j x h = go (eqb (suc j) n) (eqb→eq (suc j) n)
   where
-    go : (b : Bool) → (T b → suc j ≡ n) → onlyIf b x ≡ 0
+    go : (b : Bool) → (T b → suc j ≡ n) → cond b x 0 ≡ 0
     go true f = absurd (omega (arith, f tt))
     go false f = refl
 
 pub lastOnly-suc : (n j x : ℕ) → lastOnly (suc n) (suc j) x ≡ lastOnly n j x
-lastOnly-suc n j x = ap (λ (b : Bool). onlyIf b x) (eqb·suc-suc (suc j) n)
+lastOnly-suc n j x = ap (λ (b : Bool). cond b x 0) (eqb·suc-suc (suc j) n)
 
 pub lastOnly-le : (n j x : ℕ) → lastOnly n j x ≤ x
 lastOnly-le n j x = go (eqb (suc j) n)
   where
-    go : (b : Bool) → onlyIf b x ≤ x
+    go : (b : Bool) → cond b x 0 ≤ x
     go true = omega arith
     go false = omega arith
 
@@ -182,7 +180,7 @@ padding-at size m j h g = go (eqb (suc j) (blocks size m)) refl
     q : ℕ
     q = (m + (size - 1)) / size
 
-    go : (b : Bool) → eqb (suc j) (blocks size m) ≡ b → onlyIf b (padding size m) ≡ size * suc j - m
+    go : (b : Bool) → eqb (suc j) (blocks size m) ≡ b → cond b (padding size m) 0 ≡ size * suc j - m
     go true e = rw (eqb-true (suc j) (blocks size m) e)
     go false e =
         let n : suc (suc j) ≤ q = omega (arith, eqb-false (suc j) (blocks size m) e) in
@@ -196,13 +194,10 @@ drop-next size j X =
     drop-drop (size * j) size X ∙ ap (λ (k : ℕ). drop k X) e
 
 -- the nodes of each level, from a level of m bits up, of which n may be parallel
-abbrev pub countsIf : Bool → ℕ → List ℕ → List ℕ
-countsIf true k above = k ∷ []
-countsIf false k above = k ∷ above
 
 abbrev pub counts : ℕ → ℕ → List ℕ
 counts zero m = blocks 3072 m ∷ []
-counts (suc n) m = countsIf (eqb (blocks 4096 m) 1) (blocks 4096 m) (counts n (1024 * blocks 4096 m))
+counts (suc n) m = cond (eqb (blocks 4096 m) 1) (blocks 4096 m ∷ []) (blocks 4096 m ∷ counts n (1024 * blocks 4096 m))
 
 module _ (P : Params) where
   pub length-par : (level z p i n : ℕ) (X : List Bool) → length (par P level z p i n X) ≡ n
@@ -314,7 +309,7 @@ module _ (P : Params) where
   pub length-sequential : (level : ℕ) (M : List Bool) → length (sequential P level M) ≡ blocks 3072 (length M)
   length-sequential level M = length-seq level (padding 3072 (length M)) 0 noChain (blocks 3072 (length M)) (padded 3072 M)
 
-  pub length-joined-parallel : (level : ℕ) (alone : Bool) (M : List Bool) → length (joined P (parallel P level alone M)) ≡ 1024 * blocks 4096 (length M)
+  pub length-joined-parallel : (level : ℕ) (alone : Bool) (M : List Bool) → length (joinedOutputs P (parallel P level alone M)) ≡ 1024 * blocks 4096 (length M)
   length-joined-parallel level alone M =
       length-joined P (parallel-sized level alone M) ∙ ap (λ (k : ℕ). 1024 * k) (length-parallel level alone M)
 
@@ -342,12 +337,12 @@ module _ (P : Params) where
   levels-one n level M e = rw e
 
   pub levels-more : (n level : ℕ) (M : List Bool) → 1 < blocks 4096 (length M)
-      → levels P (suc n) level M ≡ parallel P level false M ∷ levels P n (suc level) (joined P (parallel P level false M))
+      → levels P (suc n) level M ≡ parallel P level false M ∷ levels P n (suc level) (joinedOutputs P (parallel P level false M))
   levels-more n level M h = rw (ne-eqb (blocks 4096 (length M)) 1 (λ e. omega arith))
 
   -- one level and those above it, given whether it has one node only
   abbrev pub above : ℕ → ℕ → Bool → List Bool → List (List Node)
-  above n level alone M = topIf alone (parallel P level alone M) (levels P n (suc level) (joined P (parallel P level alone M)))
+  above n level alone M = cond alone (parallel P level alone M ∷ []) (parallel P level alone M ∷ levels P n (suc level) (joinedOutputs P (parallel P level alone M)))
 
   -- a tree is never empty
   pub levels-some : (n level : ℕ) (M : List Bool) → 0 < length (levels P n level M)
@@ -365,10 +360,10 @@ module _ (P : Params) where
   levels-counts (suc n) level M = go (eqb (blocks 4096 (length M)) 1) (λ Y. levels-counts n (suc level) Y)
     where
       go : (b : Bool) → ((Y : List Bool) → map length (levels P n (suc level) Y) ≡ counts n (length Y))
-          → map length (above n level b M) ≡ countsIf b (blocks 4096 (length M)) (counts n (1024 * blocks 4096 (length M)))
+          → map length (above n level b M) ≡ cond b (blocks 4096 (length M) ∷ []) (blocks 4096 (length M) ∷ counts n (1024 * blocks 4096 (length M)))
       go true f = ap (λ (k : ℕ). k ∷ []) (length-parallel level true M)
       go false f =
-          cons-eq (length-parallel level false M) (f (joined P (parallel P level false M)) ∙ ap (counts n) (length-joined-parallel level false M))
+          cons-eq (length-parallel level false M) (f (joinedOutputs P (parallel P level false M)) ∙ ap (counts n) (length-joined-parallel level false M))
 
 -- ---- the root
 

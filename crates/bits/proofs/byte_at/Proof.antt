@@ -1,5 +1,4 @@
 -- `bits::byte_at` meets its contract: past the end `getD` gives 0.
--- Assumes nothing.
 use mathlib.Core.Path.{sym}
 use Prim.Native.Nat.{_+_}
 use native.Mathlib.Omega.{arith}

@@ -1,5 +1,4 @@
 -- `bits::fill` meets its contract: from the start of a word, within a word, or up to the end of a word and then from the next on.
--- Assumes nothing.
 use mathlib.Core.Path.{_≡_}
 use Prim.Native.Nat.{_+_, _*_, _-_, _/_, _%_}
 use native.Mathlib.Omega.{arith}

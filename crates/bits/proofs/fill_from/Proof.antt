@@ -1,5 +1,4 @@
 -- `bits::fill_from` meets its contract: the whole words are filled, and then the rest.
--- Assumes nothing.
 use Prim.Native.Nat.{_+_, _*_, _/_, _%_}
 use native.Mathlib.Omega.{arith}
 use borrow.Author.Needs.{needs}

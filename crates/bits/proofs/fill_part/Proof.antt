@@ -1,5 +1,4 @@
 -- `bits::fill_part` meets its contract: the store of one word fills a part of it (Filling).
--- Assumes nothing.
 use mathlib.Core.Path.{_≡_, sym}
 use Prim.Native.Nat.{_+_, _*_, _-_}
 use native.Mathlib.Omega.{arith}

@@ -1,5 +1,4 @@
 -- `bits::fill_words` meets its contract. The invariant: the block is filled with the first 64 * i bits; a turn fills one word more (Filling).
--- Assumes nothing.
 use mathlib.Core.Path.{ap, _≡_, sym, _∙_}
 use Prim.Native.Nat.{_+_, _*_, _-_, _≤_}
 use native.Mathlib.Omega.{arith}

@@ -1,5 +1,4 @@
 -- `bits::joined` meets its contract: the shifted bytes share no bit, so that `|` is their sum (Shift).
--- Assumes nothing.
 use native.Mathlib.Omega.{arith}
 use borrow.Author.Needs.{needs}
 use Rattle.bits.proofs.Shift.{joined-bytes}

@@ -1,5 +1,4 @@
 -- `bits::load` meets its contract.
--- Assumes nothing.
 use borrow.Author.Needs.{needs}
 use Rattle.bits.specs.Read.{eightFrom}
 use Rattle.bits.proofs.load.Statement.{statement}

@@ -1,5 +1,4 @@
 -- `bits::load_end` meets its contract, by that of `byte_at`.
--- Assumes nothing.
 use native.Mathlib.Nat.{add-zero}
 use borrow.Author.Needs.{needs}
 use Rattle.bits.specs.Read.{eightFrom}

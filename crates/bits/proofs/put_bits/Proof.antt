@@ -1,5 +1,4 @@
 -- `bits::put_bits` meets its contract: the old bits are taken away and the new ones added, so no other bit changes (Shift).
--- Assumes nothing.
 use Prim.Native.Nat.{_+_, _^_, _≤_, _<_}
 use native.Mathlib.Omega.{arith}
 use borrow.Author.Needs.{needs}

@@ -1,5 +1,4 @@
 -- `bits::shifted` meets its contract: the two shifted numbers share no bit (Shift).
--- Assumes nothing.
 use Prim.Native.Nat.{_-_}
 use native.Mathlib.Omega.{arith}
 use borrow.Author.Needs.{needs}

@@ -1,5 +1,4 @@
 -- `bits::whole_at` meets its contract: eight bytes and the next give any 64 bits that begin in the first byte (Reading).
--- Assumes nothing.
 use mathlib.Core.Path.{_∙_}
 use Prim.Native.Nat.{_*_}
 use native.Mathlib.Nat.{add-zero}

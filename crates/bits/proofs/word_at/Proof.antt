@@ -1,5 +1,4 @@
 -- `bits::word_at` meets its contract: the same with bytes past the end as 0 (Reading).
--- Assumes nothing.
 use mathlib.Core.Path.{_∙_}
 use native.Mathlib.Omega.{arith}
 use borrow.Author.Needs.{needs}

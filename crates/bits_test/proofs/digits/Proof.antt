@@ -1,5 +1,4 @@
 -- `bits_test::digits` is safe and ends: the loop goes to 16.
--- Assumes nothing.
 use Prim.Native.Nat.{_-_, _≤_}
 use borrow.Author.Needs.{needs}
 use Rattle.bits_test.proofs.digits.Statement.{statement}

@@ -1,5 +1,4 @@
 -- `bits_test::fill_once` meets what `fill` requires: at most 256 bits of the block, and the bytes end with the last byte that is read.
--- Assumes nothing.
 use native.Mathlib.Omega.{arith}
 use borrow.Author.Needs.{needs}
 use lib.ListN.{length-take}

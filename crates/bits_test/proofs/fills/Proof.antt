@@ -1,5 +1,4 @@
 -- `bits_test::fills` is safe and ends: the loop goes to 80.
--- Assumes nothing.
 use Prim.Native.Nat.{_-_, _≤_}
 use borrow.Author.Needs.{needs}
 use Rattle.bits_test.proofs.fills.Statement.{statement}

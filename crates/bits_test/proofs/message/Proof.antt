@@ -1,5 +1,4 @@
 -- `bits_test::message` is safe and ends: the loop goes to 33.
--- Assumes nothing.
 use Prim.Native.Nat.{_-_, _≤_}
 use borrow.Author.Needs.{needs}
 use Rattle.bits_test.proofs.message.Statement.{statement}

@@ -1,5 +1,4 @@
 -- `bits_test::show` is safe and ends: the loop goes to the end of the words.
--- Assumes nothing.
 use Prim.Native.Nat.{_-_, _≤_}
 use borrow.Author.Needs.{needs}
 use lib.ListN.{length}

@@ -1,7 +1,6 @@
--- `climb::clear` meets its contract. Assumes nothing.
-use mathlib.Core.List.{[]}
+-- `climb::clear` meets its contract.
+use mathlib.Core.List.{[], _++_, append-nil}
 use mathlib.Core.Path.{_≡_, refl, ap, _∙_}
-use mathlib.Core.List.{_++_, append-nil}
 use Prim.Native.Nat.{ℕ, _-_, _≤_, _<_}
 use lib.ListN.{length, drop, replicate, length-set, drop-of-length-le}
 use borrow.Author.Fill.{fill-none, fill-more}

@@ -1,4 +1,4 @@
--- `climb::flush` meets its contract: each case is one of the two. Assumes nothing.
+-- `climb::flush` meets its contract: each case is one of the two.
 use native.Mathlib.Omega.{arith}
 use Rattle.climb.proofs.flush.Statement.{statement}
 use Rattle.climb.proofs.flush.Tie as tie

@@ -1,4 +1,4 @@
--- `climb::flush_last` meets its contract. Assumes nothing.
+-- `climb::flush_last` meets its contract.
 use mathlib.Core.Path.{refl, sym}
 use lib.ListN.{length}
 use Rattle.sound.specs.CountLaws.{done-fits}

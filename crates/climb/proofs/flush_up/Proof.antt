@@ -1,11 +1,11 @@
--- `climb::flush_up` meets its contract. Assumes nothing.
+-- `climb::flush_up` meets its contract.
 use mathlib.Core.Path.{refl, sym, ap, _∙_}
 use mathlib.Core.List.{[], _∷_}
 use lib.ListN.{length}
 use lib.Seq.{length-sets}
 use Rattle.tree.specs.Tree.{node}
 use Rattle.area.specs.Area.{levelWords, emptyLevel}
-use Rattle.area.specs.Calls.{logOf}
+use Rattle.area.specs.Calls.{nodeLog}
 use Rattle.sound.specs.CountLaws.{done-fits}
 use Rattle.climb.specs.Levels.{length-with, length-empty, low₁, high₁}
 use Rattle.climb.specs.MakeLaws.{paramsFrom}
@@ -68,7 +68,7 @@ receive-requires c κs =
           lt-at (sym (done .done-blocks .ensures)) refl (done-fits (a .total) (start .fits .total .fits) .0),
           ap length (make .make-level .ensures .0) ∙ length-outWords P m,
         ),
-        le-at refl (sym (ap length (make .make-level .ensures .1) ∙ length-sets (a .log .now) (a .at) (logOf (m ∷ [])))) room,
+        le-at refl (sym (ap length (make .make-level .ensures .1) ∙ length-sets (a .log .now) (a .at) (nodeLog (m ∷ [])))) room,
       ),
     )
 

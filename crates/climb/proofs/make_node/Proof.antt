@@ -1,4 +1,4 @@
--- `climb::make_node` meets its contract. Assumes nothing.
+-- `climb::make_node` meets its contract.
 use mathlib.Core.Path.{_∙_}
 use native.Mathlib.Numerals.{add-one}
 use lib.ListN.{length-set}

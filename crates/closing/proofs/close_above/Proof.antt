@@ -1,4 +1,4 @@
--- `closing::close_above` meets its contract. Assumes nothing.
+-- `closing::close_above` meets its contract.
 use Prim.Native.Nat.{_-_}
 use Rattle.area.specs.Area.{levelsFrom}
 use Rattle.area.specs.Calls.{closeAbove}

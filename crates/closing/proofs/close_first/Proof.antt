@@ -1,4 +1,4 @@
--- `closing::close_first` meets its contract. Assumes nothing.
+-- `closing::close_first` meets its contract.
 use native.Mathlib.Omega.{arith}
 use mathlib.Core.Path.{ap, _∙_}
 use mathlib.Core.List.{[], _∷_}
@@ -6,7 +6,7 @@ use Prim.Native.Nat.{ℕ, _-_}
 use lib.Seq.{sets}
 use Rattle.tree.specs.Tree.{node}
 use Rattle.area.specs.Area.{levelWords, doneBlocks}
-use Rattle.area.specs.Calls.{outWords, logOf}
+use Rattle.area.specs.Calls.{outWords, nodeLog}
 use Rattle.climb.specs.MakeLaws.{paramsFrom}
 use Rattle.closing.proofs.close_first.Statement.{statement}
 use Rattle.closing.proofs.close_first.Tie as tie
@@ -51,8 +51,8 @@ returns c =
           ∙ ap (λ (x : ℕ). outWords P (node P 1 x (a .z) (a .size - held .held-bits .result) ws)) d
           ∙ ap (λ (x : ℕ). outWords P (node P 1 (doneBlocks (a .size) (a .total)) (a .z) (a .size - x) ws)) h,
       make .make-node .ensures .1
-          ∙ ap (λ (x : ℕ). sets (a .log .now) 0 (logOf (node P 1 x (a .z) (a .size - held .held-bits .result) ws ∷ []))) d
-          ∙ ap (λ (x : ℕ). sets (a .log .now) 0 (logOf (node P 1 (doneBlocks (a .size) (a .total)) (a .z) (a .size - x) ws ∷ []))) h,
+          ∙ ap (λ (x : ℕ). sets (a .log .now) 0 (nodeLog (node P 1 x (a .z) (a .size - held .held-bits .result) ws ∷ []))) d
+          ∙ ap (λ (x : ℕ). sets (a .log .now) 0 (nodeLog (node P 1 (doneBlocks (a .size) (a .total)) (a .z) (a .size - x) ws ∷ []))) h,
     )
 
 pub close-first-spec : {M : Type 1} → statement M

@@ -1,11 +1,11 @@
--- `closing::close_last` meets its contract. Assumes nothing.
+-- `closing::close_last` meets its contract.
 use native.Mathlib.Omega.{arith}
 use mathlib.Core.Path.{ap, _∙_}
 use mathlib.Core.List.{List, [], _∷_}
 use Prim.Native.Nat.{ℕ, _-_, _*_, _/_, _%_}
 use lib.Seq.{sets}
 use Rattle.tree.specs.Tree.{node}
-use Rattle.area.specs.Calls.{outWords, logOf}
+use Rattle.area.specs.Calls.{outWords, nodeLog}
 use Rattle.climb.specs.MakeLaws.{paramsFrom}
 use Rattle.closing.proofs.close_last.Statement.{statement}
 use Rattle.closing.proofs.close_last.Tie as tie
@@ -44,7 +44,7 @@ returns c =
     let P = paramsFrom (a .key .now) (a .params) in
     let e = block .joined-block .ensures in (
       make .make-node .ensures .0 ∙ ap (λ (w : List ℕ). outWords P (node P (a .level) (a .i / 3) 1 (1024 * (2 - a .i % 3)) w)) e,
-      make .make-node .ensures .1 ∙ ap (λ (w : List ℕ). sets (a .log .now) (a .at) (logOf (node P (a .level) (a .i / 3) 1 (1024 * (2 - a .i % 3)) w ∷ []))) e,
+      make .make-node .ensures .1 ∙ ap (λ (w : List ℕ). sets (a .log .now) (a .at) (nodeLog (node P (a .level) (a .i / 3) 1 (1024 * (2 - a .i % 3)) w ∷ []))) e,
     )
 
 pub close-last-spec : {M : Type 1} → statement M

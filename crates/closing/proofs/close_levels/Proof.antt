@@ -1,11 +1,11 @@
--- `closing::close_levels` meets its contract. Assumes nothing.
+-- `closing::close_levels` meets its contract.
 use mathlib.Core.Path.{ap, _∙_}
 use mathlib.Core.List.{[], _∷_}
 use Prim.Native.Nat.{_-_, _≤_, _<_}
 use lib.ListN.{length}
 use lib.Seq.{length-sets}
 use Rattle.area.specs.Area.{doneBlocks}
-use Rattle.area.specs.Calls.{logOf}
+use Rattle.area.specs.Calls.{nodeLog}
 use Rattle.sound.specs.CountLaws.{done-fits}
 use Rattle.climb.specs.MakeLaws.{paramsFrom}
 use Rattle.closing.specs.CloseLaws.{firstNode, closing-sequential, closing-root, closing-more, closed-one, closed-above, held-le, room-one, room-above}
@@ -86,7 +86,7 @@ close-above-requires c κs =
     let d : 1 ≤ doneBlocks 4096 (a .total) = rw i at (test .if2 .left) in
     let e = closing-more P (a .params .limit) (a .total) (a .area .now) (done .before .if1 .left) d in
     let m = firstNode P 4096 (a .total) 0 (a .area .now) in
-    let len = ap length (first .close-first3 .ensures .1) ∙ length-sets (a .log .now) 0 (logOf (m ∷ [])) in
+    let len = ap length (first .close-first3 .ensures .1) ∙ length-sets (a .log .now) 0 (nodeLog (m ∷ [])) in
     let room = room-above P _ m (a .params .limit - 1) (doneBlocks 4096 (a .total)) (a .area .now) (first .close-first3 .result) (length (a .log .now)) e (first .close-first3 .ensures .0) (start .pre .1 .1) in
     (start .pre .0, ((start .pre .1 .0, test .if2 .left, omega (arith, i, start .fits), search needs), rw (i, len) room))
 

@@ -1,10 +1,10 @@
--- `closing::close_parallel` meets its contract. Assumes nothing.
+-- `closing::close_parallel` meets its contract.
 use mathlib.Core.Path.{ap, _∙_}
 use mathlib.Core.List.{List, [], _∷_}
 use Prim.Native.Nat.{ℕ, _-_, _*_, _/_, _%_, _≤_}
 use lib.Seq.{sets}
 use Rattle.tree.specs.Tree.{node}
-use Rattle.area.specs.Calls.{outWords, logOf}
+use Rattle.area.specs.Calls.{outWords, nodeLog}
 use Rattle.climb.specs.MakeLaws.{paramsFrom}
 use Rattle.closing.specs.CloseLaws.{rootFlag, flag-most}
 use native.Mathlib.Omega.{arith}
@@ -53,8 +53,8 @@ returns c =
           ∙ ap (λ (x : ℕ). outWords P (node P (a .level) (a .i / 4) x (1024 * (3 - a .i % 4)) (block .joined-block .result))) f
           ∙ ap (λ (w : List ℕ). outWords P (node P (a .level) (a .i / 4) (rootFlag (a .i)) (1024 * (3 - a .i % 4)) w)) e,
       make .make-node .ensures .1
-          ∙ ap (λ (x : ℕ). sets (a .log .now) (a .at) (logOf (node P (a .level) (a .i / 4) x (1024 * (3 - a .i % 4)) (block .joined-block .result) ∷ []))) f
-          ∙ ap (λ (w : List ℕ). sets (a .log .now) (a .at) (logOf (node P (a .level) (a .i / 4) (rootFlag (a .i)) (1024 * (3 - a .i % 4)) w ∷ []))) e,
+          ∙ ap (λ (x : ℕ). sets (a .log .now) (a .at) (nodeLog (node P (a .level) (a .i / 4) x (1024 * (3 - a .i % 4)) (block .joined-block .result) ∷ []))) f
+          ∙ ap (λ (w : List ℕ). sets (a .log .now) (a .at) (nodeLog (node P (a .level) (a .i / 4) (rootFlag (a .i)) (1024 * (3 - a .i % 4)) w ∷ []))) e,
     )
 
 pub close-parallel-spec : {M : Type 1} → statement M

@@ -1,4 +1,4 @@
--- `closing::closing` meets its contract. Assumes nothing.
+-- `closing::closing` meets its contract.
 use mathlib.Core.Path.{_∙_}
 use Rattle.lists.specs.Slices.{words-below}
 use Rattle.area.specs.Calls.{closedBy}

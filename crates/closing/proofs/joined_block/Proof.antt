@@ -1,4 +1,4 @@
--- `closing::joined_block` meets its contract. Assumes nothing.
+-- `closing::joined_block` meets its contract.
 use native.Mathlib.Omega.{arith}
 use mathlib.Core.Path.{ap, _∙_}
 use mathlib.Core.List.{List}

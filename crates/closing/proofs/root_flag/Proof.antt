@@ -1,4 +1,4 @@
--- `closing::root_flag` meets its contract. Assumes nothing.
+-- `closing::root_flag` meets its contract.
 use Rattle.closing.specs.CloseLaws.{flag-root, flag-other}
 use Rattle.closing.proofs.root_flag.Statement.{statement}
 use Rattle.closing.proofs.root_flag.Tie as tie

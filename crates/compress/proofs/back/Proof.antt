@@ -1,5 +1,4 @@
 -- `back` meets its contract: after m turns the first m words are those from b on, and the words from m on are as they were.
--- Assumes nothing.
 use mathlib.Core.Path.{_≡_, refl, _∙_}
 use Prim.Native.Nat.{_-_, _≤_}
 use lib.ListN.{length, drop, length-set}

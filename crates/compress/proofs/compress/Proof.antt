@@ -1,5 +1,4 @@
 -- `compress` meets its contract: after k turns the 89 words before `at` are the last 89 of the report's array after k rounds.
--- Assumes nothing.
 use mathlib.Core.Path.{_≡_, refl, ap, _∙_}
 use Prim.Native.Nat.{ℕ, _-_, _+_, _*_, _%_, _≤_, zero-le}
 use lib.ListN.{length, getD, take, replicate}

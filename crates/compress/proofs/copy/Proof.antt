@@ -1,5 +1,4 @@
 -- `copy` meets its contract: after i turns the first i words are those of src.
--- Assumes nothing.
 use mathlib.Core.Path.{_≡_, refl, _∙_}
 use Prim.Native.Nat.{_-_, _≤_}
 use lib.ListN.{length, length-set}

@@ -1,5 +1,4 @@
 -- `put` meets its contract: the word that is stored is the one that `step` makes of the words before it.
--- Assumes nothing.
 use mathlib.Core.Path.{ap}
 use Prim.Native.Nat.{ℕ}
 use lib.ListN.{set}

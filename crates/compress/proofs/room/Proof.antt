@@ -1,5 +1,4 @@
 -- `room` meets its contract: a full buffer has its last 89 words at 256, and they are moved to its front.
--- Assumes nothing.
 use mathlib.Core.Path.{_≡_, refl, ap, _∙_}
 use Prim.Native.Nat.{_-_, zero-le}
 use lib.ListN.{take, drop, length-drop}

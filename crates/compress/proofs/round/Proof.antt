@@ -1,5 +1,4 @@
 -- `round` meets its contract: after j turns the first j words of the round are written. The shifts are below 64.
--- Assumes nothing.
 use mathlib.Core.Path.{_≡_, refl, ap, _∙_}
 use Prim.Native.Nat.{_-_, _≤_, _<_}
 use native.Mathlib.Numerals.{add-one}

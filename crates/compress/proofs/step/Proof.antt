@@ -1,5 +1,4 @@
 -- `step` meets its contract: the code is the definition.
--- Assumes nothing.
 use borrow.Author.Needs.{needs}
 use Rattle.compress.specs.Compress.{stepped}
 use Rattle.compress.proofs.step.Statement.{statement}

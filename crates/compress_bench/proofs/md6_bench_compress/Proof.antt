@@ -1,5 +1,4 @@
 -- `md6_bench_compress` calls `compress` and `copy` with the lengths that they ask for.
--- Assumes nothing.
 use mathlib.Core.Path.{_≡_}
 use Prim.Native.Nat.{_≤_, _-_}
 use lib.ListN.{length}

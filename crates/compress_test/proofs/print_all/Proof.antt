@@ -1,5 +1,4 @@
 -- `print_all` asks for 0 to 5 rounds.
--- Assumes nothing.
 use Prim.Native.Nat.{_≤_, _-_}
 use borrow.Author.Needs.{needs}
 use Rattle.compress_test.proofs.print_all.Statement.{statement}

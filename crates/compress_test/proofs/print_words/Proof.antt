@@ -1,5 +1,4 @@
 -- `print_words` stays within the words.
--- Assumes nothing.
 use Prim.Native.Nat.{_≤_, _-_}
 use borrow.Author.Needs.{needs}
 use Rattle.compress_test.proofs.print_words.Statement.{statement}

@@ -1,5 +1,4 @@
 -- `window_of` stays within the window.
--- Assumes nothing.
 use mathlib.Core.Path.{_≡_}
 use Prim.Native.Nat.{_≤_, _-_}
 use lib.ListN.{length}

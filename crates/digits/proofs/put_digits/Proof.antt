@@ -3,7 +3,7 @@ use Prim.Native.Nat.{_+_, _-_, _≤_, _<_}
 use mathlib.Core.Path.{_≡_, refl, sym, _∙_}
 use mathlib.Core.List.{_++_}
 use lib.ListN.{length, take, drop, length-set}
-use Rattle.digits.specs.Digits.{digits}
+use Rattle.digits.specs.Digits.{hexDigits}
 use Rattle.digits.specs.DigitLaws.{length-digits}
 use Rattle.digits.specs.Loops.{copy-more, copy-all, getD-digits}
 use borrow.Author.Needs.{needs}
@@ -15,7 +15,7 @@ use Rattle.digits.proofs.put_digits.Lts as lts
 use Rattle.bits.proofs.hex.value_digit.Reads as value-digit-reads
 
 abbrev Inv-loop : tie.InvT-loop
-Inv-loop part₀ x n i₀ part i = (i ≤ n) × (n ≡ length part₀) × (part ≡ take i (digits n x) ++ drop i part₀) × (length part ≡ length part₀)
+Inv-loop part₀ x n i₀ part i = (i ≤ n) × (n ≡ length part₀) × (part ≡ take i (hexDigits n x) ++ drop i part₀) × (length part ≡ length part₀)
 
 abbrev μ-loop : tie.MeasureT-loop
 μ-loop part₀ x n i₀ part i = n - i
@@ -56,7 +56,7 @@ loop-again c =
     let n = length p in
     let h : i < n = omega arith in
     let e = c .value-digit .ensures ∙ sym (getD-digits n x i h) in
-    (omega arith, refl, rw (e, z .loop .inv .2) (copy-more (digits n x) p i (rw (length-digits n x) h) h), simp length-set (z .loop .inv .3))
+    (omega arith, refl, rw (e, z .loop .inv .2) (copy-more (hexDigits n x) p i (rw (length-digits n x) h) h), simp length-set (z .loop .inv .3))
 
 same-length : tie.Need-same-length Inv-loop μ-loop
 same-length c = search needs
@@ -67,7 +67,7 @@ returns c =
     let p = z .before .before .args .part .now in
     let x = z .before .before .args .x in
     let e : z .loop .i ≡ length p = omega arith in
-    z .loop .inv .2 ∙ copy-all (digits (length p) x) p (z .loop .i) (e ∙ sym (length-digits (length p) x)) e
+    z .loop .inv .2 ∙ copy-all (hexDigits (length p) x) p (z .loop .i) (e ∙ sym (length-digits (length p) x)) e
 
 pub put-digits-spec : {M : Type 1} → statement M
 put-digits-spec =

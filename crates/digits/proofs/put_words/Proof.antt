@@ -20,6 +20,7 @@ abbrev μ-loop : tie.MeasureT-loop
 μ-loop part₀ words i₀ part i = length words - i
 
 loop-holds : tie.Need-loop-holds Inv-loop μ-loop
+unfolding mathlib.Core.List.flatten
 loop-holds c = (omega arith, refl, refl)
 
 mul-a : tie.Need-mul-a Inv-loop μ-loop

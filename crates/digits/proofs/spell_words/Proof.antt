@@ -1,11 +1,12 @@
--- `digits::spell_words` spells words, 16 digits at a time.
-use Prim.Native.Nat.{ℕ, _+_, _-_, _*_, _≤_, _<_}
+-- `digits::spell_words` spells words, 16 digits at a time, until a byte is refused.
 use mathlib.Core.Path.{_≡_, refl, sym, ap, _∙_}
-use mathlib.Core.List.{_++_}
-use lib.ListN.{length, take, drop, length-set}
-use Rattle.digits.specs.Digits.{spelt, speltWords}
-use Rattle.digits.specs.DigitLaws.{length-speltWords}
-use Rattle.digits.specs.Loops.{copy-more, copy-all, getD-speltWords}
+use mathlib.Core.List.{List, map}
+use mathlib.Core.Option.{Option, none, some}
+use Prim.Native.Nat.{ℕ, _+_, _-_, _*_, _≤_}
+use lib.ListN.{length, take, drop, getD, length-set}
+use Rattle.digits.specs.Digits.{spelt, speltWords, readingNumber}
+use Rattle.digits.specs.DigitLaws.{length-speltWords, all-at}
+use Rattle.digits.specs.Loops.{getD-speltWords, word-more, word-all}
 use borrow.Author.Needs.{needs}
 use native.Mathlib.Omega.{arith}
 use Rattle.digits.proofs.spell_words.Statement.{statement}
@@ -15,7 +16,13 @@ use Rattle.digits.proofs.spell_words.Lts as lts
 use Rattle.digits.proofs.number.Reads as number-reads
 
 abbrev Inv-loop : tie.InvT-loop
-Inv-loop words₀ part i₀ words i = (i ≤ length words₀) × (words ≡ take i (speltWords (length words₀) part) ++ drop i words₀) × (length words ≡ length words₀)
+Inv-loop words₀ part i₀ words i = (i ≤ length words₀) × (take i (speltWords (length words₀) part) ≡ map some (take i words)) × (length words ≡ length words₀)
+
+-- the number of a turn is the word of its place
+turn : (n i : ℕ) (t : List ℕ) (o : Option ℕ) → i + 1 ≤ n → o ≡ spelt 0 (take (16 * i + 16 - 16 * i) (drop (16 * i) t)) → getD (speltWords n t) i none ≡ o
+turn n i t o h e =
+    let k : 16 * i + 16 - 16 * i ≡ 16 = omega arith in
+    getD-speltWords n t i (omega arith) ∙ sym (e ∙ ap (λ (m : ℕ). spelt 0 (take m (drop (16 * i) t))) k)
 
 abbrev μ-loop : tie.MeasureT-loop
 μ-loop words₀ part i₀ words i = length words₀ - i
@@ -41,11 +48,30 @@ part-number-end c = search needs
 number-requires : tie.Need-number-requires Inv-loop μ-loop
 number-requires c κs = search needs
 
+enum-known-w : tie.Need-enum-known-w Inv-loop μ-loop
+enum-known-w c = search needs
+
 mul-words : tie.Need-mul-words Inv-loop μ-loop
 mul-words c = search needs
 
 slice-write-words : tie.Need-slice-write-words Inv-loop μ-loop
 slice-write-words c = search needs
+
+enum-told : tie.Need-enum-told Inv-loop μ-loop
+enum-told c = search needs
+
+same-length : tie.Need-same-length Inv-loop μ-loop
+same-length c = search needs
+
+returns : tie.Need-returns Inv-loop μ-loop
+returns c =
+    let n = c .before .before in
+    let l = n .before .before .before in
+    let a = l .before .before .before .args in
+    let t = a .part .now in
+    let k = length (a .words .now) in
+    sym (all-at (speltWords k t) (l .loop .i) (omega (arith, length-speltWords k t))
+    (turn k (l .loop .i) t _ (omega arith) (n .number .ensures) ∙ ap readingNumber (c .enum-told .given .1)))
 
 add-i : tie.Need-add-i Inv-loop μ-loop
 add-i c = search needs
@@ -55,26 +81,26 @@ loop-less c = search needs
 
 loop-again : tie.Need-loop-again Inv-loop μ-loop
 loop-again c =
-    let z = c .before .before .before in
-    let ws = z .before .before .before .args .words .now in
-    let t = z .before .before .before .args .part .now in
-    let i = z .loop .i in
-    let n = length ws in
-    let h : i < n = omega arith in
-    let k : 16 * i + 16 - 16 * i ≡ 16 = omega arith in
-    let e = c .number .ensures ∙ ap (λ (m : ℕ). spelt 0 (take m (drop (16 * i) t))) k ∙ sym (getD-speltWords n t i h) in
-    (omega arith, rw (e, z .loop .inv .1) (copy-more (speltWords n t) ws i (rw (length-speltWords n t) h) h), simp length-set (z .loop .inv .2))
+    let n = c .before .before .before in
+    let l = n .before .before .before in
+    let a = l .before .before .before .args in
+    let t = a .part .now in
+    let k = length (a .words .now) in (
+      omega arith,
+      word-more (speltWords k t) (l .loop .words) (l .loop .i) _ (omega (arith, length-speltWords k t)) (omega arith) (l .loop .inv .1)
+          (turn k (l .loop .i) t _ (omega arith) (n .number .ensures) ∙ ap readingNumber (c .before .w .given .1)),
+      simp length-set (l .loop .inv .2),
+    )
 
-same-length : tie.Need-same-length Inv-loop μ-loop
-same-length c = search needs
+same-length-2 : tie.Need-same-length-2 Inv-loop μ-loop
+same-length-2 c = search needs
 
-returns : tie.Need-returns Inv-loop μ-loop
-returns c =
-    let z = c .before in
-    let ws = z .before .before .before .args .words .now in
-    let t = z .before .before .before .args .part .now in
-    let e : z .loop .i ≡ length ws = omega arith in
-    z .loop .inv .1 ∙ copy-all (speltWords (length ws) t) ws (z .loop .i) (e ∙ sym (length-speltWords (length ws) t)) e
+returns-2 : tie.Need-returns-2 Inv-loop μ-loop
+returns-2 c =
+    let l = c .before in
+    let a = l .before .before .before .args in
+    let k = length (a .words .now) in
+    word-all (speltWords k (a .part .now)) (l .loop .words) (l .loop .i) (omega (arith, length-speltWords k (a .part .now))) (omega arith) (l .loop .inv .1)
 
 pub spell-words-spec : {M : Type 1} → statement M
 spell-words-spec =
@@ -89,10 +115,14 @@ spell-words-spec =
     part-number-start
     part-number-end
     number-requires
+    enum-known-w
     mul-words
     slice-write-words
+    enum-told
+    same-length
+    returns
     add-i
     loop-less
     loop-again
-    same-length
-    returns)
+    same-length-2
+    returns-2)

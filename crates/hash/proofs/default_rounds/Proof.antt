@@ -1,4 +1,4 @@
--- `hash::default_rounds` meets its contract. Assumes nothing.
+-- `hash::default_rounds` meets its contract.
 use Rattle.hash.specs.HashLaws.{told-refused, told-accepted}
 use mathlib.Core.Path.{sym, _∙_}
 use borrow.Author.Needs.{needs}

@@ -1,7 +1,7 @@
--- `hash::hash` meets its contract: one equation for every input. Assumes nothing.
+-- `hash::hash` meets its contract: one equation for every input.
 use Rattle.hash.specs.HashLaws.{Accepted, number-sized, number-accepted, refused-answer, accepted-answer}
 use Rattle.node.specs.declared.Params.{Params}
-use Rattle.hash.specs.Ready.{paramsOf}
+use Rattle.hash.specs.Ready.{withKey}
 use Rattle.node.specs.Words.{sized}
 use Rattle.tree.specs.Refusals.{pieceBits}
 use Rattle.hash.specs.Hash.{hashNumber}
@@ -48,7 +48,7 @@ put-digest-requires c κs =
     ∙ ap (λ (p : Params). hashNumber (replicate (length m) 0) (a .bits) (sized (p .key) (p .d) (p .limit) (p .rounds)) (replicate (length out) 0)) (number .before .new .ensures)
     ∙ number-sized m (a .bits) (a .key .now) (a .d) (a .limit) (a .rounds) out in
     let ok = number-accepted m (a .bits) P out (sym n ∙ c .before .if1 .left) in (
-      subst (λ (p : Params). Accepted m (a .bits) (paramsOf (a .key .now) p) out) (sym (number .before .new .ensures)) ok,
+      subst (λ (p : Params). Accepted m (a .bits) (withKey (a .key .now) p) out) (sym (number .before .new .ensures)) ok,
       ap (λ (p : Params). p .key) (number .before .new .ensures),
     )
 
@@ -90,7 +90,7 @@ returns-2 c =
     rw (c .accepted .ensures .0, c .accepted .ensures .1)
     (accepted-answer m (a .bits) P out (nodes .tree-nodes .result) (put .put-digest .last .1 .1 .1 .1 .0) z (ok .enough) (nodes .tree-nodes .ensures)
     (put .put-digest .ensures
-    ∙ ap (λ (p : Params). digest (paramsOf (a .key .now) p) (pieceBits m (a .bits)) ++ drop (digestBytes (p .d)) out) (number .before .new .ensures)))
+    ∙ ap (λ (p : Params). digest (withKey (a .key .now) p) (pieceBits m (a .bits)) ++ drop (digestBytes (p .d)) out) (number .before .new .ensures)))
 
 pub hash-spec : {M : Type 1} → statement M
 hash-spec =

@@ -1,4 +1,4 @@
--- `hash::hash_number` meets its contract, one law for each number. Assumes nothing.
+-- `hash::hash_number` meets its contract, one law for each number.
 use Rattle.hash.specs.HashLaws.{number-over, number-params, number-short, number-none}
 use Rattle.tree.specs.RefusalLaws.{params-ranges}
 use Rattle.node.specs.Words.{sized}

@@ -1,7 +1,7 @@
--- `hash::put_digest` meets its contract: the root worked out node by node is the root of the levels. Assumes nothing.
+-- `hash::put_digest` meets its contract: the root worked out node by node is the root of the levels.
 use Rattle.hash.specs.HashLaws.{digest-root, common-key}
 use Rattle.tree.specs.RefusalLaws.{length-pieceBits}
-use Rattle.hash.specs.Ready.{shared, paramsOf}
+use Rattle.hash.specs.Ready.{shared, withKey}
 use Rattle.node.specs.Words.{common, commonOf}
 use Rattle.tree.specs.Refusals.{pieceBits}
 use Rattle.tree.specs.TreeLaws.{length-keyWords}
@@ -64,7 +64,7 @@ returns c =
     let a = s .args in
     let p = a .params in
     let r = s .pre .0 .ranges in
-    let P = paramsOf (a .key .now) p in
+    let P = withKey (a .key .now) p in
     let M = pieceBits (a .message .now) (a .bits) in
     let C = shared (k .key-words .result) p in
     let valid : Valid P = record {

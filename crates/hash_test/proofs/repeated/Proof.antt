@@ -1,4 +1,4 @@
--- `hash_test::repeated` is safe and ends. Assumes nothing.
+-- `hash_test::repeated` is safe and ends.
 use lib.ListN.{length}
 use mathlib.Core.Path.{_≡_}
 use Prim.Native.Nat.{_-_, _≤_}

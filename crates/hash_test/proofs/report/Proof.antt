@@ -1,4 +1,4 @@
--- `hash_test::report` is safe and ends. Assumes nothing.
+-- `hash_test::report` is safe and ends.
 use mathlib.Core.Path.{sym}
 use lib.Seq.{length-take-le}
 use native.Mathlib.Omega.{arith}

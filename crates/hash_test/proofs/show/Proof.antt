@@ -1,4 +1,4 @@
--- `hash_test::show` is safe and ends. Assumes nothing.
+-- `hash_test::show` is safe and ends.
 use mathlib.Core.Path.{sym}
 use lib.ListN.{replicate}
 use lib.Seq.{length-take-le}

@@ -1,5 +1,4 @@
 -- `line::key_reading` meets its contract: each arm is a case of `keyBytesIn`.
--- Assumes nothing.
 use native.Mathlib.Nat.{min-eq-left, min-eq-right, le-of-lt}
 use borrow.Author.Tests.{eq-eqb, ne-eqb}
 use borrow.Author.Needs.{needs}

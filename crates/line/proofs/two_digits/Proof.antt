@@ -1,5 +1,4 @@
 -- `line::two_digits` meets its contract. The byte fits, since a digit's value is below 16.
--- Assumes nothing.
 use Prim.Native.Nat.{_<_}
 use Rattle.line.specs.Digits.{value-below}
 use native.Mathlib.Omega.{arith}

@@ -1,5 +1,4 @@
 -- `line_test::line_state` meets its contract. The invariant: the state is the fold over the bytes passed.
--- Assumes nothing.
 use mathlib.Core.Path.{_≡_, _∙_, ap}
 use Prim.Native.Nat.{_≤_, _<_, _-_}
 use native.Mathlib.Numerals.{add-one}

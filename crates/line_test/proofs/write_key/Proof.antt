@@ -1,5 +1,4 @@
 -- `line_test::write_key` meets what its calls ask.
--- Assumes nothing.
 use mathlib.Core.Path.{sym}
 use lib.Seq.{length-take-le}
 use borrow.Author.Needs.{needs}

@@ -1,5 +1,4 @@
 -- `line_test::write_lines` is safe and ends. The invariant: the line that is being passed starts at or before i.
--- Assumes nothing.
 use mathlib.Core.Logic.{⊎-elim}
 use Prim.Native.Nat.{_≤_, _-_}
 use lib.ListN.{length}

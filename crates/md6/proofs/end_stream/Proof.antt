@@ -1,5 +1,4 @@
 -- `md6::end_stream` meets what its calls ask: the log has room for the nodes of an end that was accepted.
--- Assumes nothing.
 use native.Mathlib.Omega.{arith}
 use borrow.Author.Needs.{needs}
 use Rattle.md6.specs.Accepted.{end-room}

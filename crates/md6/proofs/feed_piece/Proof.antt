@@ -1,5 +1,4 @@
 -- `md6::feed_piece` meets what its calls ask: the log has room for the nodes of a feed that was accepted.
--- Assumes nothing.
 use Prim.Native.Nat.{_*_}
 use lib.ListN.{length}
 use native.Mathlib.Omega.{arith}

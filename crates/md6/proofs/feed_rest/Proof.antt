@@ -1,5 +1,4 @@
 -- `md6::feed_rest` is safe and ends. The buffer keeps its length; the measure is the number of turns that are left.
--- Assumes nothing.
 use mathlib.Core.Path.{_≡_}
 use lib.ListN.{length}
 use borrow.Author.Needs.{needs}

@@ -1,10 +1,9 @@
 -- `md6::main` meets what its calls ask: a stream that is opened has a digest of at most 512 bits, and what was read behind the
 -- first line lies within the buffer.
--- Assumes nothing.
 use mathlib.Core.Path.{ap}
 use native.Mathlib.Omega.{arith}
 use borrow.Author.Needs.{needs}
-use Rattle.md6.specs.Opening.{digestBits}
+use Rattle.md6.specs.Opening.{openedBits}
 use Rattle.md6.proofs.main.Statement.{statement}
 use Rattle.md6.proofs.main.Tie as tie
 
@@ -47,7 +46,7 @@ slice-aggregate-hash-input c = search needs
 hash-input-requires : tie.Need-hash-input-requires
 hash-input-requires c κs =
     let v = c .before .before .before in
-    let b = ap digestBits (v .d .given .1) in
+    let b = ap openedBits (v .d .given .1) in
     let h = v .before .before .open-stream .ensures in
     (omega arith, search needs, search needs, search needs)
 

@@ -1,4 +1,4 @@
--- `md6_c::md6_hash` meets its contract: that of `tree::hash`, less the count. Assumes nothing.
+-- `md6_c::md6_hash` meets its contract: that of `tree::hash`, less the count.
 use Rattle.hash.specs.Hash.{Answer}
 use mathlib.Core.Path.{ap}
 use borrow.Author.Needs.{needs}

@@ -1,4 +1,4 @@
--- `node::compress_node` meets its contract: the window is Q, K, U, V and the block. Assumes nothing.
+-- `node::compress_node` meets its contract: the window is Q, K, U, V and the block.
 use mathlib.Core.Path.{_∙_, ap}
 use mathlib.Core.List.{List}
 use Prim.Native.Nat.{ℕ}

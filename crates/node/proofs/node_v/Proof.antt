@@ -1,4 +1,4 @@
--- `node::node_v` meets its contract: no field of V reaches into the one above it. Assumes nothing.
+-- `node::node_v` meets its contract: no field of V reaches into the one above it.
 use lib.ListN.{length-replicate}
 use Prim.Native.Nat.{ℕ}
 use native.Mathlib.Omega.{arith}

@@ -1,4 +1,4 @@
--- `node::put_words` meets its contract. The loop's invariant: the first i words are copied. Assumes nothing.
+-- `node::put_words` meets its contract. The loop's invariant: the first i words are copied.
 use lib.Seq.{paste, paste-zero, paste-suc}
 use lib.ListN.{length, length-set}
 use native.Mathlib.Numerals.{add-one}

@@ -1,4 +1,4 @@
--- `piece::feed_levels` meets its contract. Assumes nothing.
+-- `piece::feed_levels` meets its contract.
 use mathlib.Core.Path.{_∙_}
 use Prim.Native.Nat.{_≤_}
 use lib.ListN.{length}

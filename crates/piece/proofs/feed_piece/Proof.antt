@@ -1,4 +1,4 @@
--- `piece::feed_piece` meets its contract. Assumes nothing.
+-- `piece::feed_piece` meets its contract.
 use mathlib.Core.Path.{ap, _∙_}
 use mathlib.Core.List.{List}
 use Prim.Native.Nat.{ℕ, _+_, _/_}

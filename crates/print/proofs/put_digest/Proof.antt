@@ -1,5 +1,4 @@
 -- `print::put_digest` puts the line of a digest, byte after byte.
--- Assumes nothing.
 use Prim.Native.Nat.{ℕ, _*_, _-_, _≤_}
 use mathlib.Core.List.{List}
 use mathlib.Core.Path.{_≡_, refl, ap, _∙_}
@@ -20,6 +19,7 @@ abbrev μ-loop : tie.MeasureT-loop
 μ-loop text₀ digest n i₀ text i = n - i
 
 loop-holds : tie.Need-loop-holds Inv-loop μ-loop
+unfolding mathlib.Core.List.flatten
 loop-holds c = (omega arith, refl, refl)
 
 mul-put-hex : tie.Need-mul-put-hex Inv-loop μ-loop

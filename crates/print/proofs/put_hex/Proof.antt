@@ -1,5 +1,4 @@
 -- `print::put_hex` puts the digits of a number into the part of the text that it lends on.
--- Assumes nothing.
 use Rattle.digits.specs.Loops.{lent-number}
 use native.Mathlib.Omega.{arith}
 use borrow.Author.Needs.{needs}

@@ -1,5 +1,4 @@
 -- `print::put_node` puts the line of a node.
--- Assumes nothing.
 use Prim.Native.Nat.{ℕ, _+_}
 use mathlib.Core.List.{List}
 use mathlib.Core.Path.{ap, _∙_}
@@ -7,7 +6,7 @@ use lib.ListN.{set, length-set}
 use native.Mathlib.Omega.{arith}
 use borrow.Author.Needs.{needs}
 use Rattle.lists.specs.Part.{put}
-use Rattle.digits.specs.Digits.{digits}
+use Rattle.digits.specs.Digits.{hexDigits}
 use Rattle.print.specs.PrintLaws.{node-stored}
 use Rattle.print.proofs.put_node.Statement.{statement}
 use Rattle.print.proofs.put_node.Tie as tie
@@ -45,7 +44,7 @@ returns c =
     let b = c .before .before .before .before .before .before in
     let s = b .before .before .before .args in
     ap (λ (t : List ℕ). set t (s .at + 33) 10)
-    (c .before .before .put-hex2 .ensures ∙ ap (λ (t : List ℕ). put (s .at + 17) 16 (set t (s .at + 16) 32) (digits 16 (s .v))) (b .put-hex .ensures))
+    (c .before .before .put-hex2 .ensures ∙ ap (λ (t : List ℕ). put (s .at + 17) 16 (set t (s .at + 16) 32) (hexDigits 16 (s .v))) (b .put-hex .ensures))
     ∙ node-stored (s .at) (s .u) (s .v) (s .text .now) (omega arith)
 
 pub put-node-spec : {M : Type 1} → statement M

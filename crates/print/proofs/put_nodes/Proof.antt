@@ -1,5 +1,4 @@
 -- `print::put_nodes` puts the lines of nodes, one after the other.
--- Assumes nothing.
 use Prim.Native.Nat.{ℕ, _*_, _-_, _≤_}
 use mathlib.Core.Path.{_≡_, refl, ap, _∙_}
 use lib.ListN.{length}

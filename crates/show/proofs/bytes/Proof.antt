@@ -1,4 +1,4 @@
--- `show::bytes` is safe and ends. Assumes nothing.
+-- `show::bytes` is safe and ends.
 use lib.ListN.{length}
 use Prim.Native.Nat.{_-_, _≤_}
 use borrow.Author.Needs.{needs}

@@ -1,4 +1,4 @@
--- `show::is_same` is safe and ends. Assumes nothing.
+-- `show::is_same` is safe and ends.
 use lib.ListN.{length}
 use mathlib.Core.Path.{_≡_}
 use Prim.Native.Nat.{_-_}

@@ -1,4 +1,4 @@
--- `sound::count_for` meets its contract. Assumes nothing.
+-- `sound::count_for` meets its contract.
 use native.Mathlib.Omega.{arith}
 use mathlib.Core.Path.{sym, _∙_}
 use Rattle.sound.specs.SoundLaws.{count-ended, count-open}

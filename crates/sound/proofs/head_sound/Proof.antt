@@ -1,4 +1,4 @@
--- `sound::head_sound` meets its contract. Assumes nothing.
+-- `sound::head_sound` meets its contract.
 use native.Mathlib.Omega.{arith}
 use Rattle.node.specs.declared.Params.{Params}
 use Rattle.tree.specs.Refusals.{refusedParams}

@@ -1,4 +1,4 @@
--- `sound::is_phase` meets its contract. Assumes nothing.
+-- `sound::is_phase` meets its contract.
 use mathlib.Core.Path.{sym}
 use Rattle.sound.specs.SoundLaws.{phase-open, phase-other}
 use Rattle.sound.proofs.is_phase.Statement.{statement}

@@ -1,9 +1,9 @@
--- `sound::is_sound` meets its contract. Assumes nothing.
+-- `sound::is_sound` meets its contract.
 use native.Mathlib.Omega.{arith}
 use mathlib.Core.Path.{sym, _∙_}
 use borrow.Author.Tests.{not-true, not-false}
 use Rattle.area.specs.Area.{soundLevels}
-use Rattle.lists.specs.Both.{both-first, both-second}
+use Rattle.lists.specs.And.{and-first, and-second}
 use Rattle.sound.specs.SoundLaws.{soundHead, sound-parts}
 use Rattle.sound.proofs.is_sound.Statement.{statement}
 use Rattle.sound.proofs.is_sound.Tie as tie
@@ -17,7 +17,7 @@ returns c =
     let start = head-sound .before .before in
     let area = start .args .area .now in
     let e = sym (head-sound .head-sound .ensures) ∙ not-true (head-sound .head-sound .result) (c .if1 .taken) in
-    sym (sound-parts area ∙ both-first (soundHead area) (soundLevels area) e)
+    sym (sound-parts area ∙ and-first (soundHead area) (soundLevels area) e)
 
 levels-sound-requires : tie.Need-levels-sound-requires
 levels-sound-requires c κs = omega arith
@@ -28,7 +28,7 @@ returns-2 c =
     let start = head-sound .before .before in
     let area = start .args .area .now in
     let e = sym (head-sound .head-sound .ensures) ∙ not-false (head-sound .head-sound .result) (c .before .if1 .left) in
-    c .levels-sound .ensures ∙ sym (sound-parts area ∙ both-second (soundHead area) (soundLevels area) e)
+    c .levels-sound .ensures ∙ sym (sound-parts area ∙ and-second (soundHead area) (soundLevels area) e)
 
 pub is-sound-spec : {M : Type 1} → statement M
 is-sound-spec = tie.close (tie.spec head-sound-requires returns levels-sound-requires returns-2)

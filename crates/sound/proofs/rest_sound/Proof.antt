@@ -1,8 +1,9 @@
--- `sound::rest_sound` meets its contract. Assumes nothing.
+-- `sound::rest_sound` meets its contract.
+use mathlib.Core.Bool.{_&&_}
 use mathlib.Core.Path.{sym, _∙_}
 use lib.ListN.{getD}
 use borrow.Author.Tests.{not-true, not-false, eq-eqb, ne-eqb}
-use Rattle.lists.specs.Both.{both, both-first, both-second}
+use Rattle.lists.specs.And.{and-first, and-second}
 use Rattle.area.specs.Area.{soundKey, soundCount, soundLast, countFor}
 use Rattle.sound.specs.SoundLaws.{count-word}
 use native.Mathlib.Omega.{arith}
@@ -33,7 +34,7 @@ returns c =
     let start = empty-from .before .before .before .before in
     let area = start .args .area .now in
     let e = sym (empty-from .empty-from .ensures) ∙ not-true (empty-from .empty-from .result) (c .if1 .taken) in
-    sym (both-first (soundKey area) (both (soundCount area) (soundLast area)) e)
+    sym (and-first (soundKey area) (soundCount area && soundLast area) e)
 
 shared-slice-read-count-for : tie.Need-shared-slice-read-count-for
 shared-slice-read-count-for c = omega arith
@@ -59,7 +60,7 @@ returns-2 c =
     let area = start .args .area .now in
     let e = sym (empty-from .empty-from .ensures) ∙ not-false (empty-from .empty-from .result) (test .if1 .left) in
     let f = ne-eqb (getD area 14 0) (countFor (getD area 0 0) (getD area 4 0) (getD area 1 0)) (λ q. c .if2 .taken (q ∙ sym (count-for .count-for .ensures))) in
-    sym (both-second (soundKey area) (both (soundCount area) (soundLast area)) e ∙ both-first (soundCount area) (soundLast area) (count-word area ∙ f))
+    sym (and-second (soundKey area) (soundCount area && soundLast area) e ∙ and-first (soundCount area) (soundLast area) (count-word area ∙ f))
 
 shared-slice-read-result : tie.Need-shared-slice-read-result
 shared-slice-read-result c = omega arith
@@ -73,7 +74,7 @@ returns-3 c =
     let area = start .args .area .now in
     let e = sym (empty-from .empty-from .ensures) ∙ not-false (empty-from .empty-from .result) (test .if1 .left) in
     let f = eq-eqb (getD area 14 0) (countFor (getD area 0 0) (getD area 4 0) (getD area 1 0)) (c .before .if2 .left ∙ count-for .count-for .ensures) in
-    sym (both-second (soundKey area) (both (soundCount area) (soundLast area)) e ∙ both-second (soundCount area) (soundLast area) (count-word area ∙ f))
+    sym (and-second (soundKey area) (soundCount area && soundLast area) e ∙ and-second (soundCount area) (soundLast area) (count-word area ∙ f))
 
 pub rest-sound-spec : {M : Type 1} → statement M
 rest-sound-spec =

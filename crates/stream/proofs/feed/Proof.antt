@@ -1,4 +1,4 @@
--- `stream::feed` meets its contract: one equation for every area, piece and log. Assumes nothing.
+-- `stream::feed` meets its contract: one equation for every area, piece and log.
 use native.Mathlib.Omega.{arith}
 use mathlib.Core.Path.{sym, _∙_}
 use Rattle.area.specs.CallLaws.{feed-passed}

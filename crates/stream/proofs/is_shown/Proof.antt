@@ -1,4 +1,4 @@
--- `stream::is_shown` meets its contract. Assumes nothing.
+-- `stream::is_shown` meets its contract.
 use native.Mathlib.Omega.{arith}
 use mathlib.Core.Path.{sym, _∙_}
 use borrow.Author.Tests.{not-true, not-false}

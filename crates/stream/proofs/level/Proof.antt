@@ -1,4 +1,4 @@
--- `stream::level` meets its contract: a part of the lent area, or an empty one. Assumes nothing.
+-- `stream::level` meets its contract: a part of the lent area, or an empty one.
 use mathlib.Core.Path.{sym, _∙_}
 use borrow.Author.Tests.{not-true, not-false}
 use Rattle.sound.specs.SoundLaws.{lent-level}

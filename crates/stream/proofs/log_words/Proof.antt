@@ -1,4 +1,4 @@
--- `stream::log_words` meets its contract. Assumes nothing.
+-- `stream::log_words` meets its contract.
 use Rattle.area.specs.Calls.{logWordsOf}
 use native.Mathlib.Omega.{arith}
 use Rattle.stream.proofs.log_words.Statement.{statement}

@@ -1,4 +1,4 @@
--- `stream::open` meets its contract: one equation for every area, key and parameters. Assumes nothing.
+-- `stream::open` meets its contract: one equation for every area, key and parameters.
 use native.Mathlib.Omega.{arith}
 use mathlib.Core.Path.{sym, ap, _∙_}
 use lib.ListN.{length}

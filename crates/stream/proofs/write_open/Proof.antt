@@ -1,4 +1,4 @@
--- `stream::write_open` meets its contract. Assumes nothing.
+-- `stream::write_open` meets its contract.
 use mathlib.Core.Path.{ap, _∙_}
 use Prim.Native.Nat.{ℕ}
 use lib.ListN.{replicate, length-set}

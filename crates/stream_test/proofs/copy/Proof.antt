@@ -1,4 +1,4 @@
--- `stream_test::copy` is safe and ends. Assumes nothing.
+-- `stream_test::copy` is safe and ends.
 use lib.ListN.{length, length-set}
 use mathlib.Core.Path.{_≡_}
 use Prim.Native.Nat.{_-_, _≤_}

@@ -1,4 +1,4 @@
--- `stream_test::feed` is safe and ends. Assumes nothing.
+-- `stream_test::feed` is safe and ends.
 use mathlib.Core.Path.{sym}
 use lib.ListN.{replicate}
 use lib.Seq.{length-take-le}

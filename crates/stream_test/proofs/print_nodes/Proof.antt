@@ -1,4 +1,4 @@
--- `stream_test::print_nodes` is safe and ends. Assumes nothing.
+-- `stream_test::print_nodes` is safe and ends.
 use lib.ListN.{length}
 use Prim.Native.Nat.{_-_, _≤_}
 use borrow.Author.Needs.{needs}

@@ -1,4 +1,4 @@
--- `text_test::copy_line` is safe and ends. Assumes nothing.
+-- `text_test::copy_line` is safe and ends.
 use lib.ListN.{length, length-set}
 use mathlib.Core.Path.{_≡_}
 use Prim.Native.Nat.{_-_, _≤_}

@@ -1,4 +1,4 @@
--- `text_test::print_text` is safe and ends. Assumes nothing.
+-- `text_test::print_text` is safe and ends.
 use mathlib.Core.Path.{sym}
 use lib.Seq.{length-take-le}
 use borrow.Author.Needs.{needs}

@@ -1,5 +1,4 @@
 -- `bits::hex::digit_value` meets its contract: each way of the `match` is a way of `digitOf`.
--- Assumes nothing.
 use mathlib.Core.Path.{sym}
 use native.Mathlib.Omega.{arith}
 use borrow.Author.Needs.{needs}

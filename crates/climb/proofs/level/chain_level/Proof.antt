@@ -1,4 +1,4 @@
--- `climb::level::chain_level` meets its contract. Assumes nothing.
+-- `climb::level::chain_level` meets its contract.
 use native.Mathlib.Omega.{arith}
 use mathlib.Core.Path.{_∙_}
 use Rattle.climb.specs.Levels.{chain-made}

@@ -1,4 +1,4 @@
--- `climb::level::clear_level` meets its contract. Assumes nothing.
+-- `climb::level::clear_level` meets its contract.
 use native.Mathlib.Omega.{arith}
 use mathlib.Core.Path.{ap, _∙_}
 use Prim.Native.Nat.{ℕ}

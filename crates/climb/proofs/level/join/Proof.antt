@@ -1,4 +1,4 @@
--- `climb::level::join` meets its contract. Assumes nothing.
+-- `climb::level::join` meets its contract.
 use native.Mathlib.Omega.{arith}
 use Rattle.climb.specs.Levels.{lent-join}
 use Rattle.climb.proofs.level.join.Statement.{statement}

@@ -1,11 +1,11 @@
--- `climb::level::make_level` meets its contract. Assumes nothing.
+-- `climb::level::make_level` meets its contract.
 use native.Mathlib.Omega.{arith}
 use mathlib.Core.Path.{ap, _∙_}
 use mathlib.Core.List.{List, [], _∷_}
 use Prim.Native.Nat.{ℕ}
 use lib.Seq.{sets}
 use Rattle.tree.specs.Tree.{node}
-use Rattle.area.specs.Calls.{outWords, logOf}
+use Rattle.area.specs.Calls.{outWords, nodeLog}
 use Rattle.sound.specs.SoundLaws.{lent-level}
 use Rattle.climb.specs.MakeLaws.{paramsFrom}
 use Rattle.climb.proofs.level.make_level.Statement.{statement}
@@ -51,7 +51,7 @@ returns c =
     let P = paramsFrom (a .key .now) (a .params) in
     let e = lent-level (a .area .now) (a .level) in (
       make-node .make-node .ensures .0 ∙ ap (λ (b : List ℕ). outWords P (node P (a .level) (a .index) 0 0 b)) e,
-      make-node .make-node .ensures .1 ∙ ap (λ (b : List ℕ). sets (a .log .now) (a .at) (logOf (node P (a .level) (a .index) 0 0 b ∷ []))) e,
+      make-node .make-node .ensures .1 ∙ ap (λ (b : List ℕ). sets (a .log .now) (a .at) (nodeLog (node P (a .level) (a .index) 0 0 b ∷ []))) e,
     )
 
 pub make-level-spec : {M : Type 1} → statement M

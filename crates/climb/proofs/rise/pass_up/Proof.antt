@@ -1,4 +1,4 @@
--- `climb::rise::pass_up` meets its contract. Assumes nothing.
+-- `climb::rise::pass_up` meets its contract.
 use mathlib.Core.Path.{_≡_, ap, _∙_}
 use mathlib.Core.List.{List, [], _∷_}
 use Prim.Native.Nat.{ℕ, _*_, _/_, _%_}
@@ -7,7 +7,7 @@ use lib.Seq.{sets}
 use Rattle.lists.specs.Part.{put}
 use Rattle.tree.specs.Tree.{node}
 use Rattle.area.specs.Area.{levelWords, emptyLevel}
-use Rattle.area.specs.Calls.{outWords, logOf, joinParallel}
+use Rattle.area.specs.Calls.{outWords, nodeLog, joinParallel}
 use Rattle.climb.specs.Levels.{withLevel, length-level, length-joined, level-with, with-with}
 use Rattle.climb.specs.MakeLaws.{paramsFrom}
 use native.Mathlib.Omega.{arith}
@@ -53,7 +53,7 @@ returns c =
       clear-level .clear-level .ensures ∙ rw (join .join .ensures) (with-with area k block (n .0) (n .1) (n .2) lb emptyLevel),
       (
         make-level .make-level .ensures .0 ∙ ap (λ (x : List ℕ). outWords P (node P k (a .i / 4) 0 0 x)) e,
-        make-level .make-level .ensures .1 ∙ ap (λ (x : List ℕ). sets (a .log .now) (a .at) (logOf (node P k (a .i / 4) 0 0 x ∷ []))) e,
+        make-level .make-level .ensures .1 ∙ ap (λ (x : List ℕ). sets (a .log .now) (a .at) (nodeLog (node P k (a .i / 4) 0 0 x ∷ []))) e,
       ),
     )
 

@@ -1,4 +1,4 @@
--- `climb::rise::receive` meets its contract. Assumes nothing.
+-- `climb::rise::receive` meets its contract.
 use Rattle.climb.specs.ReceiveLaws.{Climb, climb-start, climb-more, climb-part, climb-last, climb-none, climb-room, climb-last-room}
 use Prim.Native.Nat.{_-_}
 use Rattle.climb.specs.MakeLaws.{paramsFrom}

@@ -1,4 +1,4 @@
--- `climb::rise::receive_last` meets its contract. Assumes nothing.
+-- `climb::rise::receive_last` meets its contract.
 use Rattle.climb.specs.ReceiveLaws.{last-held, last-room, last-chained}
 use lib.ListN.{length}
 use Rattle.climb.specs.MakeLaws.{paramsFrom}

@@ -1,4 +1,4 @@
--- `hash::shape::nodes_at` meets its contract. The loop's invariant: the nodes of the level that is reached. Assumes nothing.
+-- `hash::shape::nodes_at` meets its contract. The loop's invariant: the nodes of the level that is reached.
 use Rattle.hash.specs.ShapeLaws.{levelNodes-more}
 use Rattle.tree.specs.Count.{levelNodes-one}
 use Rattle.tree.specs.Sizes.{levelNodes}

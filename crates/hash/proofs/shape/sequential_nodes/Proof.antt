@@ -1,4 +1,4 @@
--- `hash::shape::sequential_nodes` meets its contract. Assumes nothing.
+-- `hash::shape::sequential_nodes` meets its contract.
 use Rattle.hash.specs.ShapeLaws.{sequentialNodes-zero, sequentialNodes-more}
 use Rattle.tree.specs.Tree.{blocks}
 use mathlib.Core.Path.{_∙_, ap}

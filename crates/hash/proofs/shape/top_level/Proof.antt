@@ -1,4 +1,4 @@
--- `hash::shape::top_level` meets its contract. The loop's invariant: the top is looked for from this level on. Assumes nothing.
+-- `hash::shape::top_level` meets its contract. The loop's invariant: the top is looked for from this level on.
 use Rattle.hash.specs.ShapeLaws.{levelNodes-more, top-start, top-one, top-more, top-past, top-most}
 use Rattle.tree.specs.Count.{levelNodes-one}
 use Rattle.tree.specs.Sizes.{levelNodes}

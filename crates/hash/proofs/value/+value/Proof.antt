@@ -1,4 +1,4 @@
--- `hash::value::value` meets its contract. The level falls at each call of itself. The loop's invariant: the block holds the values of the first j children. Assumes nothing.
+-- `hash::value::value` meets its contract. The level falls at each call of itself. The loop's invariant: the block holds the values of the first j children.
 use Rattle.hash.specs.Value.{held, childWords}
 use lib.Seq.{paste}
 use Rattle.hash.specs.BlockLaws.{child-none, child-more, child-index, node-index, value-made, value-length}
@@ -6,12 +6,11 @@ use Rattle.hash.specs.Ready.{shared}
 use Rattle.hash.specs.Value as spec
 use Rattle.tree.specs.Refusals.{pieceBits}
 use lib.ListN.{length}
-use Prim.Native.Nat.{_≤_, _-_, _+_, _*_, _<_}
+use Prim.Native.Nat.{_≤_, _-_, _+_, _*_, _<_, ℕ}
 use mathlib.Core.List.{List}
 use mathlib.Core.Path.{_≡_, refl, ap, sym, _∙_}
 use borrow.Author.Needs.{needs}
 use native.Mathlib.Omega.{arith}
-use Prim.Native.Nat.{ℕ}
 use borrow.Fn.Kinds.{In}
 use borrow.Fn.PlainCycle.{Measures, is, falls, and}
 use Rattle.hash.proofs.value.value.Reads as value

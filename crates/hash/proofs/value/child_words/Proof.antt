@@ -1,4 +1,4 @@
--- `hash::value::child_words` meets its contract. The loop's invariant: the words hold the values of the first j children. Assumes nothing.
+-- `hash::value::child_words` meets its contract. The loop's invariant: the words hold the values of the first j children.
 use Rattle.hash.specs.SequentialLaws.{third-index, sequential-index, words-children}
 use Rattle.hash.specs.BlockLaws.{child-none, child-more, value-length}
 use Rattle.hash.specs.Ready.{shared}

@@ -1,4 +1,4 @@
--- `hash::value::last_flag` meets its contract. Assumes nothing.
+-- `hash::value::last_flag` meets its contract.
 use borrow.Author.Tests.{eq-eqb, ne-eqb}
 use Prim.Native.Nat.{suc}
 use mathlib.Core.Path.{_≡_, refl}

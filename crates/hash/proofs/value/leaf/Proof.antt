@@ -1,4 +1,4 @@
--- `hash::value::leaf` meets its contract. Assumes nothing.
+-- `hash::value::leaf` meets its contract.
 use mathlib.Core.List.{List}
 use Prim.Native.Nat.{ℕ, _+_, _*_}
 use lib.ListN.{length}

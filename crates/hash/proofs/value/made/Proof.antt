@@ -1,4 +1,4 @@
--- `hash::value::made` meets its contract. Assumes nothing.
+-- `hash::value::made` meets its contract.
 use Rattle.node.specs.Words.{nodeWords}
 use mathlib.Core.Path.{_∙_}
 use borrow.Author.Needs.{needs}

@@ -1,4 +1,4 @@
--- `hash::value::message_words` meets its contract. Assumes nothing.
+-- `hash::value::message_words` meets its contract.
 use Rattle.hash.specs.SequentialLaws.{message-index, message-filled}
 use mathlib.Core.Path.{_∙_}
 use native.Mathlib.Omega.{arith}

@@ -1,4 +1,4 @@
--- `hash::value::root` meets its contract. Assumes nothing.
+-- `hash::value::root` meets its contract.
 use Rattle.hash.specs.SequentialLaws.{root-chain, root-parallel, top-some, first-node}
 use Rattle.hash.specs.Ready.{shared}
 use Rattle.hash.specs.Value as spec

@@ -1,4 +1,4 @@
--- `hash::value::sequential` meets its contract. The loop's invariant: the chain after i nodes. Assumes nothing.
+-- `hash::value::sequential` meets its contract. The loop's invariant: the chain after i nodes.
 use Rattle.hash.specs.SequentialLaws.{chain-more}
 use Rattle.hash.specs.Ready.{shared}
 use Rattle.hash.specs.ValueLaws.{chain-zero, length-chain}

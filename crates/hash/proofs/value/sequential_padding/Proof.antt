@@ -1,4 +1,4 @@
--- `hash::value::sequential_padding` meets its contract. Assumes nothing.
+-- `hash::value::sequential_padding` meets its contract.
 use Rattle.hash.specs.SequentialLaws.{message-index, third-index, padding-message, padding-children}
 use Rattle.hash.specs.Value.{held}
 use Prim.Native.Nat.{ℕ, _-_, _*_}

@@ -1,4 +1,4 @@
--- `hash::value::sequential_value` meets its contract. Assumes nothing.
+-- `hash::value::sequential_value` meets its contract.
 use Rattle.hash.specs.SequentialLaws.{sequential-index, block-made}
 use Rattle.hash.specs.Ready.{shared}
 use Rattle.hash.specs.ValueLaws.{length-sequentialWords}

@@ -1,4 +1,4 @@
--- `hash::value::sequential_words` meets its contract. Assumes nothing.
+-- `hash::value::sequential_words` meets its contract.
 use Rattle.hash.specs.SequentialLaws.{words-message}
 use Rattle.hash.specs.Ready.{shared}
 use Rattle.tree.specs.Refusals.{pieceBits}

@@ -1,5 +1,4 @@
 -- `line::Key::push` meets its contract: each arm is a case of `pushPairs`, and a pair of digits is what `two_digits` ensures.
--- Assumes nothing.
 use borrow.Author.Needs.{needs}
 use Rattle.line.proofs.Key.push.Statement.{statement}
 use Rattle.line.proofs.Key.push.Tie as tie

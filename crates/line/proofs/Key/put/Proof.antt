@@ -1,5 +1,4 @@
 -- `line::Key::put` meets its contract: whether there is room is the definition's test.
--- Assumes nothing.
 use borrow.Author.Tests.{lt-ltb, le-ltb}
 use borrow.Author.Needs.{needs}
 use Rattle.line.proofs.Key.put.Statement.{statement}

@@ -1,5 +1,4 @@
 -- `line::Number::push` meets its contract: each arm is a case of `pushNumber`, by the tests that led there.
--- Assumes nothing.
 use borrow.Author.Needs.{needs}
 use borrow.Author.Tests.{ne-eqb, lt-ltb, le-ltb}
 use Rattle.line.specs.Digits.{decimal-yes, decimal-low, decimal-high}

@@ -1,5 +1,4 @@
 -- `line::State::push` meets its contract: each arm is a case of `pushAt`, and the field with a byte more is what a call ensures.
--- Assumes nothing.
 use borrow.Author.Needs.{needs}
 use Rattle.line.proofs.State.push.Statement.{statement}
 use Rattle.line.proofs.State.push.Tie as tie

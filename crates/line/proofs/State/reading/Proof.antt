@@ -1,5 +1,4 @@
 -- `line::State::reading` meets its contract. An `else` is told only that the variant is one of the others: a lemma for each enum takes these apart.
--- Assumes nothing.
 use mathlib.Core.Path.{_≡_, refl}
 use mathlib.Core.Logic.{inl, inr}
 use mathlib.Core.List.{[], _∷_}

@@ -1,5 +1,4 @@
 -- `line::State::space` meets its contract: the next field is what `next` ensures.
--- Assumes nothing.
 use borrow.Author.Needs.{needs}
 use Rattle.line.proofs.State.space.Statement.{statement}
 use Rattle.line.proofs.State.space.Tie as tie

@@ -1,5 +1,4 @@
 -- `line::State::step` meets its contract: the test for a space is the definition's.
--- Assumes nothing.
 use Rattle.line.specs.Fold.{stepOf}
 use borrow.Author.Tests.{eq-eqb, ne-eqb}
 use borrow.Author.Needs.{needs}

@@ -1,5 +1,4 @@
 -- `md6::first::open_line` meets what its calls ask: the count of key bytes lies within those that are kept.
--- Assumes nothing.
 use mathlib.Core.Path.{sym, _∙_}
 use Rattle.line.specs.FoldLaws.{within}
 use borrow.Author.Needs.{needs}

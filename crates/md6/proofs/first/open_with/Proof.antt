@@ -1,5 +1,4 @@
 -- `md6::first::open_with` meets what its calls ask, and a stream that it opens has a digest of at most 512 bits.
--- Assumes nothing.
 use mathlib.Core.Path.{sym}
 use lib.Seq.{length-take-le}
 use lib.ListN.{take}

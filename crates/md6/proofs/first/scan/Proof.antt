@@ -1,5 +1,4 @@
 -- `md6::first::scan` is safe and ends; the places that it answers lie within the bytes.
--- Assumes nothing.
 use Prim.Native.Nat.{_≤_, _-_}
 use lib.ListN.{length}
 use borrow.Author.Needs.{needs}

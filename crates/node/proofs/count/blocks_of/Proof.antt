@@ -1,4 +1,4 @@
--- `node::count::blocks_of` meets its contract. Assumes nothing.
+-- `node::count::blocks_of` meets its contract.
 use Rattle.node.specs.CountLaws.{blocks-some, blocks-none}
 use native.Mathlib.Nat.{div-le-self}
 use Prim.Native.Nat.{_-_}

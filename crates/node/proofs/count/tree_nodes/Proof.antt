@@ -1,4 +1,4 @@
--- `node::count::tree_nodes` meets its contract. The loop's invariant: the sum, with the nodes from this level up, is the tree's number. Assumes nothing.
+-- `node::count::tree_nodes` meets its contract. The loop's invariant: the sum, with the nodes from this level up, is the tree's number.
 use Rattle.node.specs.CountLaws.{nodes-sequential, nodes-start, nodes-one, nodes-more, nodes-last}
 use Rattle.tree.specs.Sizes.{nodesFrom, treeNodes}
 use Rattle.tree.specs.Tree.{blocks}

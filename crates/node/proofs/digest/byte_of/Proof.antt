@@ -1,4 +1,4 @@
--- `node::digest::byte_of` meets its contract. Assumes nothing.
+-- `node::digest::byte_of` meets its contract.
 use Rattle.node.specs.DigestLaws.{byte-value}
 use borrow.Author.Needs.{needs}
 use Rattle.node.proofs.digest.byte_of.Statement.{statement}

@@ -1,4 +1,4 @@
--- `node::digest::key_words` meets its contract: the filled words are those of the key followed by zero bytes. Assumes nothing.
+-- `node::digest::key_words` meets its contract: the filled words are those of the key followed by zero bytes.
 use Rattle.node.specs.DigestLaws.{key-filled}
 use mathlib.Core.Path.{_∙_}
 use borrow.Author.Needs.{needs}

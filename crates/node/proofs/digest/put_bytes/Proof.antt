@@ -1,4 +1,4 @@
--- `node::digest::put_bytes` meets its contract. The loop's invariant: the first i bytes are written, the rest is as it was. Assumes nothing.
+-- `node::digest::put_bytes` meets its contract. The loop's invariant: the first i bytes are written, the rest is as it was.
 use Rattle.node.specs.DigestLaws.{bytes-none, bytes-more}
 use Rattle.bits.specs.Bits.{bitsOf, numbers}
 use lib.ListN.{length, drop, set, length-set}

@@ -1,4 +1,4 @@
--- `node::digest::write_digest` meets its contract. Assumes nothing.
+-- `node::digest::write_digest` meets its contract.
 use Rattle.node.specs.DigestLaws.{digest-bytes}
 use Rattle.bits.specs.Bits.{bitsOf, numbers, filled}
 use lib.ListN.{drop, replicate}

@@ -1,4 +1,4 @@
--- `node::number::over` meets its contract. Assumes nothing.
+-- `node::number::over` meets its contract.
 use Rattle.node.specs.NumberLaws.{over-by-division}
 use borrow.Author.Needs.{needs}
 use Rattle.node.proofs.number.over.Statement.{statement}

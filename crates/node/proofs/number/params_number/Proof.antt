@@ -1,4 +1,4 @@
--- `node::number::params_number` meets its contract, one law for each number. Assumes nothing.
+-- `node::number::params_number` meets its contract, one law for each number.
 use Rattle.node.specs.NumberLaws.{number-size, number-key, number-limit, number-rounds, number-fair}
 use mathlib.Core.Path.{sym, _∙_}
 use borrow.Author.Needs.{needs}

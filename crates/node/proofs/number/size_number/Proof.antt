@@ -1,4 +1,4 @@
--- `node::number::size_number` meets its contract. Assumes nothing.
+-- `node::number::size_number` meets its contract.
 use borrow.Author.Tests.{lt-ltb, le-ltb}
 use Rattle.node.proofs.number.size_number.Statement.{statement}
 use Rattle.node.proofs.number.size_number.Tie as tie

@@ -1,4 +1,4 @@
--- `piece::chunk::feed_bits` meets its contract. Assumes nothing.
+-- `piece::chunk::feed_bits` meets its contract.
 use native.Mathlib.Omega.{arith}
 use Rattle.piece.specs.FeedSteps.{room-some, fits-sum, below-left, some-less, le-of, fits-le, less-left, all-done}
 use Rattle.piece.specs.ChunkLaws.{Feeding, feeding-none, feeding-room, feeding-more}
@@ -8,7 +8,7 @@ use Prim.Native.Nat.{ℕ, _+_, _-_, _*_}
 use lib.ListN.{length, take}
 use lib.Seq.{sets}
 use Rattle.bits.specs.Bits.{bitsOf}
-use Rattle.area.specs.Calls.{logOf, feedBits}
+use Rattle.area.specs.Calls.{nodeLog, feedBits}
 use Rattle.climb.specs.MakeLaws.{paramsFrom}
 use Rattle.climb.specs.FlushLaws.{le-at}
 use Rattle.piece.proofs.chunk.feed_bits.Statement.{statement}
@@ -117,7 +117,7 @@ returns c =
     let P = paramsFrom (a .key .now) (a .params) in (
       f .area-is ∙ ap (λ (n : ℕ). withLevels (a .area .now) (feedBits P (a .total) (take n (bitsOf 8 (a .piece .now))) (levelsOf (a .area .now)) .levels)) e,
       (
-        f .log-is ∙ ap (λ (n : ℕ). sets (a .log .now) 0 (logOf (feedBits P (a .total) (take n (bitsOf 8 (a .piece .now))) (levelsOf (a .area .now)) .nodes))) e,
+        f .log-is ∙ ap (λ (n : ℕ). sets (a .log .now) 0 (nodeLog (feedBits P (a .total) (take n (bitsOf 8 (a .piece .now))) (levelsOf (a .area .now)) .nodes))) e,
         f .at-is ∙ ap (λ (n : ℕ). 2 * length (feedBits P (a .total) (take n (bitsOf 8 (a .piece .now))) (levelsOf (a .area .now)) .nodes)) e,
       ),
     )

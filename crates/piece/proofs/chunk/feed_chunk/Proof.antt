@@ -1,4 +1,4 @@
--- `piece::chunk::feed_chunk` meets its contract. Assumes nothing.
+-- `piece::chunk::feed_chunk` meets its contract.
 use Rattle.piece.specs.FeedSteps.{sizeOf, baseOf, room-free, room-full, size-pos, room-place, base-place}
 use Rattle.piece.specs.ChunkLaws.{chunk-free, chunk-room, chunk-full}
 use mathlib.Core.Path.{refl, sym, ap, _∙_}

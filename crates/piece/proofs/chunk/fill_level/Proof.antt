@@ -1,4 +1,4 @@
--- `piece::chunk::fill_level` meets its contract. Assumes nothing.
+-- `piece::chunk::fill_level` meets its contract.
 use mathlib.Core.Path.{_≡_, ap}
 use Prim.Native.Nat.{ℕ, _+_, _*_, _/_, _%_}
 use Rattle.bits.specs.Bits.{filled}

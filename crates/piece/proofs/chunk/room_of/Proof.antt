@@ -1,4 +1,4 @@
--- `piece::chunk::room_of` meets its contract. Assumes nothing.
+-- `piece::chunk::room_of` meets its contract.
 use Rattle.piece.specs.FeedSteps.{sizeOf, room-free, room-full, size-pos}
 use mathlib.Core.Path.{refl, sym, ap, _∙_}
 use Prim.Native.Nat.{ℕ, _-_}

@@ -1,4 +1,4 @@
--- `piece::chunk::size_of` meets its contract. Assumes nothing.
+-- `piece::chunk::size_of` meets its contract.
 use Rattle.piece.specs.FeedSteps.{size-none, size-some}
 use mathlib.Core.Path.{sym}
 use Rattle.piece.proofs.chunk.size_of.Statement.{statement}

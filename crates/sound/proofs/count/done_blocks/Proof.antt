@@ -1,4 +1,4 @@
--- `sound::count::done_blocks` meets its contract. Assumes nothing.
+-- `sound::count::done_blocks` meets its contract.
 use native.Mathlib.Omega.{arith}
 use mathlib.Core.Path.{sym}
 use Rattle.sound.specs.CountLaws.{done-none}
@@ -6,7 +6,7 @@ use Rattle.sound.proofs.count.done_blocks.Statement.{statement}
 use Rattle.sound.proofs.count.done_blocks.Tie as tie
 
 returns : tie.Need-returns
-returns c = sym (done-none _ _ (c .if1 .taken))
+returns c = sym (done-none (c .before .args .size) (c .before .args .total) (c .if1 .taken))
 
 div-result : tie.Need-div-result
 div-result c = omega arith

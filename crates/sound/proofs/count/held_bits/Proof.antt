@@ -1,4 +1,4 @@
--- `sound::count::held_bits` meets its contract. Assumes nothing.
+-- `sound::count::held_bits` meets its contract.
 use Prim.Native.Nat.{_*_, _≤_}
 use Rattle.sound.specs.CountLaws.{done-le}
 use native.Mathlib.Omega.{arith}

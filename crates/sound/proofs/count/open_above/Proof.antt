@@ -1,4 +1,4 @@
--- `sound::count::open_above` meets its contract. Assumes nothing.
+-- `sound::count::open_above` meets its contract.
 use mathlib.Core.Path.{_≡_, ap}
 use Prim.Native.Nat.{_+_}
 use Rattle.area.specs.Area.{openAbove}

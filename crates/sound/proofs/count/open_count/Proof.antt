@@ -1,4 +1,4 @@
--- `sound::count::open_count` meets its contract. Assumes nothing.
+-- `sound::count::open_count` meets its contract.
 use Prim.Native.Nat.{_-_}
 use mathlib.Core.Path.{sym, _∙_}
 use Rattle.sound.specs.CountLaws.{openCount-none, openCount-more, openAbove-le}

@@ -1,4 +1,4 @@
--- `sound::empty::empty_from` meets its contract. Assumes nothing.
+-- `sound::empty::empty_from` meets its contract.
 use mathlib.Core.Path.{sym, _∙_}
 use Prim.Native.Nat.{_/_}
 use Rattle.sound.specs.EmptyLaws.{empty-end, empty-not, empty-rest}

@@ -1,17 +1,17 @@
--- `sound::empty::or_from` meets its contract. Assumes nothing.
+-- `sound::empty::or_from` meets its contract.
+use mathlib.Core.Bool.{_&&_, and-true}
 use Rattle.sound.specs.EmptyLaws.{or-more}
 use mathlib.Core.Path.{_≡_, refl, sym, _∙_}
 use Prim.Native.Nat.{_-_}
 use lib.Dec.{eqb}
 use lib.ListN.{length, drop, drop-of-length-le}
-use Rattle.lists.specs.Both.{both, both-unit}
 use Rattle.sound.specs.LevelTests.{emptyFrom}
 use native.Mathlib.Omega.{arith}
 use Rattle.sound.proofs.empty.or_from.Statement.{statement}
 use Rattle.sound.proofs.empty.or_from.Tie as tie
 
 abbrev Inv-loop : tie.InvT-loop
-Inv-loop part from all₀ i₀ all i = both (eqb all 0) (emptyFrom 0 (drop i part)) ≡ emptyFrom 0 (drop from part)
+Inv-loop part from all₀ i₀ all i = (eqb all 0 && emptyFrom 0 (drop i part)) ≡ emptyFrom 0 (drop from part)
 
 abbrev μ-loop : tie.MeasureT-loop
 μ-loop part from all₀ i₀ all i = length part - i
@@ -41,7 +41,7 @@ loop-again c =
 returns : tie.Need-returns Inv-loop μ-loop
 returns c =
     let part = c .before .before .args .part .now in
-    sym (both-unit (eqb (c .before .loop .all) 0)) ∙ rw (drop-of-length-le part (c .loop-test .left)) at (c .before .loop .inv)
+    sym (and-true (eqb (c .before .loop .all) 0)) ∙ rw (drop-of-length-le part (c .loop-test .left)) at (c .before .loop .inv)
 
 pub or-from-spec : {M : Type 1} → statement M
 or-from-spec =

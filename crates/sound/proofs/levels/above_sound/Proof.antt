@@ -1,10 +1,10 @@
--- `sound::levels::above_sound` meets its contract. Assumes nothing.
+-- `sound::levels::above_sound` meets its contract.
 use mathlib.Core.Path.{_≡_, refl, sym, ap, _∙_}
 use Prim.Native.Nat.{_+_, _-_, _*_, _/_, _%_, _≤_}
 use borrow.Author.Tests.{not-true, not-false}
 use Rattle.area.specs.Area.{levelWords, levelsFrom}
 use Rattle.sound.specs.LevelTests.{emptyFrom, soundAbove}
-use Rattle.lists.specs.Both.{both-first, both-second}
+use Rattle.lists.specs.And.{and-first, and-second}
 use Rattle.sound.specs.SoundLaws.{lent-level, above-more, above-last, above-none}
 use native.Mathlib.Omega.{arith}
 use Rattle.sound.proofs.levels.above_sound.Statement.{statement}
@@ -72,7 +72,7 @@ returns-2 c =
     let area = start .args .area .now in
     let f = ap (emptyFrom (1024 * (at .i % 4))) (lent-level area (at .k)) in
     let e = sym f ∙ sym (empty-from .empty-from .ensures) ∙ not-true (empty-from .empty-from .result) (c .if2 .taken) in
-    sym (both-first (emptyFrom (1024 * (at .i % 4)) (levelWords area (at .k))) (soundAbove (at .n - 1) (at .i / 4) (levelsFrom area (28 - (at .k + 1)) (at .k + 1))) e)
+    sym (and-first (emptyFrom (1024 * (at .i % 4)) (levelWords area (at .k))) (soundAbove (at .n - 1) (at .i / 4) (levelsFrom area (28 - (at .k + 1)) (at .k + 1))) e)
     ∙ sym (above-more area (at .n) (at .i) (at .k) (test .if1 .left) (omega arith)) ∙ at .inv .2
 
 add-k : tie.Need-add-k Inv-loop μ-loop
@@ -93,7 +93,7 @@ loop-again c =
     let e = sym f ∙ sym (empty-from .empty-from .ensures) ∙ not-false (empty-from .empty-from .result) (c .if2 .left) in (
       omega arith,
       omega arith,
-      sym (both-second (emptyFrom (1024 * (at .i % 4)) (levelWords area (at .k))) (soundAbove (at .n - 1) (at .i / 4) (levelsFrom area (28 - (at .k + 1)) (at .k + 1))) e)
+      sym (and-second (emptyFrom (1024 * (at .i % 4)) (levelWords area (at .k))) (soundAbove (at .n - 1) (at .i / 4) (levelsFrom area (28 - (at .k + 1)) (at .k + 1))) e)
           ∙ sym (above-more area (at .n) (at .i) (at .k) (test .if1 .left) (omega arith)) ∙ at .inv .2,
     )
 

@@ -1,4 +1,4 @@
--- `sound::levels::levels_empty` meets its contract. Assumes nothing.
+-- `sound::levels::levels_empty` meets its contract.
 use mathlib.Core.Path.{_≡_, sym, ap, _∙_}
 use Prim.Native.Nat.{ℕ, _+_, _-_, _*_}
 use lib.ListN.{take, drop}

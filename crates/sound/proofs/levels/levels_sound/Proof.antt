@@ -1,4 +1,4 @@
--- `sound::levels::levels_sound` meets its contract. Assumes nothing.
+-- `sound::levels::levels_sound` meets its contract.
 use native.Mathlib.Omega.{arith}
 use mathlib.Core.Path.{sym, _∙_}
 use Rattle.sound.specs.SoundLaws.{levels-ended, levels-open}

@@ -1,11 +1,11 @@
--- `sound::levels::sequential_sound` meets its contract. Assumes nothing.
+-- `sound::levels::sequential_sound` meets its contract.
 use native.Mathlib.Omega.{arith}
 use mathlib.Core.Path.{sym, _∙_}
 use Prim.Native.Nat.{_+_}
 use lib.ListN.{take}
 use borrow.Author.Tests.{not-true, not-false}
 use Rattle.sound.specs.LevelTests.{emptyFrom}
-use Rattle.lists.specs.Both.{both-first, both-second}
+use Rattle.lists.specs.And.{and-first, and-second}
 use Rattle.sound.specs.SoundLaws.{sequential-kept, sequential-none}
 use Rattle.sound.proofs.levels.sequential_sound.Statement.{statement}
 use Rattle.sound.proofs.levels.sequential_sound.Tie as tie
@@ -40,7 +40,7 @@ returns-2 c =
     let start = test .before .before in
     let part = start .args .part .now in
     let e = sym (empty-from .empty-from2 .ensures) ∙ not-true (empty-from .empty-from2 .result) (c .if2 .taken) in
-    sym (sequential-none (start .args .done) (start .args .held) part (test .if1 .left) (start .pre .0) ∙ both-first (emptyFrom 0 (take 16 part)) (emptyFrom (1024 + start .args .held) part) e)
+    sym (sequential-none (start .args .done) (start .args .held) part (test .if1 .left) (start .pre .0) ∙ and-first (emptyFrom 0 (take 16 part)) (emptyFrom (1024 + start .args .held) part) e)
 
 add-empty-from-2 : tie.Need-add-empty-from-2
 add-empty-from-2 c = omega arith
@@ -56,7 +56,7 @@ returns-3 c =
     let part = start .args .part .now in
     let e = sym (empty-from .empty-from2 .ensures) ∙ not-false (empty-from .empty-from2 .result) (c .before .if2 .left) in
     c .empty-from3 .ensures
-    ∙ sym (sequential-none (start .args .done) (start .args .held) part (test .if1 .left) (start .pre .0) ∙ both-second (emptyFrom 0 (take 16 part)) (emptyFrom (1024 + start .args .held) part) e)
+    ∙ sym (sequential-none (start .args .done) (start .args .held) part (test .if1 .left) (start .pre .0) ∙ and-second (emptyFrom 0 (take 16 part)) (emptyFrom (1024 + start .args .held) part) e)
 
 pub sequential-sound-spec : {M : Type 1} → statement M
 sequential-sound-spec =

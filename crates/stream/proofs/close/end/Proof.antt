@@ -1,4 +1,4 @@
--- `stream::close::end` meets its contract: one equation for every area, output and log. Assumes nothing.
+-- `stream::close::end` meets its contract: one equation for every area, output and log.
 use native.Mathlib.Omega.{arith}
 use mathlib.Core.Path.{sym, _∙_}
 use Rattle.area.specs.CallLaws.{end-passed}

@@ -1,4 +1,4 @@
--- `stream::close::finish` meets its contract. Assumes nothing.
+-- `stream::close::finish` meets its contract.
 use mathlib.Core.Path.{refl, _∙_}
 use lib.ListN.{getD}
 use Rattle.climb.specs.OpenArea.{open-range}

@@ -1,4 +1,4 @@
--- `stream::close::wipe` meets its contract. Assumes nothing.
+-- `stream::close::wipe` meets its contract.
 use mathlib.Core.Path.{ap, _∙_}
 use Prim.Native.Nat.{ℕ}
 use lib.ListN.{set, replicate, length-set}

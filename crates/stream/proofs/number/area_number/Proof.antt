@@ -1,4 +1,4 @@
--- `stream::number::area_number` meets its contract, one law for each way. Assumes nothing.
+-- `stream::number::area_number` meets its contract, one law for each way.
 use native.Mathlib.Omega.{arith}
 use mathlib.Core.Path.{sym, _∙_}
 use borrow.Author.Tests.{not-true, not-false}

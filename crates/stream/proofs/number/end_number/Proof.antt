@@ -1,4 +1,4 @@
--- `stream::number::end_number` meets its contract. Assumes nothing.
+-- `stream::number::end_number` meets its contract.
 use mathlib.Core.Path.{sym, _∙_}
 use Prim.Native.Nat.{_/_, _≤_, _<_}
 use lib.ListN.{length}

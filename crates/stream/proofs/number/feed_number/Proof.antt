@@ -1,4 +1,4 @@
--- `stream::number::feed_number` meets its contract, one law for each number. Assumes nothing.
+-- `stream::number::feed_number` meets its contract, one law for each number.
 use mathlib.Core.Path.{sym, _∙_}
 use Prim.Native.Nat.{_-_, _+_, _^_, _<_, _≤_, _/_}
 use lib.ListN.{length, getD}

@@ -1,4 +1,4 @@
--- `stream::number::nodes_left` meets its contract. Assumes nothing.
+-- `stream::number::nodes_left` meets its contract.
 use Rattle.climb.specs.OpenArea.{open-range}
 use Rattle.stream.specs.NumberLaws.{count-left}
 use native.Mathlib.Omega.{arith}

@@ -1,5 +1,6 @@
--- `text::spell::spell_area`: the length is tested as soon as the head is known.
-use Rattle.text.proofs.Readable.{short-text, head-size, head-empty, wrong-length, rest-length, spelt-whole}
+-- `text::spell::spell_area`: a refused digit refuses at once, and the length is tested as soon as the head is known.
+use borrow.Author.Tests.{not-true, not-false}
+use Rattle.text.proofs.Readable.{short-text, head-refused, head-size, head-empty, wrong-length, rest-length, spelt-whole}
 use native.Mathlib.Omega.{arith}
 use borrow.Author.Needs.{needs}
 use Rattle.text.proofs.spell.spell_area.Statement.{statement}
@@ -16,17 +17,35 @@ returns c = short-text (c .before .before .before .args .text .now) (c .before .
 spell-head-requires : tie.Need-spell-head-requires
 spell-head-requires c κs = search needs
 
-text-bytes-requires : tie.Need-text-bytes-requires
-text-bytes-requires c κs = omega (arith, head-size (c .before .before .before .before .before .before .before .before .args .text .now) (c .before .before .before .spell-head .last .0) (c .before .before .before .spell-head .ensures))
-
 same-length : tie.Need-same-length
 same-length c = search needs
 
 returns-2 : tie.Need-returns-2
 returns-2 c =
-    let h = c .before .before .before .before .before .spell-head in
+    let p = c .before .before .before in
+    let t = p .before .before .before .before .before .args .text .now in
+    let h = p .spell-head in
+    head-refused t (h .last .0) (h .result) (h .ensures) (not-true (h .result) (c .if2 .taken))
+
+text-bytes-requires : tie.Need-text-bytes-requires
+text-bytes-requires c κs =
+    let p = c .before .before .before .before in
+    let t = p .before .before .before .before .before .args .text .now in
+    let h = p .spell-head in
+    let y = not-false (h .result) (c .before .if2 .left) in
+    omega (arith, head-size t (h .last .0) (h .result) (h .ensures) y)
+
+same-length-2 : tie.Need-same-length-2
+same-length-2 c = search needs
+
+returns-3 : tie.Need-returns-3
+returns-3 c =
+    let p = c .before .before .before .before .before .before in
+    let t = p .before .before .before .before .before .args .text .now in
+    let h = p .spell-head in
+    let y = not-false (h .result) (c .before .before .before .if2 .left) in
     let n = c .before .text-bytes in
-    wrong-length (c .before .before .before .before .before .before .before .before .before .before .args .text .now) (h .last .0) (h .ensures) (n .result) (n .ensures) (c .if2 .taken)
+    wrong-length t (h .last .0) (h .result) (h .ensures) y (n .result) (n .ensures) (c .if3 .taken)
 
 sub-spell-levels : tie.Need-sub-spell-levels
 sub-spell-levels c = search needs
@@ -39,20 +58,28 @@ part-spell-levels-end c = search needs
 
 spell-levels-requires : tie.Need-spell-levels-requires
 spell-levels-requires c κs =
-    let t = c .before .before .before .before .before .before .before .before .before .before .before .before .args .text .now in
-    let h = c .before .before .before .before .before .before .before .spell-head in
-    let n = c .before .before .before .text-bytes in
-    (head-size t (h .last .0) (h .ensures), head-empty t (h .last .0) (h .ensures), rest-length t (h .last .0) (h .ensures) (n .result) (n .ensures) (c .before .before .if2 .left))
+    let p = c .before .before .before .before .before .before .before .before in
+    let t = p .before .before .before .before .before .args .text .now in
+    let h = p .spell-head in
+    let y = not-false (h .result) (c .before .before .before .before .before .if2 .left) in
+    let n = c .before .before .before .text-bytes in (
+      head-size t (h .last .0) (h .result) (h .ensures) y,
+      head-empty t (h .last .0) (h .result) (h .ensures) y,
+      rest-length t (h .last .0) (h .result) (h .ensures) y (n .result) (n .ensures) (c .before .before .if3 .left),
+    )
 
-same-length-2 : tie.Need-same-length-2
-same-length-2 c = search needs
+same-length-3 : tie.Need-same-length-3
+same-length-3 c = search needs
 
-returns-3 : tie.Need-returns-3
-returns-3 c =
-    let h = c .before .before .before .before .before .before .before .before .before .before .spell-head in
+returns-4 : tie.Need-returns-4
+returns-4 c =
+    let p = c .before .before .before .before .before .before .before .before .before .before .before in
+    let t = p .before .before .before .before .before .args .text .now in
+    let h = p .spell-head in
+    let y = not-false (h .result) (c .before .before .before .before .before .before .before .before .if2 .left) in
     let n = c .before .before .before .before .before .before .text-bytes in
     let s = c .before .before .spell-levels in
-    spelt-whole (c .before .before .before .before .before .before .before .before .before .before .before .before .before .before .before .args .text .now) (h .last .0) (h .ensures) (s .last .0) (n .result) (n .ensures) (c .before .before .before .before .before .if2 .left) (s .ensures)
+    spelt-whole t (h .last .0) (h .result) (h .ensures) y (s .last .0) (s .result) (n .result) (n .ensures) (c .before .before .before .before .before .if3 .left) (s .ensures)
 
 pub spell-area-spec : {M : Type 1} → statement M
 spell-area-spec =
@@ -60,12 +87,14 @@ spell-area-spec =
     (tie.spec
     returns
     spell-head-requires
-    text-bytes-requires
     same-length
     returns-2
+    text-bytes-requires
+    same-length-2
+    returns-3
     sub-spell-levels
     part-spell-levels-start
     part-spell-levels-end
     spell-levels-requires
-    same-length-2
-    returns-3)
+    same-length-3
+    returns-4)

@@ -1,13 +1,10 @@
--- `text::spell::spell_head` stores the fields of line 1 in their words, then those of K.
+-- `text::spell::spell_head` stores the fields of line 1 in their words, then those of K, until a byte is refused.
 use mathlib.Core.Path.{_≡_, refl, sym, ap, _∙_}
-use mathlib.Core.List.{List}
 use Prim.Native.Nat.{ℕ, _-_, _≤_}
-use borrow.Rule.Slice.PartMut.{midOf, putMid}
-use lib.ListN.{length, take, drop, set, length-take, length-drop, length-replicate}
-use Rattle.digits.specs.Digits.{speltWords}
-use Rattle.text.specs.FieldLaws.{wordOf, startOf, next-start, in-line}
-use Rattle.text.proofs.LineStores.{stores, stores-none, stores-more, length-stores, head-stored-words}
-use Rattle.text.proofs.Readable.{head-size}
+use lib.ListN.{length, length-take, length-drop, length-replicate}
+use Rattle.digits.specs.Digits.{readingNumber}
+use Rattle.text.specs.FieldLaws.{startOf, next-start, in-line}
+use Rattle.text.proofs.LineStores.{stores, Known, stores-none, stores-more, length-stores, field-refused, head-none, head-spelt}
 use borrow.Author.Needs.{needs}
 use native.Mathlib.Omega.{arith}
 use Rattle.text.proofs.spell.spell_head.Statement.{statement}
@@ -18,22 +15,15 @@ use Rattle.digits.proofs.number.Reads as number-reads
 use Rattle.digits.proofs.spell_words.Reads as spell-words-reads
 
 abbrev Inv-loop : tie.InvT-loop
-Inv-loop area₀ text a₀ i₀ area a i = (i ≤ 7) × (a ≡ startOf i) × (area ≡ stores text i)
+Inv-loop area₀ text a₀ i₀ area a i = (i ≤ 7) × (a ≡ startOf i) × (area ≡ stores text i) × Known text i
 
 abbrev μ-loop : tie.MeasureT-loop
 μ-loop area₀ text a₀ i₀ area a i = 7 - i
 
--- what the stores leave
-stored : tie.Need-returns Inv-loop μ-loop
-stored c =
-    let z = c .before .before .before .before .before .before .loop in
-    let t = c .before .before .before .before .before .before .before .before .before .args .text .now in
-    let w = c .before .before .spell-words in
-    ap (λ (x : List ℕ). putMid 6 8 x (w .last .0)) (z .inv .2)
-    ∙ head-stored-words t (w .last .0) (z .i) (omega arith) (w .ensures ∙ ap (λ (x : List ℕ). speltWords (length (midOf 6 8 x)) (take 128 (drop 45 t))) (z .inv .2))
-
 loop-holds : tie.Need-loop-holds Inv-loop μ-loop
-loop-holds c = (omega arith, refl, c .before .before .pre .0 ∙ stores-none (c .before .before .args .text .now))
+loop-holds c =
+    let n = stores-none (c .before .before .args .text .now) in
+    (omega arith, refl, c .before .before .pre .0 ∙ n .0, n .1)
 
 mul-w : tie.Need-mul-w Inv-loop μ-loop
 mul-w c = search needs
@@ -59,15 +49,33 @@ part-number-end c = omega (arith, in-line (c .before .loop .i) (omega arith) .fi
 number-requires : tie.Need-number-requires Inv-loop μ-loop
 number-requires c κs = rw length-take (omega (arith, in-line (c .before .before .loop .i) (omega arith) .short, c .before .before .loop .inv .1))
 
+enum-known-x : tie.Need-enum-known-x Inv-loop μ-loop
+enum-known-x c = search needs
+
 mul-area : tie.Need-mul-area Inv-loop μ-loop
 mul-area c =
-    let w = in-line (c .before .before .before .loop .i) (omega arith) .word in
+    let w = in-line (c .before .before .before .before .before .before .loop .i) (omega arith) .word in
     search needs
 
 slice-write-area : tie.Need-slice-write-area Inv-loop μ-loop
 slice-write-area c =
-    let z = c .before .before .before .loop in
-    omega (arith, in-line (z .i) (omega arith) .word, ap length (z .inv .2), length-stores (c .before .before .before .before .before .before .args .text .now) (z .i))
+    let l = c .before .before .before .before .before .before in
+    omega (arith, in-line (l .loop .i) (omega arith) .word, ap length (l .loop .inv .2), length-stores (l .before .before .before .args .text .now) (l .loop .i))
+
+enum-told : tie.Need-enum-told Inv-loop μ-loop
+enum-told c = search needs
+
+same-length : tie.Need-same-length Inv-loop μ-loop
+same-length c =
+    let l = c .before .before .before .before .before in
+    ap length (l .loop .inv .2) ∙ length-stores (l .before .before .before .args .text .now) (l .loop .i) ∙ sym (ap length (l .before .before .before .pre .0) ∙ length-replicate {A = ℕ} 1744 0)
+
+returns : tie.Need-returns Inv-loop μ-loop
+returns c =
+    let l = c .before .before .before .before .before in
+    let t = l .before .before .before .args .text .now in
+    head-none t (l .loop .area)
+    (field-refused t (l .loop .a) (l .loop .i) (omega arith) (l .loop .inv .1) (sym (c .before .before .number .ensures) ∙ ap readingNumber (c .enum-told .given .1)))
 
 add-i : tie.Need-add-i Inv-loop μ-loop
 add-i c = search needs
@@ -77,13 +85,11 @@ loop-less c = search needs
 
 loop-again : tie.Need-loop-again Inv-loop μ-loop
 loop-again c =
-    let z = c .before .before .before .loop in
-    let t = c .before .before .before .before .before .before .args .text .now in (
-      omega arith,
-      next-start (z .i),
-      ap (λ (x : List ℕ). set x (wordOf (z .i)) (c .number .result)) (z .inv .2) ∙ ap (set (stores t (z .i)) (wordOf (z .i))) (c .number .ensures)
-          ∙ stores-more t (z .a) (z .i) (z .inv .1),
-    )
+    let l = c .before .before .before .before .before .before in
+    let t = l .before .before .before .args .text .now in
+    let m = stores-more t (l .loop .area) (l .loop .a) (l .loop .i) _ (l .loop .inv .1) (l .loop .inv .2) (l .loop .inv .3)
+    (sym (c .before .before .before .number .ensures) ∙ ap readingNumber (c .before .x .given .1)) in
+    (omega arith, next-start (l .loop .i), m .0, m .1)
 
 sub-spell-words : tie.Need-sub-spell-words Inv-loop μ-loop
 sub-spell-words c = search needs
@@ -108,11 +114,18 @@ spell-words-requires c κs =
     let z = c .before .before .before .loop in
     simp (length-take, length-drop) (omega (arith, ap length (z .inv .2), length-stores (c .before .before .before .before .before .before .args .text .now) (z .i)))
 
-same-length : tie.Need-same-length Inv-loop μ-loop
-same-length c = head-size (c .before .before .before .before .before .before .before .before .before .args .text .now) _ (stored c) ∙ sym (ap length (c .before .before .before .before .before .before .before .before .before .pre .0) ∙ length-replicate {A = ℕ} 1744 0)
+same-length-2 : tie.Need-same-length-2 Inv-loop μ-loop
+same-length-2 c =
+    let l = c .before .before .before .before .before .before in
+    let e : length (l .loop .area) ≡ length (l .before .before .before .args .area .now) =
+    ap length (l .loop .inv .2) ∙ length-stores (l .before .before .before .args .text .now) (l .loop .i) ∙ sym (ap length (l .before .before .before .pre .0) ∙ length-replicate {A = ℕ} 1744 0) in
+    search needs
 
-returns : tie.Need-returns Inv-loop μ-loop
-returns c = stored c
+returns-2 : tie.Need-returns-2 Inv-loop μ-loop
+returns-2 c =
+    let l = c .before .before .before .before .before .before in
+    let w = c .before .before .spell-words in
+    head-spelt (l .before .before .before .args .text .now) (w .last .0) (l .loop .area) (l .loop .i) (w .result) (omega arith) (l .loop .inv .2) (l .loop .inv .3) (w .ensures)
 
 pub spell-head-spec : {M : Type 1} → statement M
 spell-head-spec =
@@ -129,8 +142,12 @@ spell-head-spec =
     part-number-start
     part-number-end
     number-requires
+    enum-known-x
     mul-area
     slice-write-area
+    enum-told
+    same-length
+    returns
     add-i
     loop-less
     loop-again
@@ -141,5 +158,5 @@ spell-head-spec =
     part-spell-words-start-2
     part-spell-words-end-2
     spell-words-requires
-    same-length
-    returns)
+    same-length-2
+    returns-2)

@@ -48,7 +48,10 @@ same-length : tie.Need-same-length
 same-length c = search needs
 
 returns : tie.Need-returns
-returns c = level-spelt (c .before .before .before .before .before .before .before .args .area .now) (c .before .before .before .before .before .before .before .args .line .now) (c .before .before .spell-words .last .0) (c .before .before .before .before .before .before .before .args .level) (omega arith) (omega arith) (c .before .before .spell-words .ensures)
+returns c =
+    let a = c .before .before .before .before .before .before .before .args in
+    let w = c .before .before .spell-words in
+    level-spelt (a .area .now) (a .line .now) (w .last .0) (a .level) (w .result) (omega arith) (omega arith) (w .ensures)
 
 pub spell-level-spec : {M : Type 1} → statement M
 spell-level-spec =

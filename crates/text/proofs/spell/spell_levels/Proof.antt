@@ -1,9 +1,10 @@
--- `text::spell::spell_levels`: the loop keeps `Spelling`.
+-- `text::spell::spell_levels`: the loop keeps `Spelling`, until a byte is refused.
 use mathlib.Core.Path.{sym, _∙_}
 use Prim.Native.Nat.{_+_, _-_}
+use borrow.Author.Tests.{not-true, not-false}
 use borrow.Rule.Slice.PartMut.{mid-len}
 use Rattle.text.specs.Lines.{above-most}
-use Rattle.text.proofs.SpellLevels.{Spelling, spelling-none, spelling-room, spelling-yes, spelling-no, spelling-all}
+use Rattle.text.proofs.SpellLevels.{Spelling, spelling-none, spelling-room, spelling-yes, spelling-no, spelling-refused, spelling-all}
 use borrow.Author.Needs.{needs}
 use native.Mathlib.Omega.{arith}
 use Rattle.text.proofs.spell.spell_levels.Statement.{statement}
@@ -58,14 +59,29 @@ spell-level-requires c κs =
     let r = spelling-room (a .area .now) (a .text .now) (z .area) (z .at) (z .k) (z .inv) (omega arith) (omega arith) (sym (c .before .before .before .has-line .ensures) ∙ c .before .before .if1 .taken) in
     (omega (arith, z .inv .long), mid-len (z .at) (z .at + 1027) (a .text .now) r ∙ omega arith, omega arith, omega arith)
 
+same-length : tie.Need-same-length Inv-loop μ-loop
+same-length c = search needs
+
+returns : tie.Need-returns Inv-loop μ-loop
+returns c =
+    let p = c .before .before .before in
+    let h = p .before .before .before .before in
+    let l = h .before .before .before in
+    let a = l .before .before .before .args in
+    spelling-refused (a .area .now) (a .text .now) (l .loop .area) (l .loop .at) (l .loop .k) (l .loop .inv) (omega arith) (p .spell-level .last .0) (p .spell-level .result) (omega arith)
+    (sym (h .has-line .ensures) ∙ p .before .before .before .if1 .taken) (p .spell-level .ensures) (not-true (p .spell-level .result) (c .if2 .taken))
+
 loop-less : tie.Need-loop-less Inv-loop μ-loop
 loop-less c = search needs
 
 loop-again : tie.Need-loop-again Inv-loop μ-loop
 loop-again c =
-    let z = c .before .before .before .before .before .before .before .before .before .loop in
-    spelling-yes (c .before .before .before .before .before .before .before .before .before .before .before .before .args .area .now) (c .before .before .before .before .before .before .before .before .before .before .before .before .args .text .now) (z .area) (z .at) (z .k) (z .inv) (omega arith) (c .before .before .spell-level .last .0) (omega arith)
-    (sym (c .before .before .before .before .before .before .has-line .ensures) ∙ c .before .before .before .before .before .if1 .taken) (c .before .before .spell-level .ensures)
+    let p = c .before .before .before in
+    let h = p .before .before .before .before in
+    let l = h .before .before .before in
+    let a = l .before .before .before .args in
+    spelling-yes (a .area .now) (a .text .now) (l .loop .area) (l .loop .at) (l .loop .k) (l .loop .inv) (omega arith) (p .spell-level .last .0) (p .spell-level .result) (omega arith)
+    (sym (h .has-line .ensures) ∙ p .before .before .before .if1 .taken) (p .spell-level .ensures) (not-false (p .spell-level .result) (c .if2 .left))
 
 loop-less-2 : tie.Need-loop-less-2 Inv-loop μ-loop
 loop-less-2 c = search needs
@@ -75,11 +91,11 @@ loop-again-2 c =
     let z = c .before .before .before .before .loop in
     spelling-no (c .before .before .before .before .before .before .before .args .area .now) (c .before .before .before .before .before .before .before .args .text .now) (z .area) (z .at) (z .k) (z .inv) (omega arith) (sym (c .before .has-line .ensures) ∙ c .if1 .left)
 
-same-length : tie.Need-same-length Inv-loop μ-loop
-same-length c = c .before .loop .inv .long ∙ sym (c .before .before .before .before .pre .0)
+same-length-2 : tie.Need-same-length-2 Inv-loop μ-loop
+same-length-2 c = c .before .loop .inv .long ∙ sym (c .before .before .before .before .pre .0)
 
-returns : tie.Need-returns Inv-loop μ-loop
-returns c = spelling-all (c .before .before .before .before .args .area .now) (c .before .before .before .before .args .text .now) (c .before .loop .area) (c .before .loop .at) (c .before .loop .k) (c .before .loop .inv) (omega arith)
+returns-2 : tie.Need-returns-2 Inv-loop μ-loop
+returns-2 c = spelling-all (c .before .before .before .before .args .area .now) (c .before .before .before .before .args .text .now) (c .before .loop .area) (c .before .loop .at) (c .before .loop .k) (c .before .loop .inv) (omega arith)
 
 pub spell-levels-spec : {M : Type 1} → statement M
 spell-levels-spec =
@@ -95,9 +111,11 @@ spell-levels-spec =
     part-spell-level-start
     part-spell-level-end
     spell-level-requires
+    same-length
+    returns
     loop-less
     loop-again
     loop-less-2
     loop-again-2
-    same-length
-    returns)
+    same-length-2
+    returns-2)

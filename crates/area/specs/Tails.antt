@@ -1,0 +1,74 @@
+-- Laws: what no call changes. "words from 1,744 on are never touched", of every area, sound or not, short or long; "Feeding 0
+-- bits changes nothing." Read's words from 1,744 on: ReadLeaves of `text`.
+use mathlib.Core.Path.{_≡_, refl}
+use mathlib.Core.List.{List, []}
+use Prim.Native.Nat.{ℕ, zero, suc, _+_}
+use native.Mathlib.Omega.{arith}
+use lib.ListN.{length, drop, replicate}
+use Rattle.tree.specs.Tree.{Params}
+use Rattle.tree.specs.Refusals.{pieceBits}
+use Rattle.area.specs.Area.{areaWords, totalOf, compressionsOf, paramsOf, levelsOf, emptyLevel, emptyLevels}
+use Rattle.area.specs.Calls.{Made, feedBits, openNumber, openOf, fedBits, feedNumber, fedArea, feedOf, closedBy, endNumber, endedArea, endOf}
+use Rattle.area.specs.Machine
+use Rattle.area.specs.AreaLaws.{Changed, changed}
+use Rattle.area.specs.Sound.{empty-widths}
+use Rattle.area.specs.CallLaws.{open-accepted, open-refused, feed-accepted, feed-refused, feed-passed, end-accepted, end-refused, end-passed}
+use Rattle.area.specs.Stands.{opened-tail}
+use Rattle.area.specs.FeedLaws.{feed-nothing}
+use Rattle.area.specs.Widths.{Wide, wide-levels, wide-bits}
+
+-- ---- what an accepted feed and an accepted end change: word 1 or 0, word 14 and the levels
+
+pub feed-changed : (area piece : List ℕ) (n : ℕ) (log : List ℕ) → feedNumber area piece n log ≡ 0 →
+    (let made : Made = fedBits area (pieceBits piece n) in
+    Changed area 1 (totalOf area + n) (compressionsOf area + length (made .nodes)) (made .levels) (fedArea area n made))
+unfolding fedArea fedBits
+feed-changed area piece n log e =
+    let made : Made = feedBits (paramsOf area) (totalOf area) (pieceBits piece n) (levelsOf area) in
+    let q = feed-passed area piece n log e in
+    let w : Wide (made .levels) = wide-bits (paramsOf area) (totalOf area) (pieceBits piece n) (levelsOf area) (wide-levels area (q .long)) in
+    changed area 1 (totalOf area + n) (compressionsOf area + length (made .nodes)) (made .levels) (q .long) (omega arith) (w .widths) (w .size)
+
+pub end-changed : (area out log : List ℕ) → endNumber area out log ≡ 0 →
+    Changed area 0 2 (compressionsOf area + length (closedBy area)) emptyLevels (endedArea area (closedBy area))
+unfolding endedArea emptyLevels
+end-changed area out log e =
+    changed area 0 2 (compressionsOf area + length (closedBy area)) (replicate 27 emptyLevel) (end-passed area out log e .long) (omega arith) (empty-widths 27) refl
+
+-- ---- "words from 1,744 on are never touched"
+
+pub open-tail : (area : List ℕ) (P : Params) → drop areaWords (openOf area P .area) ≡ drop areaWords area
+open-tail area P = by (openNumber area P) refl
+  where
+    by : (k : ℕ) → openNumber area P ≡ k → drop areaWords (openOf area P .area) ≡ drop areaWords area
+    by zero e = rw (open-accepted area P e) (opened-tail area P)
+    by (suc k) e = rw (open-refused area P k e) refl
+
+pub feed-tail : (area piece : List ℕ) (n : ℕ) (log : List ℕ) → drop areaWords (feedOf area piece n log .area) ≡ drop areaWords area
+feed-tail area piece n log = by (feedNumber area piece n log) refl
+  where
+    by : (k : ℕ) → feedNumber area piece n log ≡ k → drop areaWords (feedOf area piece n log .area) ≡ drop areaWords area
+    by zero e = rw (feed-accepted area piece n log e) (feed-changed area piece n log e .tail)
+    by (suc k) e = rw (feed-refused area piece n log k e) refl
+
+pub end-tail : (area out log : List ℕ) → drop areaWords (endOf area out log .area) ≡ drop areaWords area
+end-tail area out log = by (endNumber area out log) refl
+  where
+    by : (k : ℕ) → endNumber area out log ≡ k → drop areaWords (endOf area out log .area) ≡ drop areaWords area
+    by zero e = rw (end-accepted area out log e) (end-changed area out log e .tail)
+    by (suc k) e = rw (end-refused area out log k e) refl
+
+-- ---- "Feeding 0 bits changes nothing."
+
+none-made : (area : List ℕ) → fedBits area [] .nodes ≡ []
+unfolding fedBits
+none-made area = rw (Machine.feedBits-none (paramsOf area) (totalOf area) (levelsOf area)) refl
+
+pub feed-none : (area piece log : List ℕ) →
+    (feedOf area piece 0 log .area ≡ area) × (feedOf area piece 0 log .log ≡ log) × (feedOf area piece 0 log .count ≡ 0)
+feed-none area piece log = by (feedNumber area piece 0 log) refl
+  where
+    by : (k : ℕ) → feedNumber area piece 0 log ≡ k →
+        (feedOf area piece 0 log .area ≡ area) × (feedOf area piece 0 log .log ≡ log) × (feedOf area piece 0 log .count ≡ 0)
+    by zero e = rw (feed-accepted area piece 0 log e, feed-nothing area, none-made area) (refl, refl, refl)
+    by (suc k) e = rw (feed-refused area piece 0 log k e) (refl, refl, refl)

@@ -1,0 +1,184 @@
+-- Examples: every number of the table of refusals and every order of document 01, by computing. For any two numbers that follow
+-- each other in an order there is a call to which both apply, which answers the first, and then one to which only the later
+-- applies; after these come the edges, each with what is accepted at it and refused past it.
+use mathlib.Core.Path.{_≡_, refl}
+use mathlib.Core.Bool.{true}
+use mathlib.Core.List.{List, [], _∷_, _++_, map}
+use Prim.Native.Nat.{ℕ, _-_, _^_}
+use lib.ListN.{take, set, replicate}
+use Rattle.bits.specs.Bits.{numbers}
+use Rattle.compress.specs.Compress.{grown, compressed}
+use Rattle.tree.specs.Tree.{Params, keyWords, output, noChain}
+use Rattle.area.specs.Area.{areaWords, paramsOf, levelsOf, withLevels, emptyLevel, emptyLevels, sound}
+use Rattle.area.specs.Calls.{withBit, outWords, receive, feedBit, feedBits, closeAbove, closing, openNumber, openedArea, openOf, fedBits, feedNumber, fedArea, feedOf, closedBy, endNumber, endedArea, digestOut, endOf}
+use Rattle.digits.specs.Digits.{hexDigits, speltWords}
+use Rattle.text.specs.Text.{textOf, speltHead, speltArea, same, writeNumber, writeOf, readable, readNumber, readOf}
+use Rattle.text.specs.ReadLaws.{same-eq}
+use Rattle.hash.specs.Hash.{hashNumber, hashOf, defaultRoundsOf}
+
+-- ---- parameters and areas
+
+-- d, the key's bytes, L and r
+abbrev params : ℕ → ℕ → ℕ → ℕ → Params
+params d keyBytes limit rounds = record { key = replicate keyBytes 1; d = d; limit = limit; rounds = rounds }
+
+-- an area with something in it, which is not sound
+abbrev used : List ℕ
+used = replicate areaWords 7
+
+-- one word short
+abbrev cut : List ℕ → List ℕ
+cut area = take (areaWords - 1) area
+
+abbrev opened : List ℕ
+opened = openOf used (params 8 0 64 0) .area
+
+-- after the end of the empty message
+abbrev ended : List ℕ
+ended = endOf opened (0 ∷ []) (0 ∷ 0 ∷ []) .area
+
+-- after 4,096 bits: the next bit makes a node
+abbrev full : List ℕ
+full = feedOf opened (replicate 512 255) 4096 [] .area
+
+-- after t bits, all zero, of 2^64 - 4,096 or more: 4,503,599,627,370,495 blocks were compressed at level 1, a quarter of them
+-- rounded down at level 2, and so on
+abbrev late : ℕ → List ℕ
+late t = set (set opened 1 t) 14 6004799503160634
+
+-- ---- a call's number, and the number of document 01
+
+abbrev Row : Type 0
+Row = ℕ × ℕ
+
+abbrev byte : List ℕ
+byte = 0 ∷ []
+
+-- an output that is long enough
+abbrev room : List ℕ
+room = replicate 65 0
+
+-- "open 7, 1, 2, 3, 4"
+abbrev openRows : List Row
+openRows =
+    (openOf (cut used) (params 0 0 64 0) .number, 7)
+    ∷ (openOf used (params 0 0 64 0) .number, 1)
+    ∷ (openOf used (params 513 65 64 0) .number, 1)
+    ∷ (openOf used (params 8 65 64 0) .number, 2)
+    ∷ (openOf used (params 8 65 65 0) .number, 2)
+    ∷ (openOf used (params 8 0 65 0) .number, 3)
+    ∷ (openOf used (params 8 0 65 256) .number, 3)
+    ∷ (openOf used (params 8 0 64 256) .number, 4)
+    -- edges: the length of the area; d 1, 512 and 513; key 64; L 64; r 255
+    ∷ (openOf (cut used) (params 8 0 64 0) .number, 7)
+    ∷ (openOf used (params 1 0 0 0) .number, 0)
+    ∷ (openOf used (params 512 64 64 255) .number, 0)
+    ∷ (openOf used (params 513 0 64 0) .number, 1)
+    ∷ []
+
+-- "Feed 7, 10, 5, 6, 8"
+abbrev feedRows : List Row
+feedRows =
+    (feedOf (cut ended) byte 8 [] .number, 7)
+    ∷ (feedOf (set ended 15 1) byte 8 [] .number, 7)
+    ∷ (feedOf ended byte 8 [] .number, 10)
+    ∷ (feedOf ended byte 9 [] .number, 10)
+    ∷ (feedOf opened byte 9 [] .number, 5)
+    ∷ (feedOf (late (2 ^ 64 - 1)) byte 9 [] .number, 5)
+    ∷ (feedOf (late (2 ^ 64 - 1)) byte 1 [] .number, 6)
+    ∷ (feedOf (late (2 ^ 64 - 1)) byte 2 [] .number, 6)
+    ∷ (feedOf full byte 1 [] .number, 8)
+    -- edges: 8 times the bytes; 0 bits; the highest total; no node made; a word short of one node
+    ∷ (feedOf opened byte 8 [] .number, 0)
+    ∷ (feedOf full [] 0 [] .number, 0)
+    ∷ (feedOf full [] 1 [] .number, 5)
+    ∷ (feedOf (late (2 ^ 64 - 2)) byte 1 [] .number, 0)
+    ∷ (feedOf (late (2 ^ 64 - 2)) byte 2 [] .number, 6)
+    ∷ (feedOf (late (2 ^ 64 - 1)) byte 0 [] .number, 0)
+    ∷ (feedOf full byte 1 (0 ∷ []) .number, 8)
+    ∷ (feedOf full byte 1 (0 ∷ 0 ∷ []) .number, 0)
+    ∷ []
+
+-- "End 7, 10, 9, 8"
+abbrev endRows : List Row
+endRows =
+    (endOf (cut ended) byte (0 ∷ 0 ∷ []) .number, 7)
+    ∷ (endOf (set ended 15 1) byte (0 ∷ 0 ∷ []) .number, 7)
+    ∷ (endOf ended byte (0 ∷ 0 ∷ []) .number, 10)
+    ∷ (endOf ended [] (0 ∷ 0 ∷ []) .number, 10)
+    ∷ (endOf opened [] (0 ∷ 0 ∷ []) .number, 9)
+    ∷ (endOf opened [] [] .number, 9)
+    ∷ (endOf opened byte [] .number, 8)
+    -- edges: a word short of one node; a digest of 9 bits is two bytes
+    ∷ (endOf opened byte (0 ∷ []) .number, 8)
+    ∷ (endOf opened byte (0 ∷ 0 ∷ []) .number, 0)
+    ∷ (endOf (openOf used (params 9 0 64 0) .area) byte (0 ∷ 0 ∷ []) .number, 9)
+    ∷ (endOf (openOf used (params 9 0 64 0) .area) (0 ∷ 0 ∷ []) (0 ∷ 0 ∷ []) .number, 0)
+    ∷ []
+
+-- "Write 7, 9": the text of an opened or ended area has 174 bytes
+abbrev writeRows : List Row
+writeRows =
+    (writeOf (cut opened) [] .number, 7)
+    ∷ (writeOf used [] .number, 7)
+    ∷ (writeOf opened [] .number, 9)
+    ∷ (writeOf opened (replicate 173 0) .number, 9)
+    ∷ (writeOf opened (replicate 174 0) .number, 0)
+    ∷ (writeOf ended (replicate 174 0) .number, 0)
+    ∷ []
+
+-- "Read 7, 11": what the area holds does not matter
+abbrev readRows : List Row
+readRows =
+    (readOf (cut used) [] .number, 7)
+    ∷ (readOf used [] .number, 11)
+    ∷ (readOf (cut used) (textOf ended) .number, 7)
+    ∷ (readOf used (textOf ended) .number, 0)
+    ∷ (readOf used (textOf ended ++ (10 ∷ [])) .number, 11)
+    ∷ []
+
+-- "Whole message 5, 1, 2, 3, 4, 9"
+abbrev wholeRows : List Row
+wholeRows =
+    (hashOf byte 9 (params 0 0 64 0) room .number, 5)
+    ∷ (hashOf byte 8 (params 0 0 64 0) room .number, 1)
+    ∷ (hashOf byte 8 (params 513 65 64 0) room .number, 1)
+    ∷ (hashOf byte 8 (params 8 65 64 0) room .number, 2)
+    ∷ (hashOf byte 8 (params 8 65 65 0) room .number, 2)
+    ∷ (hashOf byte 8 (params 8 0 65 0) room .number, 3)
+    ∷ (hashOf byte 8 (params 8 0 65 256) room .number, 3)
+    ∷ (hashOf byte 8 (params 8 0 64 256) room .number, 4)
+    ∷ (hashOf byte 8 (params 8 0 64 256) [] .number, 4)
+    ∷ (hashOf byte 8 (params 8 0 64 0) [] .number, 9)
+    -- edges: 8 times the bytes and one more; d 1, 512 and 513; key 64; L 64; r 255; the bytes of a digest
+    ∷ (hashOf byte 8 (params 1 64 64 255) byte .number, 0)
+    ∷ (hashOf byte 9 (params 1 64 64 255) byte .number, 5)
+    ∷ (hashOf byte 8 (params 512 0 0 0) (take 64 room) .number, 0)
+    ∷ (hashOf byte 8 (params 512 0 0 0) (take 63 room) .number, 9)
+    ∷ (hashOf byte 8 (params 513 0 0 0) room .number, 1)
+    ∷ []
+
+-- "Default rounds: 1"
+abbrev roundsRows : List Row
+roundsRows =
+    (defaultRoundsOf 0 .number, 1)
+    ∷ (defaultRoundsOf 1 .number, 0)
+    ∷ (defaultRoundsOf 512 .number, 0)
+    ∷ (defaultRoundsOf 513 .number, 1)
+    ∷ []
+
+abbrev pub rows : List Row
+rows = openRows ++ (feedRows ++ (endRows ++ (writeRows ++ (readRows ++ (wholeRows ++ roundsRows)))))
+
+abbrev answered : List ℕ
+answered = map (λ (w : Row). w .0) rows
+
+abbrev expected : List ℕ
+expected = map (λ (w : Row). w .1) rows
+
+computed : same answered expected ≡ true
+unfolding numbers keyWords output noChain compressed grown paramsOf levelsOf withLevels emptyLevel emptyLevels sound withBit outWords receive feedBit feedBits closeAbove closing openNumber openedArea openOf fedBits feedNumber fedArea feedOf closedBy endNumber endedArea digestOut endOf hexDigits textOf speltWords speltHead speltArea writeNumber writeOf readable readNumber readOf hashNumber hashOf defaultRoundsOf mathlib.Core.List.flatten
+computed = refl
+
+pub rows-hold : map (λ (w : Row). w .0) rows ≡ map (λ (w : Row). w .1) rows
+rows-hold = same-eq answered expected computed

@@ -1,0 +1,205 @@
+-- Examples: two more runs by computing. One has not ended: two writes, then a read into a short area and a feed with too short a
+-- log, both refused, the read of the second text, and a node of level 2 in its log. The other goes on after its end: a suspension
+-- of the ended stream into another area, and refused calls there. "r = 0 gives C = the last 16 words of B."
+use mathlib.Core.Path.{_≡_, refl, ap}
+use mathlib.Core.Bool.{Bool, true}
+use mathlib.Core.Option.{Option, none, some, Option·map}
+use mathlib.Core.List.{List, [], _∷_, _++_, map}
+use Prim.Native.Nat.{ℕ, _-_}
+use native.Mathlib.Omega.{arith}
+use lib.ListN.{take, replicate}
+use Rattle.lists.specs.Below.{none as nil}
+use Rattle.bits.specs.Bits.{numbers}
+use Rattle.compress.specs.Compress.{grown, compressed}
+use Rattle.tree.specs.Tree.{Params, keyWords, output, noChain, order, digest}
+use Rattle.tree.specs.Refusals.{pieceBits}
+use Rattle.area.specs.Area.{areaWords, paramsOf, levelsOf, withLevels, emptyLevel, emptyLevels, sound}
+use Rattle.area.specs.Calls.{nodeLog, withBit, outWords, receive, feedBit, feedBits, closeAbove, closing, openNumber, openedArea, openOf, fedBits, feedNumber, fedArea, feedOf, closedBy, endNumber, endedArea, digestOut, endOf, shown, levelOf}
+use Rattle.digits.specs.Digits.{hexDigits, line, speltWords}
+use Rattle.text.specs.Text.{textOf, speltHead, speltArea, writeNumber, writeOf, readable, readNumber, readOf}
+use Rattle.runs.specs.Runs.{Bytes, feed, end, show, write, read, readInto, outcomeOf, roleOf, Run, Answered, answered, Share, shareOf, joinedShares, shares, answersOf, digestIn}
+use Rattle.runs.specs.Statements.{nodesFor}
+use Rattle.runs.specs.RunTest.{lent, Numbered, callsOf, goesIf, goes-is}
+use Rattle.runs.specs.WorkedRun.{used, other, zeros}
+
+-- ---- an example, and what is computed of it
+
+-- what an area with something in it is opened with, each call with its number, and what the calls add up to
+pub record Example : Type 0 where
+  pub params : Params
+  pub list : List Numbered
+  pub share : Share
+
+abbrev opened : Example → List ℕ
+opened x = openOf used (x .params) .area
+
+-- the open's number; whether the calls may follow, with these numbers; message, log, count and output; and of the message's
+-- tree the nodes that the log is to have and, after an end, the digest
+pub record Checked : Type 0 where
+  pub opens : ℕ
+  pub goes : Bool
+  pub share : Share
+  pub nodes : List ℕ
+  pub digest : Option (List ℕ)
+
+abbrev computed : Example → Checked
+computed x = record {
+  opens = openOf used (x .params) .number;
+  goes = goesIf (opened x) none (x .list);
+  share = shares (answered (opened x) (callsOf (x .list)));
+  nodes = nodeLog (nodesFor (x .share .output) (order (x .params) (x .share .bits)));
+  digest = Option·map (λ (out : List ℕ). digest (x .params) (x .share .bits)) (x .share .output);
+}
+
+abbrev expected : Example → Checked
+expected x = record {
+  opens = 0;
+  goes = true;
+  share = x .share;
+  nodes = x .share .log;
+  digest = Option·map (digestIn (x .params)) (x .share .output);
+}
+
+-- ---- a run that has not ended: 12,289 bits, all ones, at L = 1
+
+abbrev ones : ℕ → List ℕ
+ones bytes = replicate bytes 255
+
+abbrev log : ℕ → List ℕ
+log words = replicate words 9
+
+-- the text after 8,193 bits and 2 compressions: level 1 holds a bit, and level 2 two outputs behind 16 words of zeros
+abbrev heldText : List ℕ
+heldText =
+    line (hexDigits 44 0x01000100000800000000000020010000000000000002)
+    ++ (line (zeros 128)
+    ++ (line (hexDigits 3 0x018 ++ zeros 1023) ++ line (hexDigits 2 2 ++ (zeros 256 ++ (replicate 512 102 ++ zeros 256)))))
+
+held-bytes : Bytes heldText
+unfolding hexDigits
+held-bytes = lent heldText refl
+
+abbrev short : List ℕ
+short = take (areaWords - 1) other
+
+-- three nodes of level 1, and the node of level 2 that their outputs fill; the fourth of level 1 and the root reach the last bit.
+-- V: r 000, L 01, z 0, p 0000, key bytes 00, d 008
+abbrev pub openShare : Share
+openShare = record {
+  bits = replicate 12289 true;
+  log =
+      0x0100000000000000 ∷ 0x0000010000000008 ∷ 0x0100000000000001 ∷ 0x0000010000000008
+      ∷ 0x0100000000000002 ∷ 0x0000010000000008 ∷ 0x0200000000000000 ∷ 0x0000010000000008 ∷ [];
+  count = 4;
+  output = none;
+}
+
+abbrev openExample : Example
+openExample = record {
+  params = record { key = []; d = 8; limit = 1; rounds = 0 };
+  list =
+      (feed (ones 626) 5003 (log 2) (lent (ones 626) refl) (omega arith) (lent (log 2) refl), 0)
+      ∷ (write (zeros 2228) (lent (zeros 2228) refl), 0)
+      ∷ (feed (ones 399) 3190 (log 3) (lent (ones 399) refl) (omega arith) (lent (log 3) refl), 0)
+      ∷ (write (zeros 2300) (lent (zeros 2300) refl), 0)
+      ∷ (readInto short heldText (lent short refl) held-bytes, 7)
+      ∷ (feed (ones 512) 4096 (log 3) (lent (ones 512) refl) (omega arith) (lent (log 3) refl), 8)
+      ∷ (show 2, 0)
+      ∷ (read heldText held-bytes, 0)
+      ∷ (feed (ones 512) 4096 (log 5) (lent (ones 512) refl) (omega arith) (lent (log 5) refl), 0)
+      ∷ [];
+  share = openShare;
+}
+
+-- ---- a run that goes on after its end: 12,288 bits at L = 1, with a key of one byte and d = 12
+
+abbrev pub lastBytes : List ℕ
+lastBytes = 0xa5 ∷ 0xc3 ∷ []
+
+abbrev endedText : List ℕ
+endedText = line (hexDigits 44 0x02000101000c00000000000030000000000000000004) ++ line (hexDigits 2 0x6b ++ zeros 126)
+
+ended-bytes : Bytes endedText
+unfolding hexDigits
+ended-bytes = lent endedText refl
+
+-- the first feed makes two nodes of level 1, and the end the third and the root, a sequential node of z = 1 that takes the three
+-- outputs: its last 12 bits are those of the message, 0x5c3. The output's third byte stays.
+-- V: r 000, L 01, z 0 or 1, p 0000, key bytes 01, d 00c
+abbrev pub endedShare : Share
+endedShare = record {
+  bits = replicate 12272 true ++ pieceBits lastBytes 16;
+  log =
+      0x0100000000000000 ∷ 0x000001000000100c ∷ 0x0100000000000001 ∷ 0x000001000000100c
+      ∷ 0x0100000000000002 ∷ 0x000001000000100c ∷ 0x0200000000000000 ∷ 0x000001100000100c ∷ [];
+  count = 4;
+  output = some (0x5c ∷ 0x30 ∷ 9 ∷ []);
+}
+
+abbrev endedExample : Example
+endedExample = record {
+  params = record { key = 0x6b ∷ []; d = 12; limit = 1; rounds = 0 };
+  list =
+      (feed (ones 1534) 12272 (log 4) (lent (ones 1534) refl) (omega arith) (lent (log 4) refl), 0)
+      ∷ (feed lastBytes 16 [] (lent lastBytes refl) (omega arith) nil, 0)
+      ∷ (end (log 3) (log 4) (lent (log 3) refl) (lent (log 4) refl), 0)
+      ∷ (write (zeros 174) (lent (zeros 174) refl), 0)
+      ∷ (readInto other endedText (lent other refl) ended-bytes, 0)
+      ∷ (feed (ones 1) 1 (log 2) (lent (ones 1) refl) (omega arith) (lent (log 2) refl), 10)
+      ∷ (end (log 3) (log 4) (lent (log 3) refl) (lent (log 4) refl), 10)
+      ∷ (show 2, 0)
+      ∷ [];
+  share = endedShare;
+}
+
+-- ---- both, by computing
+
+examples : (computed openExample ≡ expected openExample) × (computed endedExample ≡ expected endedExample)
+unfolding numbers keyWords output noChain compressed grown paramsOf levelsOf withLevels emptyLevel emptyLevels sound withBit outWords receive feedBit feedBits closeAbove closing openNumber openedArea openOf fedBits feedNumber fedArea feedOf closedBy endNumber endedArea digestOut endOf shown levelOf hexDigits textOf speltWords speltHead speltArea writeNumber writeOf readable readNumber readOf outcomeOf roleOf goesIf answered shareOf joinedShares shares mathlib.Core.List.flatten
+examples = (refl, refl)
+
+-- ---- the runs
+
+runOf : (x : Example) → Bytes (x .params .key) → computed x ≡ expected x → Run
+runOf x b e = record {
+  area = used;
+  params = x .params;
+  calls = callsOf (x .list);
+  words = lent used refl;
+  bytes = b;
+  opened = ap (λ (c : Checked). c .opens) e;
+  goes = goes-is (opened x) none (x .list) (ap (λ (c : Checked). c .goes) e) .0;
+}
+
+-- the numbers of a run's calls, and what they add up to; by the definition of the tree the log and the digest are the same
+pub record Gives (r : Run) (ns : List ℕ) (s : Share) : Type 0 where
+  pub numbers : map (λ (a : Answered). a .outcome .number) (answersOf r) ≡ ns
+  pub share : shares (answersOf r) ≡ s
+  pub log : nodeLog (nodesFor (s .output) (order (r .params) (s .bits))) ≡ s .log
+  pub digest : Option·map (λ (out : List ℕ). digest (r .params) (s .bits)) (s .output) ≡ Option·map (digestIn (r .params)) (s .output)
+
+gives : (x : Example) (b : Bytes (x .params .key)) (e : computed x ≡ expected x) → Gives (runOf x b e) (map (λ (n : Numbered). n .1) (x .list)) (x .share)
+unfolding runOf
+gives x b e = record {
+  numbers = goes-is (opened x) none (x .list) (ap (λ (c : Checked). c .goes) e) .1;
+  share = ap (λ (c : Checked). c .share) e;
+  log = ap (λ (c : Checked). c .nodes) e;
+  digest = ap (λ (c : Checked). c .digest) e;
+}
+
+pub openRun : Run
+openRun = runOf openExample nil (examples .0)
+
+pub open-run : Gives openRun (0 ∷ 0 ∷ 0 ∷ 0 ∷ 7 ∷ 8 ∷ 0 ∷ 0 ∷ 0 ∷ []) openShare
+unfolding openRun
+open-run = gives openExample nil (examples .0)
+
+key-bytes : Bytes (0x6b ∷ [])
+key-bytes = lent (0x6b ∷ []) refl
+
+pub endedRun : Run
+endedRun = runOf endedExample key-bytes (examples .1)
+
+pub ended-run : Gives endedRun (0 ∷ 0 ∷ 0 ∷ 0 ∷ 0 ∷ 10 ∷ 10 ∷ 0 ∷ []) endedShare
+unfolding endedRun
+ended-run = gives endedExample key-bytes (examples .1)

@@ -1,0 +1,117 @@
+-- Definitions: what is said of every run (`Demand3`, `Table`) and of two runs that both ended (`Same`), and the functions that
+-- these statements use. Their theorems are `demand3`, `table`, `same-runs` and `run-collision`.
+use mathlib.Core.Path.{_≡_}
+use mathlib.Core.Bool.{Bool, true, not, cond}
+use mathlib.Core.Logic.{_⊎_}
+use mathlib.Core.Option.{Option, none, some}
+use mathlib.Core.List.{List, [], _++_}
+use Prim.Native.Nat.{ℕ, _+_, _-_, _*_, _^_, _≤_, _<_}
+use lib.Dec.{ltb}
+use lib.ListN.{length}
+use Rattle.tree.specs.Tree.{Params, Valid, Node, Mark, mostLevels, order, digest, digestBytes}
+use Rattle.tree.specs.Refusals.{pieceBits, refusedBits, refusedParams, refusedOutput}
+use Rattle.area.specs.Area.{areaWords, phaseOf, totalOf, paramsOf, levelWords, sound}
+use Rattle.area.specs.Calls.{refusedShort, openOf, feedOf, endOf, levelOf}
+use Rattle.area.specs.Calls
+use Rattle.area.specs.Marks.{allNodes, settled}
+use Rattle.text.specs.Text.{textOf, writeOf, readable, readOf}
+use Rattle.runs.specs.Runs.{Run, areaOf, messageOf, logOf, countOf, outputOf, digestIn}
+
+-- ---- demand 3
+
+-- "U and V, in the order of nodes, of the nodes of its tree: all of them if an end was accepted, otherwise those that do not
+-- reach the last bit": an end was accepted if there is an output of it
+abbrev pub nodesFor : Option (List ℕ) → List Mark → List Node
+nodesFor none marks = settled marks
+nodesFor (some out) marks = allNodes marks
+
+abbrev pub nodesOf : Run → List Node
+nodesOf r = nodesFor (outputOf r) (order (r .params) (messageOf r))
+
+-- "Word 0: 1 open, 2 ended"
+abbrev pub phaseFor : Option (List ℕ) → ℕ
+phaseFor none = 1
+phaseFor (some out) = 2
+
+pub record Demand3 (r : Run) : Type 0 where
+  -- "After every run, ended or not, the log is U and V, in the order of nodes, of the nodes of its tree"
+  pub log : logOf r ≡ Calls.nodeLog (nodesOf r)
+  -- "The count is the number of these nodes."
+  pub count : countOf r ≡ length (nodesOf r)
+  -- "After an accepted end the digest is the tree's."
+  pub digest : (out : List ℕ) → outputOf r ≡ some out → digestIn (r .params) out ≡ digest (r .params) (messageOf r)
+  -- "Which calls are accepted follows from the table: after the open the area is sound, it has ended once an end was accepted, the
+  -- total is the message's length": the area as the last call left it
+  pub long : areaWords ≤ length (areaOf r)
+  pub sound : sound (areaOf r) ≡ true
+  pub phase : phaseOf (areaOf r) ≡ phaseFor (outputOf r)
+  pub total : totalOf (areaOf r) ≡ length (messageOf r)
+  pub params : paramsOf (areaOf r) ≡ r .params
+  -- number 6 and the accepted open give these
+  pub short : length (messageOf r) < 2 ^ 64
+  pub valid : Valid (r .params)
+
+-- ---- which calls are accepted
+
+-- "10, 0: area has ended", and otherwise what the tests after it give
+abbrev pub tenIf : Option (List ℕ) → ℕ → ℕ
+tenIf none later = later
+tenIf (some out) later = 10
+
+-- the nodes that a feed of the bits Y makes after M, and those that the end makes: "a call makes the nodes that it adds to the log"
+abbrev pub feedMakes : Params → List Bool → List Bool → ℕ
+feedMakes P M Y = length (settled (order P (M ++ Y))) - length (settled (order P M))
+
+abbrev pub endMakes : Params → List Bool → ℕ
+endMakes P M = length (order P M) - length (settled (order P M))
+
+-- "Which calls are accepted follows from the table": the number of each call after a run, by its parameters, its message and
+-- whether an end was accepted. Of the tests of the table those stand here that the call can still fail, in their order: the
+-- stream's own area is neither short nor unsound.
+pub record Table (r : Run) : Type 0 where
+  -- "Feed 7, 10, 5, 6, 8"
+  pub feed : (piece : List ℕ) (n : ℕ) (log : List ℕ) → feedOf (areaOf r) piece n log .number
+      ≡ tenIf (outputOf r)
+      (refusedBits piece n
+      (cond (ltb (2 ^ 64 - 1) (length (messageOf r) + n)) 6
+      (cond (ltb (length log) (2 * feedMakes (r .params) (messageOf r) (pieceBits piece n))) 8 0)))
+  -- "End 7, 10, 9, 8"
+  pub end : (out log : List ℕ) → endOf (areaOf r) out log .number
+      ≡ tenIf (outputOf r)
+      (refusedOutput (digestBytes (r .params .d)) out
+      (cond (ltb (length log) (2 * endMakes (r .params) (messageOf r))) 8 0))
+  -- "Write 7, 9"
+  pub write : (out : List ℕ) → writeOf (areaOf r) out .number ≡ refusedOutput (length (textOf (areaOf r))) out 0
+  -- "Read 7, 11": 11 exactly if the text is not what writing some sound area gives; another area may be short
+  pub read : (text : List ℕ) → readOf (areaOf r) text .number ≡ cond (not (readable text)) 11 0
+  pub readInto : (other text : List ℕ) → readOf other text .number ≡ refusedShort other (cond (not (readable text)) 11 0)
+  -- "open 7, 1, 2, 3, 4"
+  pub reopen : (Q : Params) → openOf (areaOf r) Q .number ≡ refusedParams Q 0
+  -- "Showing a level gives back that level's part of the caller's area, or an empty part if .. the level outside 1 to 27"
+  pub show : (level : ℕ) → 1 ≤ level → level ≤ mostLevels → levelOf (areaOf r) level ≡ levelWords (areaOf r) level
+  pub showNone : (level : ℕ) → level < 1 ⊎ mostLevels < level → levelOf (areaOf r) level ≡ []
+
+-- ---- two runs that both ended
+
+-- an end was accepted: its output
+pub record EndedRun (r : Run) : Type 0 where
+  pub out : List ℕ
+  pub is : outputOf r ≡ some out
+
+-- the run's digest
+abbrev pub digestOf : (r : Run) → EndedRun r → List ℕ
+digestOf r e = digestIn (r .params) (e .out)
+
+-- "runs alike in message, key, digest size, height limit and rounds"
+pub record Alike (a b : Run) : Type 0 where
+  pub message : messageOf a ≡ messageOf b
+  pub key : a .params .key ≡ b .params .key
+  pub d : a .params .d ≡ b .params .d
+  pub limit : a .params .limit ≡ b .params .limit
+  pub rounds : a .params .rounds ≡ b .params .rounds
+
+-- ".., both ended, give the same count, order and digest": the order is the log's
+pub record Same (a b : Run) (e : EndedRun a) (f : EndedRun b) : Type 0 where
+  pub count : countOf a ≡ countOf b
+  pub log : logOf a ≡ logOf b
+  pub digest : digestOf a e ≡ digestOf b f
