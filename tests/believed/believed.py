@@ -38,6 +38,9 @@ NO_CITATIONS = {TABLE, "Sizes", "How to try to break it"}
 # words in backticks that are plainly no names of theorems or definitions: the language's, and the C library's
 NO_NAMES = {"requires", "ensures", "axioms=", "read", "write"}
 
+# what the language brings of its own into every file and clause
+PRELUDE = {"now", "ℓ", "⊥", "¬", "Unit"}
+
 KINDS = ("-- Definitions: ", "-- Laws: ", "-- Examples: ")
 
 
@@ -636,9 +639,11 @@ class Repository:
                 self.clauses(scan, l, inside)
 
     def unknown(self, word, imports, where):
-        """A word that no line of the file brings is the prelude's; it must not be a name that we define somewhere."""
+        """A word that no line of the file brings must be one of the prelude's."""
         name = word.split(".")[0]
-        if name not in imports.names and name not in imports.modules and any(name in f.decls for f in self.files.values()):
+        if name in PRELUDE or name in imports.names or name in imports.modules:
+            return
+        if not any(name in full.split("_") for full in imports.names if "_" in full):
             self.fail("cannot tell what %s in %s means" % (word, where))
 
     # -- roots
@@ -646,7 +651,9 @@ class Repository:
     def reach(self, d, before, whole=None):
         """A declaration is reached, all of it or its type alone, from another such or from a root's label."""
         if whole is None:
-            whole = not self.is_proof(d)
+            # only an example may speak of a proof, by its statement alone; what a definition or a contract names counts whole
+            example = isinstance(before, tuple) and self.files[before[0].file].text.startswith(KINDS[2])
+            whole = not (example and self.is_proof(d))
         if (d, True) not in self.reached and (d, whole) not in self.reached:
             self.reached[d, whole] = before
             self.queue.append((d, whole))
@@ -676,6 +683,9 @@ class Repository:
 
     def roots(self):
         for crate, file, name in CALLS:
+            lib = self.sources.get(crate + "/lib")
+            if file != "lib" and (not lib or lib.uses.get(name) != file):
+                self.fail("crates/%s/src/lib.rt does not pass on %s of %s.rt" % (crate, name, file))
             self.contract(crate + "/" + file, name, "%s::%s" % (crate, name), True)
         exports = self.sources.get("/".join(EXPORTS))
         if exports is None or not exports.exports:
@@ -833,7 +843,8 @@ class Repository:
 
     def examples_alone(self):
         for key in sorted(set(self.believed) - self.examples):
-            for m, n in self.files[key].imports.names.values():
+            brought = list(self.files[key].imports.names.values()) + [(m, "all") for m in self.files[key].imports.modules.values()]
+            for m, n in brought:
                 ours = OURS.match(m)
                 if ours and "/".join(ours.groups()) in self.examples:
                     self.fail("%s is a file of definitions and takes %s from the examples %s" % (key, n, "/".join(ours.groups())))
@@ -943,6 +954,24 @@ def self_test(root):
                 (source, r"^(pub fn open\([^)]*\) -> [^\n]*\n)", "\\1    ensures { λ o. ⌜ o .count ≡ twisted (o .count) ⌝ }\n"),
             ],
             "%s has to be believed and %s does not list it: stream::open -> twisted (%s)" % (helper, PAGE, helper),
+        ),
+        (
+            "a helper that is brought under the name of a definition, and whose type hides that it is one",
+            [
+                ("crates/%s.antt" % helper.replace("/", "/specs/"), r"\Z", "\npub twisted : ℕ → let T : Type 0 = ℕ in T\ntwisted n = n\n"),
+                (source, r"^(ghost use Rattle.area.specs.Calls.\{.*?), logWordsOf(.*)$", "\\1\\2\nghost use Rattle.stream.specs.%s.{twisted as logWordsOf};" % helper.split("/")[1]),
+            ],
+            "%s has to be believed and %s does not list it: stream::log_words -> twisted (%s)" % (helper, PAGE, helper),
+        ),
+        (
+            "a word of a contract that no line brings",
+            [(source, r"^(pub fn open\([^)]*\) -> [^\n]*\n)", "\\1    ensures { λ o. ⌜ o .count ≡ «guess» ⌝ }\n")],
+            "cannot tell what «guess» in stream::open means",
+        ),
+        (
+            "another function passed on as the end",
+            [(source, r"^pub use close::end;", "pub use number::end;")],
+            "crates/stream/src/lib.rt does not pass on end of close.rt",
         ),
         (
             "a row missing in the table",

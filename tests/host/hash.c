@@ -5,13 +5,7 @@
  * Every buffer stands between guard bytes or ends at a page that may not be touched. Refused calls are compared with a plain
  * table of the refusals, and must change nothing.
  */
-#define main second_main
-#include "../second/md6ref.c"
-#undef main
-
-#include "../../include/md6.h"
-#include "guard.h"
-#include "random.h"
+#include "host.h"
 
 /* a length in bits at or beside an edge of the tree, or anywhere */
 static uint64_t pick_bits(void)
@@ -61,17 +55,9 @@ static uint64_t expected_number(uint64_t message_bytes, uint64_t bits, uint64_t 
 
 static void second_digest(const uint8_t *message, uint64_t bits, const uint8_t *key, size_t key_bytes, uint64_t d, uint64_t limit, uint64_t rounds, uint8_t out[64])
 {
-    struct param P;
+    struct param P = second_params(key, key_bytes, d, limit, rounds);
     struct tree T;
-    size_t i;
 
-    memset(&P, 0, sizeof P);
-    P.keylen = (unsigned)key_bytes;
-    P.d = (unsigned)d;
-    P.L = (unsigned)limit;
-    P.r = (unsigned)rounds;
-    for (i = 0; i < key_bytes; i++)
-        P.key[i / 8] |= (uint64_t)key[i] << (56 - 8 * (i % 8));
     hash(&P, message, bits, &T, out);
     drop(&T);
 }
@@ -169,10 +155,9 @@ static int null_right(void)
 
 int main(int argc, char **argv)
 {
-    uint64_t seed = argc > 1 ? strtoull(argv[1], NULL, 0) : (uint64_t)time(NULL), i, bad = 0, refused = 0;
+    uint64_t seed = begin(argc, argv), i, refused = 0;
     uint64_t inputs = argc > 2 ? strtoull(argv[2], NULL, 0) : 3000;
 
-    random_seed(seed);
     printf("seed %" PRIu64 ": %" PRIu64 " inputs\n", seed, inputs);
     for (i = 0; i < inputs; i++) {
         int spoil = below(4) == 0;
@@ -180,8 +165,8 @@ int main(int argc, char **argv)
         bad += !try_input(&in);
         refused += expected_number(in.message_bytes, in.bits, in.key_bytes, in.d, in.limit, in.rounds, in.digest_bytes) != 0;
     }
-    bad += !default_rounds_right();
-    bad += !null_right();
+    expect(default_rounds_right(), "default rounds");
+    expect(null_right(), "null pointers");
     printf("%" PRIu64 " refused among them; %" PRIu64 " differ\n", refused, bad);
     return bad != 0;
 }

@@ -5,25 +5,9 @@
  * The rows of document 01's "Reels by hand" are fed whole, bit by bit, and cut at every edge. Random messages, cut at random, are fed and ended, and the digest is compared with md6_hash's and the joined counts with the
  * number of nodes of the second program's tree. Then random calls on damaged areas: whatever is refused must change nothing.
  */
-#define main second_main
-#include "../second/md6ref.c"
-#undef main
-
-#include "../../include/md6.h"
-#include "guard.h"
-#include "random.h"
+#include "host.h"
 
 enum { CUTTINGS = 2000, DAMAGED = 2000, MESSAGE_BYTES = 9000, LOG_WORDS = 4096, TAIL = 8 };
-
-static uint64_t bad;
-
-static void expect(int good, const char *what)
-{
-    if (!good) {
-        bad++;
-        printf("wrong: %s\n", what);
-    }
-}
 
 /* the node lines of the second program's tree, as words U, V, in order */
 static size_t second_log(const struct tree *T, int level, uint64_t i, uint64_t *log, size_t at)
@@ -58,18 +42,11 @@ static struct params pick_params(void)
 
 static size_t second_tree(const struct params *p, const uint8_t *message, uint64_t bits, uint64_t *log, uint8_t digest[64])
 {
-    struct param P;
+    struct param P = second_params(p->key, p->key_bytes, p->d, p->limit, p->rounds);
     struct tree T;
-    size_t i, at = 0;
+    size_t at = 0;
     uint64_t k;
 
-    memset(&P, 0, sizeof P);
-    P.keylen = (unsigned)p->key_bytes;
-    P.d = (unsigned)p->d;
-    P.L = (unsigned)p->limit;
-    P.r = (unsigned)p->rounds;
-    for (i = 0; i < p->key_bytes; i++)
-        P.key[i / 8] |= (uint64_t)p->key[i] << (56 - 8 * (i % 8));
     hash(&P, message, bits, &T, digest);
     for (k = 0; k < T.lv[T.levels].nodes; k++)
         at = second_log(&T, T.levels, k, log, at);
@@ -239,10 +216,9 @@ static void one_damage(void)
 
 int main(int argc, char **argv)
 {
-    uint64_t seed = argc > 1 ? strtoull(argv[1], NULL, 0) : (uint64_t)time(NULL);
+    uint64_t seed = begin(argc, argv);
     unsigned i;
 
-    random_seed(seed);
     printf("seed %" PRIu64 ": %d cuttings, %d calls on damaged areas\n", seed, CUTTINGS, DAMAGED);
     all_rows();
     for (i = 0; i < CUTTINGS; i++)

@@ -6,25 +6,9 @@
  * with md6_hash of the joined message. Then damaged texts: whatever is read must write back to itself, and whatever is refused
  * must change nothing.
  */
-#include <inttypes.h>
-#include <stdlib.h>
-#include <time.h>
-
-#include "../../include/md6.h"
-#include "guard.h"
-#include "random.h"
+#include "host.h"
 
 enum { RUNS = 300, CALLS = 200, DAMAGED = 100000, MESSAGE_BYTES = 100000, PIECE_BYTES = 1100, LOG_WORDS = 256 };
-
-static uint64_t bad;
-
-static void expect(int good, const char *what)
-{
-    if (!good) {
-        bad++;
-        printf("wrong: %s\n", what);
-    }
-}
 
 /* the bits of a piece behind those of the message */
 static void join(uint8_t *message, uint64_t at, const uint8_t *piece, uint64_t bits)
@@ -266,10 +250,9 @@ static void one_damage(uint64_t *read)
 
 int main(int argc, char **argv)
 {
-    uint64_t seed = argc > 1 ? strtoull(argv[1], NULL, 0) : (uint64_t)time(NULL), read = 0;
+    uint64_t seed = begin(argc, argv), read = 0;
     int i;
 
-    random_seed(seed);
     printf("seed %" PRIu64 ": %d runs of %d calls, %d damaged texts\n", seed, RUNS, CALLS, DAMAGED);
     all_edges();
     named_damages();

@@ -2,13 +2,13 @@
 -- An area is a list of words.
 use mathlib.Core.Bool.{Bool, true, false, not, _||_, _&&_}
 use mathlib.Core.List.{List, [], _∷_, _++_, flatten}
-use Prim.Native.Nat.{ℕ, zero, suc, _+_, _-_, _*_, _/_, _%_}
+use Prim.Native.Nat.{ℕ, zero, suc, _+_, _-_, _*_, _/_, _%_, _≤_}
 use lib.Dec.{eqb, ltb}
-use lib.ListN.{take, drop, getD, replicate}
+use lib.ListN.{length, take, drop, getD, replicate}
 use Rattle.bits.specs.Bits.{bitsOf, numbers}
 use Rattle.tree.specs.Tree.{Params, blockBits, sequentialBits, outputBits, mostLevels}
 use Rattle.tree.specs.Sizes.{treeNodes}
-use Rattle.tree.specs.Refusals.{refusedParams}
+use Rattle.tree.specs.Refusals.{firstRefusal, paramTests}
 
 -- the words before the levels, the words of a level, and the words of an output
 abbrev pub headWords : ℕ
@@ -20,9 +20,16 @@ blockWords = 64
 abbrev pub outputWords : ℕ
 outputWords = 16
 
+-- the levels of an area: one for each that a tree can have
+abbrev pub areaLevels : ℕ
+areaLevels = mostLevels
+
 -- "An area is at least 1,744 lent 64-bit words": 16 and 27 times 64
 abbrev pub areaWords : ℕ
-areaWords = headWords + mostLevels * blockWords
+areaWords = headWords + areaLevels * blockWords
+
+abbrev pub Long : List ℕ → Type 0
+Long area = areaWords ≤ length area
 
 -- ---- the layout
 
@@ -53,16 +60,22 @@ paramsOf area = record {
 }
 
 -- "Level k has 64 words from 16 + 64(k - 1)"
-abbrev pub levelWords : List ℕ → ℕ → List ℕ
-levelWords area k = take blockWords (drop (headWords + blockWords * (k - 1)) area)
+abbrev pub levelStart : ℕ → ℕ
+levelStart k = headWords + blockWords * (k - 1)
 
--- n levels from level k on
+abbrev pub levelWords : List ℕ → ℕ → List ℕ
+levelWords area k = take blockWords (drop (levelStart k) area)
+
+-- n levels from level k on, all from level k on, and all
 abbrev pub levelsFrom : List ℕ → ℕ → ℕ → List (List ℕ)
 levelsFrom area zero k = []
 levelsFrom area (suc n) k = levelWords area k ∷ levelsFrom area n (suc k)
 
+abbrev pub levelsUp : List ℕ → ℕ → List (List ℕ)
+levelsUp area k = levelsFrom area (areaLevels + 1 - k) k
+
 unfoldable pub levelsOf : List ℕ → List (List ℕ)
-levelsOf area = levelsFrom area mostLevels 1
+levelsOf area = levelsFrom area areaLevels 1
 
 -- an area with other levels; "words from 1,744 on are never touched"
 unfoldable pub withLevels : List ℕ → List (List ℕ) → List ℕ
@@ -71,8 +84,8 @@ withLevels area levels = take headWords area ++ (flatten levels ++ drop areaWord
 unfoldable pub emptyLevel : List ℕ
 emptyLevel = replicate blockWords 0
 
-unfoldable pub emptyLevels : List (List ℕ)
-emptyLevels = replicate mostLevels emptyLevel
+unfoldable pub emptyLevels : ℕ → List (List ℕ)
+emptyLevels n = replicate n emptyLevel
 
 -- ---- what each level holds
 
@@ -111,14 +124,15 @@ holdsAbove zero n i = []
 holdsAbove (suc k) zero i = sequentialHold (i / 3) (outputBits * heldSequential i) ∷ replicate k (parallelHold 0)
 holdsAbove (suc k) (suc n) i = parallelHold (outputBits * heldParallel i) ∷ holdsAbove k n (i / 4)
 
--- the levels of an open area, for a limit and a total
-abbrev pub openHolds : ℕ → ℕ → List Hold
-openHolds zero T = sequentialHold (doneBlocks sequentialBits T) (heldBits sequentialBits T) ∷ replicate (mostLevels - 1) (parallelHold 0)
-openHolds (suc n) T = parallelHold (heldBits blockBits T) ∷ holdsAbove (mostLevels - 1) n (doneBlocks blockBits T)
+-- the k levels of an open area, for a limit and a total
+abbrev pub openHolds : ℕ → ℕ → ℕ → List Hold
+openHolds zero limit T = []
+openHolds (suc k) zero T = sequentialHold (doneBlocks sequentialBits T) (heldBits sequentialBits T) ∷ replicate k (parallelHold 0)
+openHolds (suc k) (suc n) T = parallelHold (heldBits blockBits T) ∷ holdsAbove k n (doneBlocks blockBits T)
 
 -- and of an ended one: "Ended areas hold nothing in any level and keep no sequential output"
-abbrev pub holdsFor : ℕ → ℕ → ℕ → List Hold
-holdsFor phase limit T = elim (eqb phase 2) [ true ↦ replicate mostLevels (parallelHold 0) | false ↦ openHolds limit T ]
+abbrev pub holdsFor : ℕ → ℕ → ℕ → ℕ → List Hold
+holdsFor k phase limit T = elim (eqb phase 2) [ true ↦ replicate k (parallelHold 0) | false ↦ openHolds k limit T ]
 
 -- ---- how many nodes were made
 
@@ -152,7 +166,7 @@ cleanAll (h ∷ hs) [] = true
 cleanAll (h ∷ hs) (ws ∷ levels) = clean h ws && cleanAll hs levels
 
 abbrev pub soundLevels : List ℕ → Bool
-soundLevels area = cleanAll (holdsFor (phaseOf area) (paramsOf area .limit) (totalOf area)) (levelsOf area)
+soundLevels area = cleanAll (holdsFor areaLevels (phaseOf area) (paramsOf area .limit) (totalOf area)) (levelsOf area)
 
 -- "word 0 is 1 or 2"
 abbrev pub soundPhase : List ℕ → Bool
@@ -160,7 +174,7 @@ soundPhase area = eqb (phaseOf area) 1 || eqb (phaseOf area) 2
 
 -- "its parameters are in range"
 abbrev pub soundParams : List ℕ → Bool
-soundParams area = eqb (refusedParams (paramsOf area) 0) 0
+soundParams area = eqb (firstRefusal (paramTests (paramsOf area))) 0
 
 -- "unused key bytes are zero"
 abbrev pub soundKey : List ℕ → Bool

@@ -4,42 +4,64 @@ use mathlib.Core.Bool.{Bool, true, false}
 use mathlib.Core.List.{List, [], _∷_, _++_, append-assoc, append-nil, flatten}
 use Prim.Native.Nat.{ℕ, zero, suc, _+_, _-_, _*_, _^_, _≤_, _<_}
 use native.Mathlib.Omega.{arith}
-use lib.ListN.{length, take, drop, getD, set, replicate, length-append, length-drop, length-replicate, length-set, take-append-drop}
+use lib.ListN.{length, take, drop, getD, set, replicate, length-append, length-take, length-drop, length-replicate, length-set, take-append-drop}
 use lib.Seq.{take-at, drop-at, getD-take, drop-append-le, take-append-le, take-set-le, drop-set-lt, drop-set-add, getD-set-same, getD-set-other, length-take-le}
 use Rattle.lists.specs.Append.{cons-eq}
 use Rattle.lists.specs.Below.{Below}
 use Rattle.bits.specs.Bits.{bitsOf, numbers}
 use Rattle.bits.specs.BitsLaws.{length-bitsOf, length-numbers, bitsOf-append, bitsOf-zeros, bitsOf-numbers, numbers-bitsOf}
-use Rattle.tree.specs.Tree.{keyWords, mostLevels}
-use Rattle.area.specs.Area.{headWords, areaWords, kOf, compressionsOf, paramsOf, levelWords, levelsFrom, levelsOf, withLevels, allFalse}
+use Rattle.tree.specs.Tree.{keyWords}
+use Rattle.area.specs.Area.{headWords, blockWords, areaWords, kOf, compressionsOf, paramsOf, levelWords, levelsFrom, levelsOf, withLevels, allFalse, areaLevels, levelStart, levelsUp, Long}
 use Rattle.area.specs.Rows.{AllLen, length-flatten}
+
+-- ---- how many levels there are, and of how many words
+
+pub length-levelsFrom : (area : List ℕ) (n k : ℕ) → length (levelsFrom area n k) ≡ n
+length-levelsFrom area zero k = refl
+length-levelsFrom area (suc n) k = ap suc (length-levelsFrom area n (suc k))
+
+pub length-levelsOf : (area : List ℕ) → length (levelsOf area) ≡ areaLevels
+unfolding levelsOf
+length-levelsOf area = length-levelsFrom area areaLevels 1
+
+pub length-levelWords : (area : List ℕ) (k : ℕ) → Long area → k ≤ areaLevels → length (levelWords area k) ≡ blockWords
+length-levelWords area k h g = simp (length-take, length-drop) (omega arith)
+
+pub levelsUp-cons : (area : List ℕ) (k : ℕ) → k ≤ areaLevels → levelsUp area k ≡ levelWords area k ∷ levelsUp area (k + 1)
+levelsUp-cons area k h =
+    let e : areaLevels + 1 - k ≡ suc (areaLevels + 1 - (k + 1)) = omega arith in
+    let q : k + 1 ≡ suc k = omega arith in
+    rw (e, q)
+
+pub levelsUp-none : (area : List ℕ) (k : ℕ) → areaLevels < k → levelsUp area k ≡ []
+levelsUp-none area k h = let e : areaLevels + 1 - k ≡ 0 = omega arith in rw e
 
 -- ---- head, levels and tail
 
-levels-from : (pre : List ℕ) (st : List (List ℕ)) (tail : List ℕ) (k : ℕ) → AllLen 64 st → 0 < k → length pre ≡ 16 + 64 * (k - 1) →
+levels-from : (pre : List ℕ) (st : List (List ℕ)) (tail : List ℕ) (k : ℕ) → AllLen 64 st → 0 < k → length pre ≡ levelStart k →
     levelsFrom (pre ++ (flatten st ++ tail)) (length st) k ≡ st
 unfolding flatten
 levels-from pre [] tail k a h e = refl
 levels-from pre (ws ∷ st) tail k a h e =
     let s : pre ++ (ws ++ (flatten st ++ tail)) ≡ (pre ++ ws) ++ (flatten st ++ tail) = sym (append-assoc pre ws (flatten st ++ tail)) in
-    let l : length (pre ++ ws) ≡ 16 + 64 * (suc k - 1) = rw (length-append pre ws) (omega (arith, a .0)) in
+    let l : length (pre ++ ws) ≡ levelStart (suc k) = rw (length-append pre ws) (omega (arith, a .0)) in
     let first : levelWords (pre ++ (ws ++ (flatten st ++ tail))) k ≡ ws =
-    rw (drop-at pre (ws ++ (flatten st ++ tail)) (16 + 64 * (k - 1)) e) (take-at ws (flatten st ++ tail) 64 (a .0)) in
+    rw (drop-at pre (ws ++ (flatten st ++ tail)) (levelStart k) e) (take-at ws (flatten st ++ tail) 64 (a .0)) in
     rw (append-assoc ws (flatten st) tail)
     (cons-eq first (rw s (levels-from (pre ++ ws) st tail (suc k) (a .1) (omega arith) l)))
 
 -- the levels that stand after 16 words
-pub levelsOf-at : (pre : List ℕ) (st : List (List ℕ)) (tail : List ℕ) → length pre ≡ 16 → AllLen 64 st → length st ≡ mostLevels →
+pub levelsOf-at : (pre : List ℕ) (st : List (List ℕ)) (tail : List ℕ) → length pre ≡ 16 → AllLen 64 st → length st ≡ areaLevels →
     levelsOf (pre ++ (flatten st ++ tail)) ≡ st
 unfolding levelsOf
 levelsOf-at pre st tail e a n =
     ap (λ (j : ℕ). levelsFrom (pre ++ (flatten st ++ tail)) j 1) (sym n) ∙ levels-from pre st tail 1 a (omega arith) e
 
-module _ (area : List ℕ) (st : List (List ℕ)) (long : areaWords ≤ length area) (a : AllLen 64 st) (n : length st ≡ mostLevels) where
+module _ (area : List ℕ) (st : List (List ℕ)) (long : Long area) (a : AllLen 64 st) (n : length st ≡ areaLevels) where
   head-length : length (take headWords area) ≡ 16
   head-length = length-take-le 16 area (omega arith)
 
-  width : length (flatten st) ≡ 1728
+  width : length (flatten st) ≡ areaLevels * blockWords
   width = length-flatten 64 st a ∙ rw n refl
 
   pub length-withLevels : length (withLevels area st) ≡ length area
@@ -154,7 +176,7 @@ pub record Changed (area : List ℕ) (i v w : ℕ) (st : List (List ℕ)) (to : 
   pub levels : levelsOf to ≡ st
   pub tail : drop areaWords to ≡ drop areaWords area
 
-pub changed : (area : List ℕ) (i v w : ℕ) (st : List (List ℕ)) → areaWords ≤ length area → i < 2 → AllLen 64 st → length st ≡ mostLevels →
+pub changed : (area : List ℕ) (i v w : ℕ) (st : List (List ℕ)) → Long area → i < 2 → AllLen 64 st → length st ≡ areaLevels →
     Changed area i v w st (withLevels (set (set area i v) 14 w) st)
 changed area i v w st long hi a n = record {
   size = length-withLevels x st long′ a n ∙ len;
@@ -176,7 +198,7 @@ changed area i v w st long hi a n = record {
     len : length x ≡ length area
     len = length-set (set area i v) 14 w ∙ length-set area i v
 
-    long′ : areaWords ≤ length x
+    long′ : Long x
     long′ = rw len long
 
     word : (j : ℕ) → j < headWords → getD to j 0 ≡ getD x j 0

@@ -37,7 +37,7 @@ unfolding blockOf
 bitsOf-blockOf Y h =
     let e = padded-length Y h in
     bitsOf-numbers 64 64 (Y ++ replicate (blockBits - length Y) false) (omega arith)
-    ∙ take-all 4096 (Y ++ replicate (blockBits - length Y) false) (omega arith)
+    ∙ take-all blockBits (Y ++ replicate (blockBits - length Y) false) (omega arith)
 
 pub blockOf-full : (Y : List Bool) → length Y ≡ blockBits → blockOf Y ≡ words 64 Y
 unfolding blockOf
@@ -57,7 +57,7 @@ blockOf-none = words-zeros 64
 -- an output, and then zeros
 pub blockOf-output : (y : List Bool) → length y ≡ outputBits → words 16 y ++ replicate 48 0 ≡ blockOf y
 unfolding blockOf
-blockOf-output y h = rw (h, ← words-zeros 48) (sym (numbers-append 64 16 48 y (replicate 3072 false) h))
+blockOf-output y h = rw (h, ← words-zeros 48) (sym (numbers-append 64 16 48 y (replicate sequentialBits false) h))
 
 pub blockOf-noChain : blockOf noChain ≡ emptyLevel
 unfolding blockOf noChain emptyLevel
@@ -102,7 +102,7 @@ bitsOf-withBit h b ws g =
     let e : h / 64 * 64 + h % 64 ≡ h = omega arith in
     set-bit 64 ws (h / 64) (h % 64) b (omega arith) (omega arith) ∙ rw e
 
-below-set : {c : ℕ} {ws : List ℕ} (i w : ℕ) → Below c ws → w < c → Below c (set ws i w)
+pub below-set : {c : ℕ} {ws : List ℕ} (i w : ℕ) → Below c ws → w < c → Below c (set ws i w)
 below-set i w none h = none
 below-set zero w (more g gs) h = more h gs
 below-set (suc i) w (more g gs) h = more g (below-set i w gs h)
@@ -151,9 +151,9 @@ pub blockOf-out : (j : ℕ) (Y y : List Bool) → j < 4 → length Y ≡ j * out
     put (16 * j) 16 (blockOf Y) (words 16 y) ≡ blockOf (Y ++ y)
 unfolding blockOf
 blockOf-out j Y y h hY hy =
-    let e : blockBits - length Y ≡ 1024 + (blockBits - length (Y ++ y)) = rw (length-append Y y) (omega arith) in
-    rw (e, ← replicate-append-replicate 1024 (blockBits - length (Y ++ y)) false)
-    (put-words 64 (16 * j) (48 - 16 * j) Y (replicate 1024 false) y (replicate (blockBits - length (Y ++ y)) false) (omega arith) (omega arith) refl (omega arith)
+    let e : blockBits - length Y ≡ outputBits + (blockBits - length (Y ++ y)) = rw (length-append Y y) (omega arith) in
+    rw (e, ← replicate-append-replicate outputBits (blockBits - length (Y ++ y)) false)
+    (put-words 64 (16 * j) (48 - 16 * j) Y (replicate outputBits false) y (replicate (blockBits - length (Y ++ y)) false) (omega arith) (omega arith) refl (omega arith)
     ∙ rw append-assoc)
 
 -- output i joined to what a level holds, of which it is the j-th after those

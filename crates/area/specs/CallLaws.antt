@@ -1,18 +1,17 @@
 -- Laws: what the calls answer, accepted and refused: the laws of their definitions.
-use mathlib.Core.Path.{_≡_, refl, sym, ap}
-use mathlib.Core.Bool.{Bool, true, false, not, cond}
+use mathlib.Core.Path.{_≡_, refl, ap}
+use mathlib.Core.Bool.{Bool, true, false}
 use mathlib.Core.List.{List, [], _∷_, _++_}
-use Prim.Native.Nat.{ℕ, zero, suc, _+_, _-_, _*_, _^_, _≤_, _<_}
+use Prim.Native.Nat.{ℕ, _+_, _-_, _*_, _^_, _≤_, _<_}
 use native.Mathlib.Omega.{arith}
-use borrow.Author.Tests.{ltb-false, eqb-false}
-use lib.Dec.{eqb, ltb}
+use borrow.Author.Tests.{ltb-false, eqb-false, not-false, le-ltb, ne-eqb}
 use lib.ListN.{length, take, drop}
 use lib.Seq.{take-at}
 use Rattle.tree.specs.Tree.{Params, Node, digestBytes}
-use Rattle.tree.specs.Refusals.{pieceBits}
-use Rattle.tree.specs.RefusalLaws.{test-passed}
+use Rattle.tree.specs.Refusals.{pieceBits, firstRefusal, paramTests}
+use Rattle.tree.specs.RefusalLaws.{testAt, passed-by, passed, answer-number, answer-refused}
 use Rattle.area.specs.Area.{areaWords, phaseOf, totalOf, paramsOf, sound}
-use Rattle.area.specs.Calls.{Made, nodeLog, logged, openNumber, openedArea, openAnswer, openOf, fedBits, feedNumber, fedArea, feedAnswer, feedOf, closedBy, endNumber, endedArea, digestOut, endAnswer, endOf}
+use Rattle.area.specs.Calls.{Made, nodeLog, logged, openNumber, openedArea, openOf, fedBits, feedNumber, fedArea, feedOf, closedBy, endNumber, endedArea, digestOut, endOf, shortTest, openTests, Opened, Fed, feedTests, Finished, endTests}
 
 -- ---- the log
 
@@ -28,34 +27,44 @@ nodeLog-append (x ∷ xs) ys = ap (λ (l : List ℕ). x .u ∷ x .v ∷ l) (node
 pub logged-front : (nodes : List Node) (log : List ℕ) → take (2 * length nodes) (logged nodes log) ≡ nodeLog nodes
 logged-front nodes log = take-at (nodeLog nodes) (drop (2 * length nodes) log) (2 * length nodes) (length-nodeLog nodes)
 
+-- ---- an area that is long enough, sound and open
+
+pub record OpenArea (area : List ℕ) : Type 0 where
+  pub long : areaWords ≤ length area
+  pub sound : sound area ≡ true
+  pub phase : phaseOf area ≡ 2 → ⊥
+
+-- it passes the tests of an open area, and an area that passes them is one
+pub open-area : (area : List ℕ) → ((k : ℕ) → testAt (openTests area) k ≡ false) → OpenArea area
+open-area area p = record { long = ltb-false _ _ (p 0); sound = not-false _ (p 1); phase = eqb-false _ _ (p 2) }
+
+pub open-tests : {area : List ℕ} → OpenArea area → (later : List (Bool × ℕ)) → firstRefusal (openTests area ++ later) ≡ firstRefusal later
+open-tests {area} o later = rw (le-ltb (length area) areaWords (o .long), o .sound, ne-eqb (phaseOf area) 2 (o .phase))
+
 -- ---- open
 
 pub open-number : (area : List ℕ) (P : Params) → openOf area P .number ≡ openNumber area P
 unfolding openOf
-open-number area P = go (openNumber area P)
-  where
-    go : (k : ℕ) → openAnswer k area P .number ≡ k
-    go zero = refl
-    go (suc k) = refl
+open-number area P = answer-number (λ (x : Opened). x .number) (openNumber area P) _ _ refl (λ k. refl)
 
 pub open-accepted : (area : List ℕ) (P : Params) → openNumber area P ≡ 0 → openOf area P ≡ record { number = 0; count = 0; area = openedArea area P }
 unfolding openOf
 open-accepted area P e = rw e refl
 
-pub open-refused : (area : List ℕ) (P : Params) (k : ℕ) → openNumber area P ≡ suc k →
-    openOf area P ≡ record { number = suc k; count = 0; area = area }
+pub open-refused : (area : List ℕ) (P : Params) (k : ℕ) → k ≡ openNumber area P → (k ≡ 0 → ⊥) → record { number = k; count = 0; area = area } ≡ openOf area P
 unfolding openOf
-open-refused area P k e = rw e refl
+open-refused area P k = answer-refused k (openNumber area P) _ (λ k. record { number = k; count = 0; area = area })
+
+-- what an accepted open tells
+pub open-passed : (area : List ℕ) (P : Params) → openNumber area P ≡ 0 → (areaWords ≤ length area) × (firstRefusal (paramTests P) ≡ 0)
+unfolding openNumber
+open-passed area P e = let p = passed-by 0 (shortTest area ∷ []) (paramTests P) refl e in (ltb-false _ _ (p .0 0), p .1)
 
 -- ---- feed
 
 pub feed-number : (area piece : List ℕ) (n : ℕ) (log : List ℕ) → feedOf area piece n log .number ≡ feedNumber area piece n log
 unfolding feedOf
-feed-number area piece n log = go (feedNumber area piece n log)
-  where
-    go : (k : ℕ) → feedAnswer k area n (fedBits area (pieceBits piece n)) log .number ≡ k
-    go zero = refl
-    go (suc k) = refl
+feed-number area piece n log = answer-number (λ (x : Fed). x .number) (feedNumber area piece n log) _ _ refl (λ k. refl)
 
 pub feed-accepted : (area piece : List ℕ) (n : ℕ) (log : List ℕ) → feedNumber area piece n log ≡ 0 → feedOf area piece n log ≡
     (let made : Made = fedBits area (pieceBits piece n) in
@@ -63,51 +72,31 @@ pub feed-accepted : (area piece : List ℕ) (n : ℕ) (log : List ℕ) → feedN
 unfolding feedOf
 feed-accepted area piece n log e = rw e refl
 
-pub feed-refused : (area piece : List ℕ) (n : ℕ) (log : List ℕ) (k : ℕ) → feedNumber area piece n log ≡ suc k →
-    feedOf area piece n log ≡ record { number = suc k; count = 0; area = area; log = log }
+pub feed-refused : (area piece : List ℕ) (n : ℕ) (log : List ℕ) (k : ℕ) → k ≡ feedNumber area piece n log → (k ≡ 0 → ⊥) →
+    record { number = k; count = 0; area = area; log = log } ≡ feedOf area piece n log
 unfolding feedOf
-feed-refused area piece n log k e = rw e refl
+feed-refused area piece n log k = answer-refused k (feedNumber area piece n log) _ (λ k. record { number = k; count = 0; area = area; log = log })
 
 -- what an accepted feed tells
 pub record FeedPassed (area piece : List ℕ) (n : ℕ) (log : List ℕ) : Type 0 where
-  pub long : areaWords ≤ length area
-  pub sound : sound area ≡ true
-  pub notEnded : phaseOf area ≡ 2 → ⊥
+  pub opened : OpenArea area
   pub bits : n ≤ 8 * length piece
   pub total : totalOf area + n < 2 ^ 64
   pub room : 2 * length (fedBits area (pieceBits piece n) .nodes) ≤ length log
 
-not-no : (b : Bool) → not b ≡ false → b ≡ true
-not-no true e = refl
-not-no false e = sym e
-
 pub feed-passed : (area piece : List ℕ) (n : ℕ) (log : List ℕ) → feedNumber area piece n log ≡ 0 → FeedPassed area piece n log
 unfolding feedNumber
 feed-passed area piece n log e =
-    let a = test-passed (ltb (length area) areaWords) 6 _ e in
-    let s = test-passed (not (sound area)) 6 _ (a .1) in
-    let p = test-passed (eqb (phaseOf area) 2) 9 _ (s .1) in
-    let b = test-passed (ltb (8 * length piece) n) 4 _ (p .1) in
-    let t = test-passed (ltb (2 ^ 64 - 1) (totalOf area + n)) 5 _ (b .1) in
-    let r = test-passed (ltb (length log) (2 * length (fedBits area (pieceBits piece n) .nodes))) 7 0 (t .1) in
-    record {
-      long = ltb-false (length area) areaWords (a .0);
-      sound = not-no (sound area) (s .0);
-      notEnded = eqb-false (phaseOf area) 2 (p .0);
-      bits = ltb-false (8 * length piece) n (b .0);
-      total = omega (arith, ltb-false (2 ^ 64 - 1) (totalOf area + n) (t .0));
-      room = ltb-false (length log) (2 * length (fedBits area (pieceBits piece n) .nodes)) (r .0);
-    }
+    let nodes : ℕ = length (fedBits area (pieceBits piece n) .nodes) in
+    let p = passed-by 0 (openTests area) (feedTests (totalOf area) nodes piece n log) refl e in
+    let q = passed (feedTests (totalOf area) nodes piece n log) refl (p .1) in
+    record { opened = open-area area (p .0); bits = ltb-false _ _ (q 0); total = omega (arith, ltb-false (2 ^ 64 - 1) (totalOf area + n) (q 1)); room = ltb-false _ _ (q 2) }
 
 -- ---- end
 
 pub end-number : (area out log : List ℕ) → endOf area out log .number ≡ endNumber area out log
 unfolding endOf
-end-number area out log = go (endNumber area out log)
-  where
-    go : (k : ℕ) → endAnswer k area (closedBy area) out log .number ≡ k
-    go zero = refl
-    go (suc k) = refl
+end-number area out log = answer-number (λ (x : Finished). x .number) (endNumber area out log) _ _ refl (λ k. refl)
 
 pub end-accepted : (area out log : List ℕ) → endNumber area out log ≡ 0 → endOf area out log ≡
     (let nodes : List Node = closedBy area in
@@ -115,30 +104,19 @@ pub end-accepted : (area out log : List ℕ) → endNumber area out log ≡ 0 �
 unfolding endOf
 end-accepted area out log e = rw e refl
 
-pub end-refused : (area out log : List ℕ) (k : ℕ) → endNumber area out log ≡ suc k →
-    endOf area out log ≡ record { number = suc k; count = 0; area = area; digest = out; log = log }
+pub end-refused : (area out log : List ℕ) (k : ℕ) → k ≡ endNumber area out log → (k ≡ 0 → ⊥) →
+    record { number = k; count = 0; area = area; digest = out; log = log } ≡ endOf area out log
 unfolding endOf
-end-refused area out log k e = rw e refl
+end-refused area out log k = answer-refused k (endNumber area out log) _ (λ k. record { number = k; count = 0; area = area; digest = out; log = log })
 
 pub record EndPassed (area out log : List ℕ) : Type 0 where
-  pub long : areaWords ≤ length area
-  pub sound : sound area ≡ true
-  pub notEnded : phaseOf area ≡ 2 → ⊥
+  pub opened : OpenArea area
   pub output : digestBytes (paramsOf area .d) ≤ length out
   pub room : 2 * length (closedBy area) ≤ length log
 
 pub end-passed : (area out log : List ℕ) → endNumber area out log ≡ 0 → EndPassed area out log
 unfolding endNumber
 end-passed area out log e =
-    let a = test-passed (ltb (length area) areaWords) 6 _ e in
-    let s = test-passed (not (sound area)) 6 _ (a .1) in
-    let p = test-passed (eqb (phaseOf area) 2) 9 _ (s .1) in
-    let o = test-passed (ltb (length out) (digestBytes (paramsOf area .d))) 8 _ (p .1) in
-    let r = test-passed (ltb (length log) (2 * length (closedBy area))) 7 0 (o .1) in
-    record {
-      long = ltb-false (length area) areaWords (a .0);
-      sound = not-no (sound area) (s .0);
-      notEnded = eqb-false (phaseOf area) 2 (p .0);
-      output = ltb-false (length out) (digestBytes (paramsOf area .d)) (o .0);
-      room = ltb-false (length log) (2 * length (closedBy area)) (r .0);
-    }
+    let p = passed-by 0 (openTests area) (endTests (paramsOf area .d) (length (closedBy area)) out log) refl e in
+    let q = passed (endTests (paramsOf area .d) (length (closedBy area)) out log) refl (p .1) in
+    record { opened = open-area area (p .0); output = ltb-false _ _ (q 0); room = ltb-false _ _ (q 1) }

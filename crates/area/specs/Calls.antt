@@ -1,6 +1,6 @@
 -- Definitions: what each call on an area answers: number, count and all that was lent, on exit. Document 01, "The stream's area" and the
 -- table of numbers.
-use mathlib.Core.Bool.{Bool, true, false, not, _&&_, cond}
+use mathlib.Core.Bool.{Bool, true, false, not, _&&_}
 use mathlib.Core.List.{List, [], _∷_, _++_, flatten}
 use Prim.Native.Nat.{ℕ, zero, suc, _+_, _-_, _*_, _/_, _%_, _^_}
 use lib.Dec.{eqb, leb, ltb}
@@ -8,8 +8,8 @@ use lib.ListN.{length, drop, getD, set, replicate}
 use Rattle.lists.specs.Part.{put}
 use Rattle.bits.specs.Bits.{bits, spell}
 use Rattle.tree.specs.Tree.{Params, Node, blockBits, sequentialBits, outputBits, mostLevels, words, keyWords, node, output, lastOr, noNode, digestBytes, rootDigest}
-use Rattle.tree.specs.Refusals.{pieceBits, refusedBits, refusedParams, refusedOutput}
-use Rattle.area.specs.Area.{blockWords, outputWords, areaWords, phaseOf, totalOf, compressionsOf, paramsOf, levelWords, levelsOf, withLevels, emptyLevel, emptyLevels, doneBlocks, heldBits, heldParallel, heldSequential, sound}
+use Rattle.tree.specs.Refusals.{pieceBits, firstRefusal, answerOf, bitsTest, paramTests, outputTest}
+use Rattle.area.specs.Area.{blockWords, outputWords, areaLevels, areaWords, phaseOf, totalOf, compressionsOf, paramsOf, levelWords, levelsOf, withLevels, emptyLevel, emptyLevels, doneBlocks, heldBits, heldParallel, heldSequential, sound}
 
 -- ---- one bit more
 
@@ -110,26 +110,26 @@ closing P (suc n) T (ws ∷ up) =
       | false ↦ let m : Node = node P 1 (doneBlocks blockBits T) 0 padding ws in m ∷ closeAbove P n 2 (doneBlocks blockBits T) (outWords P m) up
     ]
 
--- ---- refusals
+-- ---- tests
 
 -- "7, 0: area short or (except for open and read) unsound"
-abbrev pub refusedShort : List ℕ → ℕ → ℕ
-refusedShort area later = cond (ltb (length area) areaWords) 7 later
+abbrev pub shortTest : List ℕ → Bool × ℕ
+shortTest area = (ltb (length area) areaWords, 7)
 
-abbrev pub refusedArea : List ℕ → ℕ → ℕ
-refusedArea area later = refusedShort area (cond (not (sound area)) 7 later)
+abbrev pub areaTests : List ℕ → List (Bool × ℕ)
+areaTests area = shortTest area ∷ (not (sound area), 7) ∷ []
 
--- "10, 0: area has ended"
-abbrev pub refusedEnded : List ℕ → ℕ → ℕ
-refusedEnded area later = cond (eqb (phaseOf area) 2) 10 later
+-- "10, 0: area has ended": an area that passes is long enough, sound and open
+abbrev pub openTests : List ℕ → List (Bool × ℕ)
+openTests area = areaTests area ++ ((eqb (phaseOf area) 2, 10) ∷ [])
 
 -- "6, 0: total would pass 2^64 - 1"
-abbrev pub refusedTotal : List ℕ → ℕ → ℕ → ℕ
-refusedTotal area n later = cond (ltb (2 ^ 64 - 1) (totalOf area + n)) 6 later
+abbrev pub totalTest : ℕ → ℕ → Bool × ℕ
+totalTest total n = (ltb (2 ^ 64 - 1) (total + n), 6)
 
 -- "8, 0: log shorter than 2 words a node made"
-abbrev pub refusedLog : List Node → List ℕ → ℕ → ℕ
-refusedLog nodes log later = cond (ltb (length log) (2 * length nodes)) 8 later
+abbrev pub logTest : ℕ → List ℕ → Bool × ℕ
+logTest nodes log = (ltb (length log) (2 * nodes), 8)
 
 -- ---- the log
 
@@ -151,19 +151,16 @@ pub record Opened : Type 0 where
 
 -- "Open 7, 1, 2, 3, 4"
 unfoldable pub openNumber : List ℕ → Params → ℕ
-openNumber area P = refusedShort area (refusedParams P 0)
+openNumber area P = firstRefusal (shortTest area ∷ paramTests P)
 
 -- an open area with no bits, whatever it held
 unfoldable pub openedArea : List ℕ → Params → List ℕ
 openedArea area P =
-    1 ∷ 0 ∷ length (P .key) ∷ P .d ∷ P .limit ∷ P .rounds ∷ (keyWords (P .key) ++ (0 ∷ 0 ∷ (flatten emptyLevels ++ drop areaWords area)))
-
-abbrev pub openAnswer : ℕ → List ℕ → Params → Opened
-openAnswer zero area P = record { number = 0; count = 0; area = openedArea area P }
-openAnswer (suc n) area P = record { number = suc n; count = 0; area = area }
+    1 ∷ 0 ∷ length (P .key) ∷ P .d ∷ P .limit ∷ P .rounds ∷ (keyWords (P .key) ++ (0 ∷ 0 ∷ (flatten (emptyLevels areaLevels) ++ drop areaWords area)))
 
 unfoldable pub openOf : List ℕ → Params → Opened
-openOf area P = openAnswer (openNumber area P) area P
+openOf area P =
+    answerOf (openNumber area P) record { number = 0; count = 0; area = openedArea area P } (λ k. record { number = k; count = 0; area = area })
 
 -- ---- feed (piece bytes, bit count)
 
@@ -177,26 +174,24 @@ pub record Fed : Type 0 where
 unfoldable pub fedBits : List ℕ → List Bool → Made
 fedBits area bs = feedBits (paramsOf area) (totalOf area) bs (levelsOf area)
 
--- "Feed 7, 10, 5, 6, 8"
+-- "Feed 7, 10, 5, 6, 8": after the tests of the area, those of a feed of n bits that come after so many bits and make so many nodes
+abbrev pub feedTests : ℕ → ℕ → List ℕ → ℕ → List ℕ → List (Bool × ℕ)
+feedTests total nodes piece n log = bitsTest piece n ∷ totalTest total n ∷ logTest nodes log ∷ []
+
 unfoldable pub feedNumber : List ℕ → List ℕ → ℕ → List ℕ → ℕ
 feedNumber area piece n log =
-    refusedArea area
-    (refusedEnded area
-    (refusedBits piece n
-    (refusedTotal area n
-    (refusedLog (fedBits area (pieceBits piece n) .nodes) log 0))))
+    firstRefusal (openTests area ++ feedTests (totalOf area) (length (fedBits area (pieceBits piece n) .nodes)) piece n log)
 
 -- the total and the compressions go on, and the levels are what the bits made of them
 unfoldable pub fedArea : List ℕ → ℕ → Made → List ℕ
 fedArea area n made = withLevels (set (set area 1 (totalOf area + n)) 14 (compressionsOf area + length (made .nodes))) (made .levels)
 
-abbrev pub feedAnswer : ℕ → List ℕ → ℕ → Made → List ℕ → Fed
-feedAnswer zero area n made log =
-    record { number = 0; count = length (made .nodes); area = fedArea area n made; log = logged (made .nodes) log }
-feedAnswer (suc k) area n made log = record { number = suc k; count = 0; area = area; log = log }
-
 unfoldable pub feedOf : List ℕ → List ℕ → ℕ → List ℕ → Fed
-feedOf area piece n log = feedAnswer (feedNumber area piece n log) area n (fedBits area (pieceBits piece n)) log
+feedOf area piece n log =
+    let made : Made = fedBits area (pieceBits piece n) in
+    answerOf (feedNumber area piece n log)
+    record { number = 0; count = length (made .nodes); area = fedArea area n made; log = logged (made .nodes) log }
+    (λ k. record { number = k; count = 0; area = area; log = log })
 
 -- ---- end (digest out)
 
@@ -211,33 +206,34 @@ pub record Finished : Type 0 where
 unfoldable pub closedBy : List ℕ → List Node
 closedBy area = closing (paramsOf area) (paramsOf area .limit) (totalOf area) (levelsOf area)
 
--- "End 7, 10, 9, 8"
+-- "End 7, 10, 9, 8": after the tests of the area, those of an end with that digest size that makes so many nodes
+abbrev pub endTests : ℕ → ℕ → List ℕ → List ℕ → List (Bool × ℕ)
+endTests d nodes out log = outputTest (digestBytes d) out ∷ logTest nodes log ∷ []
+
 unfoldable pub endNumber : List ℕ → List ℕ → List ℕ → ℕ
-endNumber area out log =
-    refusedArea area (refusedEnded area (refusedOutput (digestBytes (paramsOf area .d)) out (refusedLog (closedBy area) log 0)))
+endNumber area out log = firstRefusal (openTests area ++ endTests (paramsOf area .d) (length (closedBy area)) out log)
 
 -- "end changes words 0, 14 and the levels, no others"
 unfoldable pub endedArea : List ℕ → List Node → List ℕ
-endedArea area nodes = withLevels (set (set area 0 2) 14 (compressionsOf area + length nodes)) emptyLevels
+endedArea area nodes = withLevels (set (set area 0 2) 14 (compressionsOf area + length nodes)) (emptyLevels areaLevels)
 
 -- "Output bytes past the digest or text stay."
 unfoldable pub digestOut : List ℕ → List Node → List ℕ → List ℕ
 digestOut area nodes out = rootDigest (paramsOf area) (lastOr noNode nodes) ++ drop (digestBytes (paramsOf area .d)) out
 
-abbrev pub endAnswer : ℕ → List ℕ → List Node → List ℕ → List ℕ → Finished
-endAnswer zero area nodes out log =
-    record { number = 0; count = length nodes; area = endedArea area nodes; digest = digestOut area nodes out; log = logged nodes log }
-endAnswer (suc k) area nodes out log = record { number = suc k; count = 0; area = area; digest = out; log = log }
-
 unfoldable pub endOf : List ℕ → List ℕ → List ℕ → Finished
-endOf area out log = endAnswer (endNumber area out log) area (closedBy area) out log
+endOf area out log =
+    let nodes : List Node = closedBy area in
+    answerOf (endNumber area out log)
+    record { number = 0; count = length nodes; area = endedArea area nodes; digest = digestOut area nodes out; log = logged nodes log }
+    (λ k. record { number = k; count = 0; area = area; digest = out; log = log })
 
 -- ---- show a level
 
 -- "gives back that level's part of the caller's area, or an empty part if the area is short or unsound or the level outside
 -- 1 to 27"
 unfoldable pub shown : List ℕ → ℕ → Bool
-shown area level = leb areaWords (length area) && (sound area && (leb 1 level && leb level mostLevels))
+shown area level = leb areaWords (length area) && (sound area && (leb 1 level && leb level areaLevels))
 
 unfoldable pub levelOf : List ℕ → ℕ → List ℕ
 levelOf area level = elim (shown area level) [ true ↦ levelWords area level | false ↦ [] ]

@@ -9,11 +9,11 @@ use borrow.Author.Tests.{eq-eqb, ne-eqb}
 use lib.Dec.{eqb}
 use lib.ListN.{length, length-map}
 use Rattle.lists.specs.Flatten.{map-append}
-use Rattle.tree.specs.Tree.{Params, Node, Mark, Subtree, outputBits, node, levels, lastOr, noNode, rootOf, listing, parent, parents, climb}
+use Rattle.tree.specs.Tree.{Params, Node, Mark, Subtree, outputBits, node, levels, lastOr, noNode, rootOf, listing, parent, parents, climb, sequentialBits, blockBits}
 use Rattle.tree.specs.TreeLaws.{length-output-node, levels-one, levels-more, levels-some, rootOf-cons}
 use Rattle.area.specs.Calls.{outWords, joinParallel, joinSequential, closeAbove}
 use Rattle.area.specs.Block.{blockOf, length-blockOf, join-parallel, join-sequential}
-use Rattle.area.specs.Rows.{AllLen, snoc-length, lastOr-snoc, Cut, cut-blocks-4096, tops, over, length-over, tops-over, parents-over}
+use Rattle.area.specs.Rows.{AllLen, snoc-length, lastOr-snoc, Cut, cut-blocks, tops, over, length-over, tops-over, parents-over}
 use Rattle.area.specs.Rows
 use Rattle.area.specs.Receive.{listing-snoc, reaches-snoc, marked, outWords-is}
 use Rattle.area.specs.Receive
@@ -70,6 +70,7 @@ module _ (P : Params) where
   level-cut k {X} {G} {r} x s o =
       let l = Receive.length-last P x s o in
       record {
+        size = omega (arith, s .few);
         whole = ap (Receive.outs P) (groups x s) ∙ outs-groups G (r ++ (x ∷ []));
         full = groups-len k G (Receive.sized-left P (flatten G) r (rw (s .whole) at (s .sized))) (s .full);
         fits = omega (arith, l, s .few);
@@ -97,7 +98,7 @@ module _ (P : Params) where
       node P level (length X / 3) 1 (outputBits * (2 - length X % 3)) (joinSequential (length X) (Receive.wordsOf P x) ws) ≡ seqLast level (v .G) (v .r ++ (x ∷ []))
   seq-last {level} {X} {ws} {up} {lg} x v o =
       let c : List Bool = Receive.chainOver P level (v .G) in
-      let p : outputBits * (2 - length X % 3) ≡ 3072 - length (Receive.outs P (v .r ++ (x ∷ []))) =
+      let p : outputBits * (2 - length X % 3) ≡ sequentialBits - length (Receive.outs P (v .r ++ (x ∷ []))) =
       omega (arith, Receive.length-last P x (v .sp) o, Receive.seq-rest P v, v .sp .few) in
       rw (
         v .is,
@@ -141,7 +142,7 @@ module _ (P : Params) where
       length (Receive.outOf P x) ≡ outputBits → i ≡ length (v .G) →
       node P level i z (outputBits * (3 - length X % 4)) (joinParallel (length X) (Receive.wordsOf P x) ws) ≡ parLast level (v .G) z (v .r ++ (x ∷ []))
   par-last n level X ws up lg x v i z o e =
-      let p : outputBits * (3 - length X % 4) ≡ 4096 - length (Receive.outs P (v .r ++ (x ∷ []))) =
+      let p : outputBits * (3 - length X % 4) ≡ blockBits - length (Receive.outs P (v .r ++ (x ∷ []))) =
       omega (arith, Receive.length-last P x (v .sp) o, Receive.par-rest P v, v .sp .few) in
       rw (
         v .is,
@@ -179,7 +180,7 @@ module _ (P : Params) where
   unfolding flatten Rattle.tree.specs.Tree.keyWords blockOf
   one-level n level {X} {r} x s o =
       let c = level-cut 4 x s o in
-      levels-one P n level (Receive.outs P (X ++ (x ∷ []))) (cut-blocks-4096 c) ∙ rw (c .whole, Rows.parallel-one P level (Receive.outs P (r ++ (x ∷ []))) (c .fits)) refl
+      levels-one P n level (Receive.outs P (X ++ (x ∷ []))) (cut-blocks c) ∙ rw (c .whole, Rows.parallel-one P level (Receive.outs P (r ++ (x ∷ []))) (c .fits)) refl
 
   end-one : (n level : ℕ) (X : List Subtree) (ws : List ℕ) (up : List (List ℕ)) (lg : List Mark) (x : Subtree) (v : Receive.Inv P (suc n) level X (ws ∷ up) lg) → x .top .reaches ≡ true →
       length (Receive.outOf P x) ≡ outputBits → v .G ≡ [] → EndTree (suc n) level X (ws ∷ up) lg x
@@ -218,7 +219,7 @@ module _ (P : Params) where
   many-level n level {X} {G} {r} x s o h =
       let g : List Subtree = r ++ (x ∷ []) in
       let c = level-cut 4 x s o in
-      let b : 1 < Rattle.tree.specs.Tree.blocks 4096 (length (Receive.outs P (X ++ (x ∷ [])))) = rw (cut-blocks-4096 c, length-groups G) (omega arith) in
+      let b : 1 < Rattle.tree.specs.Tree.blocks blockBits (length (Receive.outs P (X ++ (x ∷ [])))) = rw (cut-blocks c, length-groups G) (omega arith) in
       let t : tops (over G (Receive.parRow P level G) ++ (lastTop level G g ∷ [])) ≡ Receive.parRow P level G ++ (parLast level G 0 g ∷ []) =
       map-append (λ (s : Subtree). s .top .node) (over G (Receive.parRow P level G)) (lastTop level G g ∷ [])
       ∙ rw (tops-over G (Receive.parRow P level G) (Receive.length-parRow P level G)) in
@@ -263,7 +264,7 @@ module _ (P : Params) where
   end-tree (suc n) level X (ws ∷ up) lg x v q o h b =
       length-cases (v .G) (end-one n level X ws up lg x v q o) (λ some. end-many n level X ws up lg x v q o some
       (rw size at (end-tree n (suc level) Y up (v .lg′) (lastTop level (v .G) (v .r ++ (x ∷ []))) (v .up) (reaches-snoc (v .r) x (v .sp .quiet) ∙ q)
-      (length-output-node P (P .rounds) level (length (v .G)) 0 (4096 - length (Receive.outs P (v .r ++ (x ∷ [])))) (blockOf (Receive.outs P (v .r ++ (x ∷ []))))
+      (length-output-node P (P .rounds) level (length (v .G)) 0 (blockBits - length (Receive.outs P (v .r ++ (x ∷ [])))) (blockOf (Receive.outs P (v .r ++ (x ∷ []))))
       (length-blockOf (Receive.outs P (v .r ++ (x ∷ [])))))
       (rw size some) (omega (arith, size, Receive.par-at P v, pow-succ' 4 (length up), b)))))
     where

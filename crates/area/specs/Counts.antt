@@ -9,13 +9,14 @@ use native.Mathlib.Omega.{arith}
 use borrow.Author.Tests.{eqb-true, eqb-false, ne-eqb}
 use lib.Dec.{eqb}
 use lib.ListN.{length, length-append}
-use Rattle.tree.specs.Tree.{Params, Node, blockBits, outputBits, mostLevels, node, blocks}
+use Rattle.tree.specs.Tree.{Params, Node, blockBits, outputBits, mostLevels, node, blocks, sequentialBits}
 use Rattle.tree.specs.Sizes.{nodesFrom, treeNodes}
 use Rattle.area.specs.Area.{doneBlocks, heldBits, openAbove, openCount}
 use Rattle.area.specs.Calls.{Made, outWords, joinParallel, receive, feedBit, feedBits, closeAbove, closing, logWordsOf}
 use Rattle.area.specs.Receive
 use Rattle.area.specs.Close
 use Rattle.area.specs.Machine
+use Rattle.area.specs.Blocks.{done-less, done-full}
 
 pub openAbove-none : (n : ℕ) → openAbove n 0 ≡ 0
 openAbove-none zero = refl
@@ -25,21 +26,6 @@ openAbove-none (suc n) = omega (arith, openAbove-none n)
 pub openCount-none : (limit : ℕ) → openCount limit 0 ≡ 0
 openCount-none zero = refl
 openCount-none (suc n) = omega (arith, openAbove-none n)
-
--- level 1: when a block is full, and what the next bit makes
-pub full-4096 : (T : ℕ) → heldBits 4096 T ≡ 4096 → (suc T - 1) / 4096 ≡ suc ((T - 1) / 4096)
-full-4096 T e = omega arith
-
-pub less-4096 : (T : ℕ) → (heldBits 4096 T ≡ 4096 → ⊥) → (suc T - 1) / 4096 ≡ (T - 1) / 4096
-less-4096 zero e = refl
-less-4096 (suc T) e = omega arith
-
-pub full-3072 : (T : ℕ) → heldBits 3072 T ≡ 3072 → (suc T - 1) / 3072 ≡ suc ((T - 1) / 3072)
-full-3072 T e = omega arith
-
-pub less-3072 : (T : ℕ) → (heldBits 3072 T ≡ 3072 → ⊥) → (suc T - 1) / 3072 ≡ (T - 1) / 3072
-less-3072 zero e = refl
-less-3072 (suc T) e = omega arith
 
 module _ (P : Params) where
   -- ---- a feed
@@ -72,40 +58,40 @@ module _ (P : Params) where
 
   pub feedBit-size : (limit T : ℕ) (b : Bool) (st : List (List ℕ)) → 0 < length st → length (feedBit P limit T b st .levels) ≡ length st
   feedBit-size limit T b [] h = absurd (omega arith)
-  feedBit-size zero T b (ws ∷ up) h = go (eqb (heldBits 3072 T) 3072) refl
+  feedBit-size zero T b (ws ∷ up) h = go (eqb (heldBits sequentialBits T) sequentialBits) refl
     where
-      go : (t : Bool) → eqb (heldBits 3072 T) 3072 ≡ t → length (feedBit P 0 T b (ws ∷ up) .levels) ≡ suc (length up)
+      go : (t : Bool) → eqb (heldBits sequentialBits T) sequentialBits ≡ t → length (feedBit P 0 T b (ws ∷ up) .levels) ≡ suc (length up)
       go true e = rw (Machine.feed-seq-yes P T b ws up e) refl
       go false e = rw (Machine.feed-seq-no P T b ws up e) refl
-  feedBit-size (suc n) T b (ws ∷ up) h = go (eqb (heldBits 4096 T) 4096) refl
+  feedBit-size (suc n) T b (ws ∷ up) h = go (eqb (heldBits blockBits T) blockBits) refl
     where
-      go : (t : Bool) → eqb (heldBits 4096 T) 4096 ≡ t → length (feedBit P (suc n) T b (ws ∷ up) .levels) ≡ suc (length up)
-      go true e = rw (Machine.feed-par-yes P n T b ws up e) (ap suc (Machine.receive-size P n 2 (doneBlocks 4096 T) (outWords P (node P 1 (doneBlocks 4096 T) 0 0 ws)) up))
+      go : (t : Bool) → eqb (heldBits blockBits T) blockBits ≡ t → length (feedBit P (suc n) T b (ws ∷ up) .levels) ≡ suc (length up)
+      go true e = rw (Machine.feed-par-yes P n T b ws up e) (ap suc (Machine.receive-size P n 2 (doneBlocks blockBits T) (outWords P (node P 1 (doneBlocks blockBits T) 0 0 ws)) up))
       go false e = rw (Machine.feed-par-no P n T b ws up e) refl
 
   pub feedBit-count : (limit T : ℕ) (b : Bool) (st : List (List ℕ)) → length st ≡ mostLevels → suc T < 2 ^ 64 →
       length (feedBit P limit T b st .nodes) + openCount limit T ≡ openCount limit (suc T)
   feedBit-count limit T b [] h g = absurd (omega arith)
-  feedBit-count zero T b (ws ∷ up) h g = go (eqb (heldBits 3072 T) 3072) refl
+  feedBit-count zero T b (ws ∷ up) h g = go (eqb (heldBits sequentialBits T) sequentialBits) refl
     where
-      go : (t : Bool) → eqb (heldBits 3072 T) 3072 ≡ t → length (feedBit P 0 T b (ws ∷ up) .nodes) + (T - 1) / 3072 ≡ (suc T - 1) / 3072
-      go true e = rw (Machine.feed-seq-yes P T b ws up e, full-3072 T (eqb-true (heldBits 3072 T) 3072 e)) (omega arith)
-      go false e = rw (Machine.feed-seq-no P T b ws up e, less-3072 T (eqb-false (heldBits 3072 T) 3072 e)) (omega arith)
-  feedBit-count (suc n) T b (ws ∷ up) h g = go (eqb (heldBits 4096 T) 4096) refl
+      go : (t : Bool) → eqb (heldBits sequentialBits T) sequentialBits ≡ t → length (feedBit P 0 T b (ws ∷ up) .nodes) + (T - 1) / sequentialBits ≡ (suc T - 1) / sequentialBits
+      go true e = rw (Machine.feed-seq-yes P T b ws up e, done-full sequentialBits (omega arith) T (eqb-true (heldBits sequentialBits T) sequentialBits e)) (omega arith)
+      go false e = rw (Machine.feed-seq-no P T b ws up e, done-less sequentialBits (omega arith) T (eqb-false (heldBits sequentialBits T) sequentialBits e)) (omega arith)
+  feedBit-count (suc n) T b (ws ∷ up) h g = go (eqb (heldBits blockBits T) blockBits) refl
     where
       i : ℕ
-      i = doneBlocks 4096 T
+      i = doneBlocks blockBits T
 
-      size : length up ≡ 26
+      size : length up ≡ mostLevels - 1
       size = omega arith
 
-      go : (t : Bool) → eqb (heldBits 4096 T) 4096 ≡ t →
-          length (feedBit P (suc n) T b (ws ∷ up) .nodes) + ((T - 1) / 4096 + openAbove n ((T - 1) / 4096)) ≡ (suc T - 1) / 4096 + openAbove n ((suc T - 1) / 4096)
+      go : (t : Bool) → eqb (heldBits blockBits T) blockBits ≡ t →
+          length (feedBit P (suc n) T b (ws ∷ up) .nodes) + ((T - 1) / blockBits + openAbove n ((T - 1) / blockBits)) ≡ (suc T - 1) / blockBits + openAbove n ((suc T - 1) / blockBits)
       go true e =
-          let f : heldBits 4096 T ≡ 4096 = eqb-true (heldBits 4096 T) 4096 e in
+          let f : heldBits blockBits T ≡ blockBits = eqb-true (heldBits blockBits T) blockBits e in
           let u = receive-count n 2 i (outWords P (node P 1 i 0 0 ws)) up (rw size (omega (arith, f, g))) in
-          rw (Machine.feed-par-yes P n T b ws up e, full-4096 T f) (omega (arith, u))
-      go false e = rw (Machine.feed-par-no P n T b ws up e, less-4096 T (eqb-false (heldBits 4096 T) 4096 e)) (omega arith)
+          rw (Machine.feed-par-yes P n T b ws up e, done-full blockBits (omega arith) T f) (omega (arith, u))
+      go false e = rw (Machine.feed-par-no P n T b ws up e, done-less blockBits (omega arith) T (eqb-false (heldBits blockBits T) blockBits e)) (omega arith)
 
   pub feedBits-size : (T : ℕ) (bs : List Bool) (st : List (List ℕ)) → 0 < length st → length (feedBits P T bs st .levels) ≡ length st
   feedBits-size T [] st h = rw (Machine.feedBits-none P T st) refl
@@ -167,25 +153,25 @@ module _ (P : Params) where
       length (closing P limit T st) + openCount limit T ≡ treeNodes limit T
   closing-count limit T [] h g = absurd (omega arith)
   closing-count zero T (ws ∷ up) h g =
-      let b : blocks 3072 T ≡ suc ((T - 1) / 3072) = omega arith in
+      let b : blocks sequentialBits T ≡ suc ((T - 1) / sequentialBits) = omega arith in
       rw (Machine.closing-seq P T ws up, b) (omega arith)
-  closing-count (suc n) T (ws ∷ up) h g = go (eqb (doneBlocks 4096 T) 0) refl
+  closing-count (suc n) T (ws ∷ up) h g = go (eqb (doneBlocks blockBits T) 0) refl
     where
-      b : blocks 4096 T ≡ suc ((T - 1) / 4096)
+      b : blocks blockBits T ≡ suc ((T - 1) / blockBits)
       b = omega arith
 
-      size : length up ≡ 26
+      size : length up ≡ mostLevels - 1
       size = omega arith
 
       m : Node
-      m = node P 1 (doneBlocks 4096 T) 0 (blockBits - heldBits blockBits T) ws
+      m = node P 1 (doneBlocks blockBits T) 0 (blockBits - heldBits blockBits T) ws
 
-      go : (t : Bool) → eqb (doneBlocks 4096 T) 0 ≡ t →
-          length (closing P (suc n) T (ws ∷ up)) + ((T - 1) / 4096 + openAbove n ((T - 1) / 4096)) ≡ nodesFrom n (blocks 4096 T)
-      go true e = rw (Machine.closing-one P n T ws up e, b, eqb-true (doneBlocks 4096 T) 0 e, from-one n, openAbove-none n) refl
+      go : (t : Bool) → eqb (doneBlocks blockBits T) 0 ≡ t →
+          length (closing P (suc n) T (ws ∷ up)) + ((T - 1) / blockBits + openAbove n ((T - 1) / blockBits)) ≡ nodesFrom n (blocks blockBits T)
+      go true e = rw (Machine.closing-one P n T ws up e, b, eqb-true (doneBlocks blockBits T) 0 e, from-one n, openAbove-none n) refl
       go false e =
           rw (Machine.closing-many P n T ws up e, b)
-          (omega (arith, closeAbove-count n 2 (doneBlocks 4096 T) (outWords P m) up (omega (arith, eqb-false (doneBlocks 4096 T) 0 e)) (rw size (omega (arith, g)))))
+          (omega (arith, closeAbove-count n 2 (doneBlocks blockBits T) (outWords P m) up (omega (arith, eqb-false (doneBlocks blockBits T) 0 e)) (rw size (omega (arith, g)))))
 
   -- an end makes at most one node a level
   closeAbove-bound : (n level i : ℕ) (x : List ℕ) (st : List (List ℕ)) → length (closeAbove P n level i x st) ≤ length st
@@ -204,14 +190,14 @@ module _ (P : Params) where
   pub closing-bound : (limit T : ℕ) (st : List (List ℕ)) → 0 < length st → length (closing P limit T st) ≤ length st
   closing-bound limit T [] h = absurd (omega arith)
   closing-bound zero T (ws ∷ up) h = rw (Machine.closing-seq P T ws up) (omega arith)
-  closing-bound (suc n) T (ws ∷ up) h = go (eqb (doneBlocks 4096 T) 0) refl
+  closing-bound (suc n) T (ws ∷ up) h = go (eqb (doneBlocks blockBits T) 0) refl
     where
       m : Node
-      m = node P 1 (doneBlocks 4096 T) 0 (blockBits - heldBits blockBits T) ws
+      m = node P 1 (doneBlocks blockBits T) 0 (blockBits - heldBits blockBits T) ws
 
-      go : (t : Bool) → eqb (doneBlocks 4096 T) 0 ≡ t → length (closing P (suc n) T (ws ∷ up)) ≤ suc (length up)
+      go : (t : Bool) → eqb (doneBlocks blockBits T) 0 ≡ t → length (closing P (suc n) T (ws ∷ up)) ≤ suc (length up)
       go true e = rw (Machine.closing-one P n T ws up e) (omega arith)
-      go false e = rw (Machine.closing-many P n T ws up e) (omega (arith, closeAbove-bound n 2 (doneBlocks 4096 T) (outWords P m) up))
+      go false e = rw (Machine.closing-many P n T ws up e) (omega (arith, closeAbove-bound n 2 (doneBlocks blockBits T) (outWords P m) up))
 
 -- ---- how many nodes a feed can make
 
@@ -221,9 +207,9 @@ above-bound n zero c d h b = let e : d ≡ c = omega arith in rw e (omega arith)
 above-bound zero (suc k) c d h b = omega arith
 above-bound (suc n) (suc k) c d h b = omega (arith, above-bound n k (c / 4) (d / 4) (omega arith) (omega (arith, pow-succ' 4 k)))
 
-pub feed-bound : (limit T m : ℕ) → T + m < 2 ^ 64 → openCount limit (T + m) ≤ openCount limit T + 2 * ((m + 4095) / 4096) + 26
+pub feed-bound : (limit T m : ℕ) → T + m < 2 ^ 64 → openCount limit (T + m) ≤ openCount limit T + 2 * ((m + (blockBits - 1)) / blockBits) + (mostLevels - 1)
 feed-bound zero T m h = omega arith
-feed-bound (suc n) T m h = omega (arith, above-bound n 26 ((T - 1) / 4096) ((T + m - 1) / 4096) (omega arith) (omega arith))
+feed-bound (suc n) T m h = omega (arith, above-bound n (mostLevels - 1) (doneBlocks blockBits T) (doneBlocks blockBits (T + m)) (omega arith) (omega arith))
 
 -- the told log words are within their bound, and enough for the nodes of n bits after T
 pub logWords-bound : (n : ℕ) → logWordsOf n ≤ 4 * ((n + 4095) / 4096) + 54

@@ -11,11 +11,12 @@ use Rattle.lists.specs.Below.{Below}
 use Rattle.bits.specs.Bits.{bitsOf, filled}
 use Rattle.bits.specs.BitsLaws.{length-bitsOf, bitsOf-inj}
 use Rattle.bits.specs.FilledLaws.{length-filled, filled-below, bitsOf-filled}
-use Rattle.tree.specs.Tree.{Params, outputBits}
-use Rattle.area.specs.Area.{headWords, totalOf, compressionsOf, paramsOf, levelsFrom, levelsOf, withLevels, heldBits}
+use Rattle.tree.specs.Tree.{Params, outputBits, sequentialBits, blockBits}
+use Rattle.area.specs.Area.{headWords, totalOf, compressionsOf, paramsOf, levelsFrom, levelsOf, withLevels, heldBits, blockWords, levelStart, areaLevels}
 use Rattle.area.specs.Calls.{Made, withBit, feedBit, feedBits, fedBits, fedArea}
 use Rattle.area.specs.Block.{length-withBit, bitsOf-withBit, withBit-below}
 use Rattle.area.specs.Machine
+use Rattle.area.specs.Blocks.{held-next}
 
 -- ---- two parts
 
@@ -67,79 +68,64 @@ withBits-filled ws at bytes start count b h g =
     bitsOf-inj 64 (withBits-below at Y ws b) (filled-below ws at bytes start count) (length-withBits at Y ws ∙ sym (length-filled ws at bytes start count))
     (bitsOf-withBits at Y ws (rw l (omega arith)) ∙ rw (l, take-take count count s (omega arith)) (sym (bitsOf-filled ws at bytes start count h g)))
 
--- what level 1 holds after one bit more
-pub held-next-4096 : (T : ℕ) → heldBits 4096 T < 4096 → heldBits 4096 (suc T) ≡ suc (heldBits 4096 T)
-held-next-4096 zero h = refl
-held-next-4096 (suc T) h = omega arith
-
-pub held-next-3072 : (T : ℕ) → heldBits 3072 T < 3072 → heldBits 3072 (suc T) ≡ suc (heldBits 3072 T)
-held-next-3072 zero h = refl
-held-next-3072 (suc T) h = omega arith
-
--- level 1 holds at most a block
-pub held-most-4096 : (T : ℕ) → heldBits 4096 T ≤ 4096
-held-most-4096 T = omega arith
-
-pub held-most-3072 : (T : ℕ) → heldBits 3072 T ≤ 3072
-held-most-3072 T = omega arith
-
 module _ (P : Params) where
-  fits-parallel : (n T : ℕ) (bs : List Bool) (ws : List ℕ) (up : List (List ℕ)) → P .limit ≡ suc n → heldBits 4096 T + length bs ≤ 4096 →
-      feedBits P T bs (ws ∷ up) ≡ record { levels = withBits (heldBits 4096 T) bs ws ∷ up; nodes = [] }
+  fits-parallel : (n T : ℕ) (bs : List Bool) (ws : List ℕ) (up : List (List ℕ)) → P .limit ≡ suc n → heldBits blockBits T + length bs ≤ blockBits →
+      feedBits P T bs (ws ∷ up) ≡ record { levels = withBits (heldBits blockBits T) bs ws ∷ up; nodes = [] }
   fits-parallel n T [] ws up e h = Machine.feedBits-none P T (ws ∷ up)
   fits-parallel n T (b ∷ bs) ws up e h =
-      let i = held-next-4096 T (omega arith) in
-      let f : feedBit P (P .limit) T b (ws ∷ up) ≡ record { levels = withBit (heldBits 4096 T) b ws ∷ up; nodes = [] } =
-      ap (λ (k : ℕ). feedBit P k T b (ws ∷ up)) e ∙ Machine.feed-par-no P n T b ws up (ne-eqb (heldBits 4096 T) 4096 (λ z. omega arith)) in
-      let r = fits-parallel n (suc T) bs (withBit (heldBits 4096 T) b ws) up e (omega arith) in
-      rw (Machine.feedBits-more P T b bs (ws ∷ up), f, r) (ap (λ (k : ℕ). record { levels = withBits k bs (withBit (heldBits 4096 T) b ws) ∷ up; nodes = [] }) i)
+      let i = held-next blockBits (omega arith) T (omega arith) in
+      let f : feedBit P (P .limit) T b (ws ∷ up) ≡ record { levels = withBit (heldBits blockBits T) b ws ∷ up; nodes = [] } =
+      ap (λ (k : ℕ). feedBit P k T b (ws ∷ up)) e ∙ Machine.feed-par-no P n T b ws up (ne-eqb (heldBits blockBits T) blockBits (λ z. omega arith)) in
+      let r = fits-parallel n (suc T) bs (withBit (heldBits blockBits T) b ws) up e (omega arith) in
+      rw (Machine.feedBits-more P T b bs (ws ∷ up), f, r) (ap (λ (k : ℕ). record { levels = withBits k bs (withBit (heldBits blockBits T) b ws) ∷ up; nodes = [] }) i)
 
-  fits-sequential : (T : ℕ) (bs : List Bool) (ws : List ℕ) (up : List (List ℕ)) → P .limit ≡ 0 → heldBits 3072 T + length bs ≤ 3072 →
-      feedBits P T bs (ws ∷ up) ≡ record { levels = withBits (outputBits + heldBits 3072 T) bs ws ∷ up; nodes = [] }
+  fits-sequential : (T : ℕ) (bs : List Bool) (ws : List ℕ) (up : List (List ℕ)) → P .limit ≡ 0 → heldBits sequentialBits T + length bs ≤ sequentialBits →
+      feedBits P T bs (ws ∷ up) ≡ record { levels = withBits (outputBits + heldBits sequentialBits T) bs ws ∷ up; nodes = [] }
   fits-sequential T [] ws up e h = Machine.feedBits-none P T (ws ∷ up)
   fits-sequential T (b ∷ bs) ws up e h =
-      let i : outputBits + heldBits 3072 (suc T) ≡ suc (outputBits + heldBits 3072 T) = rw (held-next-3072 T (omega arith)) (omega arith) in
-      let f : feedBit P (P .limit) T b (ws ∷ up) ≡ record { levels = withBit (outputBits + heldBits 3072 T) b ws ∷ up; nodes = [] } =
-      ap (λ (k : ℕ). feedBit P k T b (ws ∷ up)) e ∙ Machine.feed-seq-no P T b ws up (ne-eqb (heldBits 3072 T) 3072 (λ z. omega arith)) in
-      let r = fits-sequential (suc T) bs (withBit (outputBits + heldBits 3072 T) b ws) up e (rw (held-next-3072 T (omega arith)) (omega arith)) in
+      let i : outputBits + heldBits sequentialBits (suc T) ≡ suc (outputBits + heldBits sequentialBits T) = rw (held-next sequentialBits (omega arith) T (omega arith)) (omega arith) in
+      let f : feedBit P (P .limit) T b (ws ∷ up) ≡ record { levels = withBit (outputBits + heldBits sequentialBits T) b ws ∷ up; nodes = [] } =
+      ap (λ (k : ℕ). feedBit P k T b (ws ∷ up)) e ∙ Machine.feed-seq-no P T b ws up (ne-eqb (heldBits sequentialBits T) sequentialBits (λ z. omega arith)) in
+      let r = fits-sequential (suc T) bs (withBit (outputBits + heldBits sequentialBits T) b ws) up e (rw (held-next sequentialBits (omega arith) T (omega arith)) (omega arith)) in
       rw (Machine.feedBits-more P T b bs (ws ∷ up), f, r)
-      (ap (λ (k : ℕ). record { levels = withBits k bs (withBit (outputBits + heldBits 3072 T) b ws) ∷ up; nodes = [] }) i)
+      (ap (λ (k : ℕ). record { levels = withBits k bs (withBit (outputBits + heldBits sequentialBits T) b ws) ∷ up; nodes = [] }) i)
 
   -- bits of a piece that fit into level 1
   pub fill-parallel : (n T : ℕ) (ws : List ℕ) (up : List (List ℕ)) (bytes : List ℕ) (start count : ℕ) → P .limit ≡ suc n → Below (2 ^ 64) ws →
       length ws ≡ 64 →
-      heldBits 4096 T + count ≤ 4096 → start + count ≤ 8 * length bytes →
-      feedBits P T (take count (drop start (bitsOf 8 bytes))) (ws ∷ up) ≡ record { levels = filled ws (heldBits 4096 T) bytes start count ∷ up; nodes = [] }
+      heldBits blockBits T + count ≤ blockBits → start + count ≤ 8 * length bytes →
+      feedBits P T (take count (drop start (bitsOf 8 bytes))) (ws ∷ up) ≡ record { levels = filled ws (heldBits blockBits T) bytes start count ∷ up; nodes = [] }
   fill-parallel n T ws up bytes start count e b w h g =
       let s : List Bool = drop start (bitsOf 8 bytes) in
       let l : length (take count s) ≡ count = length-take-le count s (rw (length-drop start (bitsOf 8 bytes), length-bitsOf 8 bytes) (omega arith)) in
-      fits-parallel n T (take count s) ws up e (rw l h) ∙ rw (withBits-filled ws (heldBits 4096 T) bytes start count b (rw w h) g) refl
+      fits-parallel n T (take count s) ws up e (rw l h) ∙ rw (withBits-filled ws (heldBits blockBits T) bytes start count b (rw w h) g) refl
 
   pub fill-sequential : (T : ℕ) (ws : List ℕ) (up : List (List ℕ)) (bytes : List ℕ) (start count : ℕ) → P .limit ≡ 0 → Below (2 ^ 64) ws →
       length ws ≡ 64 →
-      heldBits 3072 T + count ≤ 3072 → start + count ≤ 8 * length bytes →
-      feedBits P T (take count (drop start (bitsOf 8 bytes))) (ws ∷ up) ≡ record { levels = filled ws (outputBits + heldBits 3072 T) bytes start count ∷ up; nodes = [] }
+      heldBits sequentialBits T + count ≤ sequentialBits → start + count ≤ 8 * length bytes →
+      feedBits P T (take count (drop start (bitsOf 8 bytes))) (ws ∷ up) ≡ record { levels = filled ws (outputBits + heldBits sequentialBits T) bytes start count ∷ up; nodes = [] }
   fill-sequential T ws up bytes start count e b w h g =
       let s : List Bool = drop start (bitsOf 8 bytes) in
       let l : length (take count s) ≡ count = length-take-le count s (rw (length-drop start (bitsOf 8 bytes), length-bitsOf 8 bytes) (omega arith)) in
-      fits-sequential T (take count s) ws up e (rw l h) ∙ rw (withBits-filled ws (outputBits + heldBits 3072 T) bytes start count b (rw w (omega arith)) g) refl
+      fits-sequential T (take count s) ws up e (rw l h) ∙ rw (withBits-filled ws (outputBits + heldBits sequentialBits T) bytes start count b (rw w (omega arith)) g) refl
 
 -- ---- the levels of an area, read and written back
 
-pub flatten-from : (area : List ℕ) (n k : ℕ) → 0 < k → flatten (levelsFrom area n k) ≡ take (64 * n) (drop (headWords + 64 * (k - 1)) area)
+pub flatten-from : (area : List ℕ) (n k : ℕ) → 0 < k → flatten (levelsFrom area n k) ≡ take (blockWords * n) (drop (levelStart k) area)
 unfolding flatten
 flatten-from area zero k h = refl
 flatten-from area (suc n) k h =
-    let e : 64 * suc n ≡ 64 + 64 * n = omega arith in
-    let a : headWords + 64 * (suc k - 1) ≡ headWords + 64 * (k - 1) + 64 = omega arith in
-    rw (flatten-from area n (suc k) (omega arith), e, a, take-add 64 (64 * n) (drop (headWords + 64 * (k - 1)) area), drop-drop 64 (headWords + 64 * (k - 1)) area) refl
+    let e : blockWords * suc n ≡ blockWords + blockWords * n = omega arith in
+    let a : levelStart (suc k) ≡ levelStart k + blockWords = omega arith in
+    rw (flatten-from area n (suc k) (omega arith), e, a, take-add blockWords (blockWords * n) (drop (levelStart k) area), drop-drop blockWords (levelStart k) area) refl
 
 pub withLevels-same : (area : List ℕ) → withLevels area (levelsOf area) ≡ area
 unfolding withLevels levelsOf
 withLevels-same area =
-    rw (flatten-from area 27 1 (omega arith))
-    (ap (λ (l : List ℕ). take 16 area ++ (take 1728 (drop 16 area) ++ l)) (sym (drop-drop 1728 16 area))
-    ∙ rw (take-append-drop 1728 (drop 16 area)) (take-append-drop 16 area))
+    let n : ℕ = blockWords * areaLevels in
+    rw (flatten-from area areaLevels 1 (omega arith))
+    (ap (λ (l : List ℕ). take headWords area ++ (take n (drop headWords area) ++ l)) (sym (drop-drop n headWords area))
+    ∙ rw (take-append-drop n (drop headWords area)) (take-append-drop headWords area))
 
 -- "Feeding 0 bits changes nothing."
 pub feed-nothing : (area : List ℕ) → fedArea area 0 (fedBits area []) ≡ area

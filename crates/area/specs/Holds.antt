@@ -5,7 +5,7 @@ use Prim.Native.Nat.{ℕ, zero, suc, _+_, _-_, _/_, _%_, _≤_, _<_}
 use native.Mathlib.Omega.{arith}
 use lib.ListN.{getD, replicate}
 use Rattle.tree.specs.Tree.{blockBits}
-use Rattle.area.specs.Area.{parallelHold, doneBlocks, holdsAbove}
+use Rattle.area.specs.Area.{parallelHold, doneBlocks, holdsAbove, areaLevels}
 use Rattle.area.specs.Terms.{bitsAt, mostFirst, HoldsOutputs}
 
 pub first-holds : (limit T : ℕ) → 0 < T → (1 ≤ bitsAt limit T 1) × (bitsAt limit T 1 ≤ mostFirst limit)
@@ -35,8 +35,8 @@ higher-holds limit T zero h = absurd (omega arith)
 higher-holds limit T (suc zero) h = absurd (omega arith)
 higher-holds zero T (suc (suc j)) h =
     let e : suc (suc j) - 1 ≡ suc j = omega arith in
-    rw (bitsAt, e) (no-outputs 0 (suc (suc j)) _ (none-held 26 j))
+    rw (bitsAt, e) (no-outputs 0 (suc (suc j)) _ (none-held (areaLevels - 1) j))
 higher-holds (suc n) T (suc (suc j)) h =
     let e : suc (suc j) - 1 ≡ suc j = omega arith in
-    let r = holds-above 26 n (doneBlocks blockBits T) j in
+    let r = holds-above (areaLevels - 1) n (doneBlocks blockBits T) j in
     rw (bitsAt, e) record { outputs = r .outputs; whole = r .whole; parallel = r .parallel; sequential = λ q. r .sequential (omega arith); above = λ q. r .above (omega arith) }

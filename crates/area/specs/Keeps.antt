@@ -2,7 +2,7 @@
 use mathlib.Core.Path.{_≡_, refl, sym, _∙_, subst}
 use mathlib.Core.Bool.{Bool, true, false, _||_}
 use mathlib.Core.List.{List}
-use Prim.Native.Nat.{ℕ, zero, suc, _+_, _-_, _*_, _^_, _≤_}
+use Prim.Native.Nat.{ℕ, zero, suc, _+_, _-_, _*_, _^_}
 use native.Mathlib.Omega.{arith}
 use borrow.Author.Tests.{eqb-true, eq-eqb, ne-eqb}
 use lib.Dec.{eqb}
@@ -11,14 +11,14 @@ use Rattle.lists.specs.Below.{Below}
 use Rattle.lists.specs.BelowLaws.{below-at, below-take, below-drop}
 use Rattle.tree.specs.Refusals.{pieceBits}
 use Rattle.tree.specs.Sizes.{treeNodes}
-use Rattle.area.specs.Area.{areaWords, phaseOf, totalOf, keyBytesOf, kOf, compressionsOf, paramsOf, levelsFrom, levelsOf, withLevels, emptyLevel, emptyLevels, holdsFor, openCount, countFor, cleanAll, soundParams, soundKey, soundCount, sound}
+use Rattle.area.specs.Area.{phaseOf, totalOf, keyBytesOf, kOf, compressionsOf, paramsOf, levelsFrom, levelsOf, withLevels, emptyLevel, emptyLevels, holdsFor, openCount, countFor, cleanAll, soundParams, soundKey, soundCount, sound, areaLevels, Long}
 use Rattle.area.specs.Calls.{Made, feedBits, fedBits, feedNumber, fedArea, feedOf, closedBy, endNumber, endedArea, endOf}
 use Rattle.area.specs.Counts
-use Rattle.area.specs.AreaLaws.{Changed}
+use Rattle.area.specs.AreaLaws.{length-levelsOf, Changed}
 use Rattle.area.specs.Sound.{clean-empty}
 use Rattle.tree.specs.RefusalLaws.{length-pieceBits}
 use Rattle.area.specs.CallLaws.{FeedPassed, feed-passed, feed-number, feed-accepted, EndPassed, end-passed, end-number, end-accepted}
-use Rattle.area.specs.Accepts.{levelsOf-size, closed-count}
+use Rattle.area.specs.Accepts.{closed-count}
 use Rattle.area.specs.WriteLaws.{levelsOf-widths}
 use Rattle.area.specs.Moved.{Tests, sound-tests, tests-sound, Words, nil, cons}
 use Rattle.area.specs.Tails.{feed-changed, end-changed}
@@ -28,9 +28,9 @@ levels-words : (area : List ℕ) (n k : ℕ) → Below (2 ^ 64) area → Words (
 levels-words area zero k b = nil
 levels-words area (suc n) k b = cons (below-take 64 (below-drop (16 + 64 * (k - 1)) b)) (levels-words area n (suc k) b)
 
-levelsOf-words : (area : List ℕ) → Below (2 ^ 64) area → Words (levelsOf area)
+pub levelsOf-words : (area : List ℕ) → Below (2 ^ 64) area → Words (levelsOf area)
 unfolding levelsOf
-levelsOf-words area b = levels-words area 27 1 b
+levelsOf-words area b = levels-words area areaLevels 1 b
 
 -- an area that is sound and has not ended is open
 open-phase : (area : List ℕ) → sound area ≡ true → (phaseOf area ≡ 2 → ⊥) → phaseOf area ≡ 1
@@ -41,11 +41,11 @@ open-phase area s n = eqb-true (phaseOf area) 1 (go (eqb (phaseOf area) 1) (eqb 
     go false b e f = sym f ∙ e
 
 -- what the levels of a sound open area hold
-pub sound-held : (area : List ℕ) → areaWords ≤ length area → Below (2 ^ 64) area → sound area ≡ true → phaseOf area ≡ 1 →
+pub sound-held : (area : List ℕ) → Long area → Below (2 ^ 64) area → sound area ≡ true → phaseOf area ≡ 1 →
     HeldOpen (paramsOf area .limit) (totalOf area) (levelsOf area)
 sound-held area long b s p =
-    open-held (paramsOf area .limit) (totalOf area) (levelsOf area) (levelsOf-size area) (levelsOf-words area b) (levelsOf-widths area long)
-    (subst (λ (k : ℕ). cleanAll (holdsFor k (paramsOf area .limit) (totalOf area)) (levelsOf area) ≡ true) p (sound-tests area s .levels))
+    open-held (paramsOf area .limit) (totalOf area) (levelsOf area) (levelsOf-words area b) (levelsOf-widths area long)
+    (rw (length-levelsOf area) (subst (λ (k : ℕ). cleanAll (holdsFor areaLevels k (paramsOf area .limit) (totalOf area)) (levelsOf area) ≡ true) p (sound-tests area s .levels)))
 
 -- tests that look at what neither a feed nor an end changes
 same-params-test : (x y : List ℕ) → paramsOf y ≡ paramsOf x → soundParams x ≡ true → soundParams y ≡ true
@@ -63,7 +63,7 @@ feed-keeps area piece n log b e = rw (feed-accepted area piece n log z) (tests-s
   key = same-key-test area to (c .key) (c .same 2 (omega arith) (omega arith) (omega arith)) (t .key);
   count = count;
   last = rw (c .same 15 (omega arith) (omega arith) (omega arith)) (t .last);
-  levels = rw (c .same 0 (omega arith) (omega arith) (omega arith), p, c .params, c .set, c .levels) (open-clean (paramsOf area .limit) (totalOf area + n) (made .levels) size held);
+  levels = rw (c .same 0 (omega arith) (omega arith) (omega arith), p, c .params, c .set, c .levels) (rw size at (open-clean (paramsOf area .limit) (totalOf area + n) (made .levels) held));
 })
   where
     z : feedNumber area piece n log ≡ 0
@@ -73,10 +73,10 @@ feed-keeps area piece n log b e = rw (feed-accepted area piece n log z) (tests-s
     q = feed-passed area piece n log z
 
     t : Tests area
-    t = sound-tests area (q .sound)
+    t = sound-tests area (q .opened .sound)
 
     p : phaseOf area ≡ 1
-    p = open-phase area (q .sound) (q .notEnded)
+    p = open-phase area (q .opened .sound) (q .opened .phase)
 
     Y : List Bool
     Y = pieceBits piece n
@@ -88,10 +88,10 @@ feed-keeps area piece n log b e = rw (feed-accepted area piece n log z) (tests-s
     made = feedBits (paramsOf area) (totalOf area) Y (levelsOf area)
 
     held : HeldOpen (paramsOf area .limit) (totalOf area + n) (made .levels)
-    held = rw len at (held-feedBits (paramsOf area) (totalOf area) Y (levelsOf area) (rw (levelsOf-size area) (omega arith)) (sound-held area (q .long) b (q .sound) p))
+    held = rw len at (held-feedBits (paramsOf area) (totalOf area) Y (levelsOf area) (rw (length-levelsOf area) (omega arith)) (sound-held area (q .opened .long) b (q .opened .sound) p))
 
-    size : length (made .levels) ≡ 27
-    size = Counts.feedBits-size (paramsOf area) (totalOf area) Y (levelsOf area) (rw (levelsOf-size area) (omega arith)) ∙ levelsOf-size area
+    size : length (made .levels) ≡ areaLevels
+    size = Counts.feedBits-size (paramsOf area) (totalOf area) Y (levelsOf area) (rw (length-levelsOf area) (omega arith)) ∙ length-levelsOf area
 
     to : List ℕ
     to = withLevels (set (set area 1 (totalOf area + n)) 14 (compressionsOf area + length (made .nodes))) (made .levels)
@@ -104,7 +104,7 @@ feed-keeps area piece n log b e = rw (feed-accepted area piece n log z) (tests-s
         (subst (λ (k : ℕ). eqb (compressionsOf area) (countFor k (paramsOf area .limit) (totalOf area)) ≡ true) p (t .count))
 
     counted : compressionsOf area + length (made .nodes) ≡ openCount (paramsOf area .limit) (totalOf area + n)
-    counted = omega (arith, before, rw len at (Counts.feedBits-count (paramsOf area) (totalOf area) Y (levelsOf area) (levelsOf-size area) (rw len (q .total))))
+    counted = omega (arith, before, rw len at (Counts.feedBits-count (paramsOf area) (totalOf area) Y (levelsOf area) (length-levelsOf area) (rw len (q .total))))
 
     count : soundCount to ≡ true
     count = rw (c .same 0 (omega arith) (omega arith) (omega arith), p, c .params, c .set, c .count) (eq-eqb (compressionsOf area + length (made .nodes)) (openCount (paramsOf area .limit) (totalOf area + n)) counted)
@@ -117,7 +117,7 @@ end-keeps area out log b e = rw (end-accepted area out log z) (tests-sound to re
   key = same-key-test area to (c .key) (c .same 2 (omega arith) (omega arith) (omega arith)) (t .key);
   count = rw (c .set, c .params, c .same 1 (omega arith) (omega arith) (omega arith), c .count) (eq-eqb (compressionsOf area + length (closedBy area)) (treeNodes (paramsOf area .limit) (totalOf area)) counted);
   last = rw (c .same 15 (omega arith) (omega arith) (omega arith)) (t .last);
-  levels = rw (c .set, c .levels) (clean-empty 27);
+  levels = rw (c .set, c .levels) (clean-empty areaLevels);
 })
   where
     z : endNumber area out log ≡ 0
@@ -127,15 +127,15 @@ end-keeps area out log b e = rw (end-accepted area out log z) (tests-sound to re
     q = end-passed area out log z
 
     t : Tests area
-    t = sound-tests area (q .sound)
+    t = sound-tests area (q .opened .sound)
 
     p : phaseOf area ≡ 1
-    p = open-phase area (q .sound) (q .notEnded)
+    p = open-phase area (q .opened .sound) (q .opened .phase)
 
     to : List ℕ
-    to = withLevels (set (set area 0 2) 14 (compressionsOf area + length (closedBy area))) (replicate 27 emptyLevel)
+    to = withLevels (set (set area 0 2) 14 (compressionsOf area + length (closedBy area))) (replicate areaLevels emptyLevel)
 
-    c : Changed area 0 2 (compressionsOf area + length (closedBy area)) (replicate 27 emptyLevel) to
+    c : Changed area 0 2 (compressionsOf area + length (closedBy area)) (replicate areaLevels emptyLevel) to
     c = end-changed area out log z
 
     before : compressionsOf area ≡ openCount (paramsOf area .limit) (totalOf area)
@@ -143,4 +143,4 @@ end-keeps area out log b e = rw (end-accepted area out log z) (tests-sound to re
         (subst (λ (k : ℕ). eqb (compressionsOf area) (countFor k (paramsOf area .limit) (totalOf area)) ≡ true) p (t .count))
 
     counted : compressionsOf area + length (closedBy area) ≡ treeNodes (paramsOf area .limit) (totalOf area)
-    counted = omega (arith, before, closed-count area (below-at b 1 (omega (arith, q .long))))
+    counted = omega (arith, before, closed-count area (below-at b 1 (omega (arith, q .opened .long))))

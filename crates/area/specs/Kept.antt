@@ -1,5 +1,5 @@
 -- Laws: any sound area stays sound: what the levels of a sound area hold, whatever it is, and what a feed and an end make of it.
-use mathlib.Core.Path.{_≡_, refl, sym, ap, _∙_, subst}
+use mathlib.Core.Path.{_≡_, refl, sym, ap, _∙_}
 use mathlib.Core.Bool.{Bool, true, false, _||_}
 use mathlib.Core.List.{List, [], _∷_, _++_, append-assoc, append-nil}
 use Prim.Native.Nat.{ℕ, zero, suc, _+_, _-_, _*_, _/_, _%_, _^_, _≤_, _<_}
@@ -21,11 +21,10 @@ use Rattle.area.specs.Rows.{AllLen}
 use Rattle.area.specs.Receive.{outWords-is}
 use Rattle.area.specs.Receive
 use Rattle.area.specs.Machine
-use Rattle.area.specs.Counts.{full-4096, less-4096, full-3072, less-3072}
+use Rattle.area.specs.Blocks.{held-most, done-less, held-next, done-full, held-first}
 use Rattle.area.specs.AreaLaws.{allFalse-is}
 use Rattle.area.specs.Sound.{clean-parallel, clean-sequential, clean-empty}
 use Rattle.lists.specs.And.{and-intro, and-parts}
-use Rattle.area.specs.FeedLaws.{held-next-4096, held-next-3072, held-most-4096, held-most-3072}
 use Rattle.area.specs.Moved.{Words, cons}
 
 -- ---- the words of a level whose bits from n on are zero
@@ -35,7 +34,7 @@ clean-block : (n : ℕ) (ws : List ℕ) → Below (2 ^ 64) ws → length ws ≡ 
 unfolding blockOf
 clean-block n ws b w h f =
     let X : List Bool = bitsOf 64 ws in
-    let l : length X ≡ 4096 = length-bitsOf 64 ws ∙ rw w refl in
+    let l : length X ≡ blockBits = length-bitsOf 64 ws ∙ rw w refl in
     let t : length (take n X) ≡ n = length-take-le n X (omega arith) in
     let m : length (drop n X) ≡ blockBits - length (take n X) = length-drop n X ∙ omega arith in
     let z : drop n X ≡ replicate (blockBits - length (take n X)) false = allFalse-is (drop n X) f ∙ ap (λ (k : ℕ). replicate k false) m in
@@ -64,8 +63,8 @@ HeldAbove (suc n) i (ws ∷ up) = ParHeld (outputBits * (i % 4)) ws × HeldAbove
 
 abbrev pub HeldOpen : ℕ → ℕ → List (List ℕ) → Type 0
 HeldOpen limit T [] = Unit {0}
-HeldOpen zero T (ws ∷ up) = SeqHeld (doneBlocks 3072 T) (heldBits 3072 T) ws up
-HeldOpen (suc n) T (ws ∷ up) = ParHeld (heldBits 4096 T) ws × HeldAbove n (doneBlocks 4096 T) up
+HeldOpen zero T (ws ∷ up) = SeqHeld (doneBlocks sequentialBits T) (heldBits sequentialBits T) ws up
+HeldOpen (suc n) T (ws ∷ up) = ParHeld (heldBits blockBits T) ws × HeldAbove n (doneBlocks blockBits T) up
 
 -- ---- sound levels hold it
 
@@ -100,7 +99,7 @@ seq-held : (c n : ℕ) (ws : List ℕ) (up : List (List ℕ)) → n ≤ sequenti
     cleanAll (replicate (length up) (parallelHold 0)) up ≡ true → SeqHeld c n ws up
 seq-held c n ws up h (cons b w) a e g =
     let X : List Bool = bitsOf 64 ws in
-    let l : length X ≡ 4096 = length-bitsOf 64 ws ∙ rw (a .0) refl in
+    let l : length X ≡ blockBits = length-bitsOf 64 ws ∙ rw (a .0) refl in
     let p = and-parts (ltb 0 c || allFalse (take outputBits X)) (allFalse (drop (outputBits + n) X)) e in
     let t : length (take outputBits X) ≡ outputBits = length-take-le outputBits X (omega arith) in
     record {
@@ -122,17 +121,17 @@ above-held (suc n) i (ws ∷ up) (cons b w) a e =
     let p = and-parts (clean (parallelHold (outputBits * (i % 4))) ws) (cleanAll (holdsAbove (length up) n (i / 4)) up) e in
     (par-held (outputBits * (i % 4)) ws (omega arith) b (a .0) (p .0), above-held n (i / 4) up w (a .1) (p .1))
 
-pub open-held : (limit T : ℕ) (st : List (List ℕ)) → length st ≡ 27 → Words st → AllLen 64 st → cleanAll (openHolds limit T) st ≡ true →
+pub open-held : (limit T : ℕ) (st : List (List ℕ)) → Words st → AllLen 64 st → cleanAll (openHolds (length st) limit T) st ≡ true →
     HeldOpen limit T st
-open-held limit T [] s w a e = tt
-open-held zero T (ws ∷ up) s w a e =
-    let u : 26 ≡ length up = omega arith in
-    let p = and-parts (clean (sequentialHold (doneBlocks 3072 T) (heldBits 3072 T)) ws) (cleanAll (replicate 26 (parallelHold 0)) up) e in
-    seq-held (doneBlocks 3072 T) (heldBits 3072 T) ws up (held-most-3072 T) w a (p .0) (subst (λ (k : ℕ). cleanAll (replicate k (parallelHold 0)) up ≡ true) u (p .1))
-open-held (suc n) T (ws ∷ up) s (cons b w) a e =
-    let u : 26 ≡ length up = omega arith in
-    let p = and-parts (clean (parallelHold (heldBits 4096 T)) ws) (cleanAll (holdsAbove 26 n (doneBlocks 4096 T)) up) e in
-    (par-held (heldBits 4096 T) ws (held-most-4096 T) b (a .0) (p .0), above-held n (doneBlocks 4096 T) up w (a .1) (subst (λ (k : ℕ). cleanAll (holdsAbove k n (doneBlocks 4096 T)) up ≡ true) u (p .1)))
+open-held limit T [] w a e = tt
+open-held zero T (ws ∷ up) w a e =
+    let k : ℕ = doneBlocks sequentialBits T in
+    let h : ℕ = heldBits sequentialBits T in
+    let p = and-parts (clean (sequentialHold k h) ws) (cleanAll (replicate (length up) (parallelHold 0)) up) e in
+    seq-held k h ws up (held-most sequentialBits (omega arith) T) w a (p .0) (p .1)
+open-held (suc n) T (ws ∷ up) (cons b w) a e =
+    let p = and-parts (clean (parallelHold (heldBits blockBits T)) ws) (cleanAll (holdsAbove (length up) n (doneBlocks blockBits T)) up) e in
+    (par-held (heldBits blockBits T) ws (held-most blockBits (omega arith) T) b (a .0) (p .0), above-held n (doneBlocks blockBits T) up w (a .1) (p .1))
 
 -- ---- and levels that hold it are sound
 
@@ -144,16 +143,14 @@ above-clean zero i (ws ∷ up) h =
 above-clean (suc n) i (ws ∷ up) h =
     rw (h .0 .is) (and-intro (clean-parallel (outputBits * (i % 4)) (h .0 .Y) (omega (arith, h .0 .size)) (h .0 .size)) (above-clean n (i / 4) up (h .1)))
 
-pub open-clean : (limit T : ℕ) (st : List (List ℕ)) → length st ≡ 27 → HeldOpen limit T st → cleanAll (openHolds limit T) st ≡ true
-open-clean limit T [] s h = absurd (omega arith)
-open-clean zero T (ws ∷ up) s h =
-    let u : length up ≡ 26 = omega arith in
-    rw (h .is, h .empty, u)
-    (and-intro (clean-sequential (doneBlocks 3072 T) (heldBits 3072 T) (h .chain) (h .Y) (h .chained) (omega (arith, h .size, held-most-3072 T)) (h .size) (h .before)) (clean-empty 26))
-open-clean (suc n) T (ws ∷ up) s h =
-    let u : length up ≡ 26 = omega arith in
+pub open-clean : (limit T : ℕ) (st : List (List ℕ)) → HeldOpen limit T st → cleanAll (openHolds (length st) limit T) st ≡ true
+open-clean limit T [] h = refl
+open-clean zero T (ws ∷ up) h =
+    rw (h .is, h .empty, length-replicate (length up) emptyLevel)
+    (and-intro (clean-sequential (doneBlocks sequentialBits T) (heldBits sequentialBits T) (h .chain) (h .Y) (h .chained) (omega (arith, h .size, held-most sequentialBits (omega arith) T)) (h .size) (h .before)) (clean-empty (length up)))
+open-clean (suc n) T (ws ∷ up) h =
     rw (h .0 .is)
-    (and-intro (clean-parallel (heldBits 4096 T) (h .0 .Y) (omega (arith, h .0 .size, held-most-4096 T)) (h .0 .size)) (rw u at (above-clean n (doneBlocks 4096 T) up (h .1))))
+    (and-intro (clean-parallel (heldBits blockBits T) (h .0 .Y) (omega (arith, h .0 .size, held-most blockBits (omega arith) T)) (h .0 .size)) (above-clean n (doneBlocks blockBits T) up (h .1)))
 
 -- ---- a node that comes to the levels
 
@@ -169,7 +166,7 @@ module _ (P : Params) where
       m : Node
       m = node P level (i / 3) 0 0 (joinSequential i (words 16 y) ws)
 
-      o : length (output (P .rounds) m) ≡ 1024
+      o : length (output (P .rounds) m) ≡ outputBits
       o = length-output-node P (P .rounds) level (i / 3) 0 0 (joinSequential i (words 16 y) ws) (ap length j ∙ length-blockOf (h .chain ++ (h .Y ++ y)))
 
       go : (t : Bool) → eqb (i % 3) 2 ≡ t → HeldAbove 0 (suc i) (receive P 0 level i (words 16 y) (ws ∷ up) .levels)
@@ -199,7 +196,7 @@ module _ (P : Params) where
       m : Node
       m = node P level (i / 4) 0 0 (joinParallel i (words 16 y) ws)
 
-      o : length (output (P .rounds) m) ≡ 1024
+      o : length (output (P .rounds) m) ≡ outputBits
       o = length-output-node P (P .rounds) level (i / 4) 0 0 (joinParallel i (words 16 y) ws) (ap length j ∙ length-blockOf (h .0 .Y ++ y))
 
       next : i % 4 ≡ 3 → suc (i / 4) ≡ suc i / 4
@@ -217,73 +214,67 @@ module _ (P : Params) where
 
   -- ---- one bit more
 
-  one-4096 : (T : ℕ) → heldBits 4096 T ≡ 4096 → heldBits 4096 (suc T) ≡ 1
-  one-4096 T e = rw (full-4096 T e) (omega arith)
-
-  one-3072 : (T : ℕ) → heldBits 3072 T ≡ 3072 → heldBits 3072 (suc T) ≡ 1
-  one-3072 T e = rw (full-3072 T e) (omega arith)
-
   held-feedBit : (limit T : ℕ) (b : Bool) (st : List (List ℕ)) → 0 < length st → HeldOpen limit T st →
       HeldOpen limit (suc T) (feedBit P limit T b st .levels)
   held-feedBit limit T b [] p h = absurd (omega arith)
-  held-feedBit zero T b (ws ∷ up) p h = go (eqb (heldBits 3072 T) 3072) refl
+  held-feedBit zero T b (ws ∷ up) p h = go (eqb (heldBits sequentialBits T) sequentialBits) refl
     where
       m : Node
-      m = node P 1 (doneBlocks 3072 T) 0 0 ws
+      m = node P 1 (doneBlocks sequentialBits T) 0 0 ws
 
-      o : length (output (P .rounds) m) ≡ 1024
-      o = length-output-node P (P .rounds) 1 (doneBlocks 3072 T) 0 0 ws (ap length (h .is) ∙ length-blockOf (h .chain ++ h .Y))
+      o : length (output (P .rounds) m) ≡ outputBits
+      o = length-output-node P (P .rounds) 1 (doneBlocks sequentialBits T) 0 0 ws (ap length (h .is) ∙ length-blockOf (h .chain ++ h .Y))
 
-      place : outputBits + heldBits 3072 T ≡ length (h .chain ++ h .Y)
+      place : outputBits + heldBits sequentialBits T ≡ length (h .chain ++ h .Y)
       place = rw (length-append (h .chain) (h .Y)) (omega (arith, h .chained, h .size))
 
-      go : (t : Bool) → eqb (heldBits 3072 T) 3072 ≡ t → HeldOpen 0 (suc T) (feedBit P 0 T b (ws ∷ up) .levels)
+      go : (t : Bool) → eqb (heldBits sequentialBits T) sequentialBits ≡ t → HeldOpen 0 (suc T) (feedBit P 0 T b (ws ∷ up) .levels)
       go true e =
-          let f : heldBits 3072 T ≡ 3072 = eqb-true (heldBits 3072 T) 3072 e in
-          rw (Machine.feed-seq-yes P T b ws up e, full-3072 T f) record {
+          let f : heldBits sequentialBits T ≡ sequentialBits = eqb-true (heldBits sequentialBits T) sequentialBits e in
+          rw (Machine.feed-seq-yes P T b ws up e, done-full sequentialBits (omega arith) T f) record {
             chain = output (P .rounds) m;
             Y = b ∷ [];
             chained = o;
-            size = sym (rw (full-3072 T f) at (one-3072 T f));
+            size = sym (rw (done-full sequentialBits (omega arith) T f) at (held-first sequentialBits (omega arith) T f));
             before = λ z. absurd (omega arith);
             is = rw (outWords-is P m, blockOf-output (output (P .rounds) m) o, ← o) (blockOf-bit (output (P .rounds) m) b (omega (arith, o)));
             empty = h .empty;
           }
       go false e =
-          let f : heldBits 3072 T ≡ 3072 → ⊥ = eqb-false (heldBits 3072 T) 3072 e in
-          let less : heldBits 3072 T < 3072 = omega (arith, held-most-3072 T) in
+          let f : heldBits sequentialBits T ≡ sequentialBits → ⊥ = eqb-false (heldBits sequentialBits T) sequentialBits e in
+          let less : heldBits sequentialBits T < sequentialBits = omega (arith, held-most sequentialBits (omega arith) T) in
           rw (Machine.feed-seq-no P T b ws up e) record {
             chain = h .chain;
             Y = h .Y ++ (b ∷ []);
             chained = h .chained;
-            size = length-append (h .Y) (b ∷ []) ∙ omega (arith, h .size, held-next-3072 T less);
-            before = λ z. h .before (sym (less-3072 T f) ∙ z);
+            size = length-append (h .Y) (b ∷ []) ∙ omega (arith, h .size, held-next sequentialBits (omega arith) T less);
+            before = λ z. h .before (sym (done-less sequentialBits (omega arith) T f) ∙ z);
             is = rw (h .is, place) (blockOf-bit (h .chain ++ h .Y) b (omega (arith, place)) ∙ rw append-assoc);
             empty = h .empty;
           }
-  held-feedBit (suc n) T b (ws ∷ up) p h = go (eqb (heldBits 4096 T) 4096) refl
+  held-feedBit (suc n) T b (ws ∷ up) p h = go (eqb (heldBits blockBits T) blockBits) refl
     where
       m : Node
-      m = node P 1 (doneBlocks 4096 T) 0 0 ws
+      m = node P 1 (doneBlocks blockBits T) 0 0 ws
 
-      o : length (output (P .rounds) m) ≡ 1024
-      o = length-output-node P (P .rounds) 1 (doneBlocks 4096 T) 0 0 ws (ap length (h .0 .is) ∙ length-blockOf (h .0 .Y))
+      o : length (output (P .rounds) m) ≡ outputBits
+      o = length-output-node P (P .rounds) 1 (doneBlocks blockBits T) 0 0 ws (ap length (h .0 .is) ∙ length-blockOf (h .0 .Y))
 
-      go : (t : Bool) → eqb (heldBits 4096 T) 4096 ≡ t → HeldOpen (suc n) (suc T) (feedBit P (suc n) T b (ws ∷ up) .levels)
+      go : (t : Bool) → eqb (heldBits blockBits T) blockBits ≡ t → HeldOpen (suc n) (suc T) (feedBit P (suc n) T b (ws ∷ up) .levels)
       go true e =
-          let f : heldBits 4096 T ≡ 4096 = eqb-true (heldBits 4096 T) 4096 e in
+          let f : heldBits blockBits T ≡ blockBits = eqb-true (heldBits blockBits T) blockBits e in
           rw (Machine.feed-par-yes P n T b ws up e, outWords-is P m)
-          (record { Y = b ∷ []; size = sym (one-4096 T f); is = Machine.first-bit P b }, rw (full-4096 T f) (held-receive n 2 (doneBlocks 4096 T) (output (P .rounds) m) up o (h .1)))
+          (record { Y = b ∷ []; size = sym (held-first blockBits (omega arith) T f); is = Machine.first-bit P b }, rw (done-full blockBits (omega arith) T f) (held-receive n 2 (doneBlocks blockBits T) (output (P .rounds) m) up o (h .1)))
       go false e =
-          let f : heldBits 4096 T ≡ 4096 → ⊥ = eqb-false (heldBits 4096 T) 4096 e in
-          let less : heldBits 4096 T < 4096 = omega (arith, held-most-4096 T) in
+          let f : heldBits blockBits T ≡ blockBits → ⊥ = eqb-false (heldBits blockBits T) blockBits e in
+          let less : heldBits blockBits T < blockBits = omega (arith, held-most blockBits (omega arith) T) in
           rw (Machine.feed-par-no P n T b ws up e) (
             record {
               Y = h .0 .Y ++ (b ∷ []);
-              size = length-append (h .0 .Y) (b ∷ []) ∙ omega (arith, h .0 .size, held-next-4096 T less);
+              size = length-append (h .0 .Y) (b ∷ []) ∙ omega (arith, h .0 .size, held-next blockBits (omega arith) T less);
               is = rw (h .0 .is, ← h .0 .size) (blockOf-bit (h .0 .Y) b (omega (arith, h .0 .size)));
             },
-            rw (less-4096 T f) (h .1),
+            rw (done-less blockBits (omega arith) T f) (h .1),
           )
 
   pub held-feedBits : (T : ℕ) (bs : List Bool) (st : List (List ℕ)) → 0 < length st → HeldOpen (P .limit) T st →

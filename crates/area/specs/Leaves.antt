@@ -2,22 +2,22 @@
 use mathlib.Core.Path.{_≡_, refl, sym, _∙_}
 use mathlib.Core.Bool.{true}
 use mathlib.Core.List.{List, []}
-use Prim.Native.Nat.{ℕ, _^_, _≤_}
-use borrow.Author.Tests.{eq-eqb, ltb-false}
-use lib.Dec.{eqb, ltb}
+use Prim.Native.Nat.{ℕ, _^_}
+use borrow.Author.Tests.{eq-eqb}
+use lib.Dec.{eqb}
 use lib.ListN.{length}
 use Rattle.lists.specs.Below.{Below}
 use Rattle.bits.specs.BitsLaws.{length-numbers}
 use Rattle.tree.specs.Tree.{Params}
-use Rattle.tree.specs.Refusals.{refusedParams}
-use Rattle.tree.specs.RefusalLaws.{test-passed, params-ranges}
-use Rattle.area.specs.Area.{areaWords, totalOf, keyBytesOf, paramsOf, emptyLevels, openCount, soundParams, sound}
+use Rattle.tree.specs.Refusals.{firstRefusal, paramTests}
+use Rattle.tree.specs.RefusalLaws.{in-range}
+use Rattle.area.specs.Area.{totalOf, keyBytesOf, paramsOf, emptyLevels, openCount, soundParams, sound, areaLevels}
 use Rattle.area.specs.Calls.{openNumber, openedArea, openOf, feedNumber, feedOf, endNumber, endOf}
 use Rattle.area.specs.Machine
 use Rattle.area.specs.Counts
 use Rattle.area.specs.AreaLaws.{key-clean}
 use Rattle.area.specs.Sound.{state-sound}
-use Rattle.area.specs.CallLaws.{open-number, open-accepted, feed-number, feed-accepted, feed-passed, end-number, end-accepted, end-passed}
+use Rattle.area.specs.CallLaws.{open-number, open-accepted, open-passed, feed-number, feed-accepted, feed-passed, end-number, end-accepted, end-passed}
 use Rattle.area.specs.Stands.{opened-size, opened-levels, opened-key, opened-14, opened-15, opened-0}
 use Rattle.area.specs.Moved.{tests-sound}
 use Rattle.area.specs.Tails.{feed-changed, end-changed}
@@ -32,27 +32,21 @@ unfolding openedArea paramsOf
 opened-words area P = (refl, refl, refl)
 
 -- the ranges are tests of the key's length, d, L and r alone
-opened-params : (area : List ℕ) (P : Params) → soundParams (openedArea area P) ≡ eqb (refusedParams P 0) 0
+opened-params : (area : List ℕ) (P : Params) → soundParams (openedArea area P) ≡ eqb (firstRefusal (paramTests P)) 0
 unfolding openedArea paramsOf
 opened-params area P = rw (length-numbers 8 (length (P .key)) _) refl
 
-opened-sound : (area : List ℕ) (P : Params) → refusedParams P 0 ≡ 0 → sound (openedArea area P) ≡ true
+opened-sound : (area : List ℕ) (P : Params) → firstRefusal (paramTests P) ≡ 0 → sound (openedArea area P) ≡ true
 opened-sound area P e =
     let w = opened-words area P in
     tests-sound (openedArea area P) record {
       phase = rw (opened-0 area P) refl;
       params = opened-params area P ∙ rw e refl;
-      key = rw (opened-key area P, w .1) (key-clean (P .key) (params-ranges P e .keyBytes));
+      key = rw (opened-key area P, w .1) (key-clean (P .key) (in-range (length (P .key)) (P .d) (P .limit) (P .rounds) e .keyHigh));
       count = rw (opened-14 area P, opened-0 area P, w .0, w .2) (eq-eqb 0 (openCount (P .limit) 0) (sym (Counts.openCount-none (P .limit))));
       last = rw (opened-15 area P) refl;
-      levels = rw (opened-0 area P, opened-levels area P, w .0, w .2) (state-sound P (P .limit) [] emptyLevels [] (Machine.state-open P (P .limit)));
+      levels = rw (opened-0 area P, opened-levels area P, w .0, w .2) (state-sound P (P .limit) [] (emptyLevels areaLevels) [] (Machine.state-open P (P .limit)));
     }
-
-open-passed : (area : List ℕ) (P : Params) → openNumber area P ≡ 0 → (areaWords ≤ length area) × (refusedParams P 0 ≡ 0)
-unfolding openNumber
-open-passed area P e =
-    let a = test-passed (ltb (length area) areaWords) 6 (refusedParams P 0) e in
-    (ltb-false (length area) areaWords (a .0), a .1)
 
 pub open-leaves-sound : (area : List ℕ) (P : Params) → openOf area P .number ≡ 0 → LeavesSound area (openOf area P .area)
 open-leaves-sound area P e =
@@ -68,10 +62,10 @@ pub feed-leaves-sound : (area piece : List ℕ) (n : ℕ) (log : List ℕ) → B
 feed-leaves-sound area piece n log b e =
     let z : feedNumber area piece n log ≡ 0 = sym (feed-number area piece n log) ∙ e in
     let s : length (feedOf area piece n log .area) ≡ length area = rw (feed-accepted area piece n log z) (feed-changed area piece n log z .size) in
-    record { size = s; long = rw s (feed-passed area piece n log z .long); is-sound = feed-keeps area piece n log b e }
+    record { size = s; long = rw s (feed-passed area piece n log z .opened .long); is-sound = feed-keeps area piece n log b e }
 
 pub end-leaves-sound : (area out log : List ℕ) → Below (2 ^ 64) area → endOf area out log .number ≡ 0 → LeavesSound area (endOf area out log .area)
 end-leaves-sound area out log b e =
     let z : endNumber area out log ≡ 0 = sym (end-number area out log) ∙ e in
     let s : length (endOf area out log .area) ≡ length area = rw (end-accepted area out log z) (end-changed area out log z .size) in
-    record { size = s; long = rw s (end-passed area out log z .long); is-sound = end-keeps area out log b e }
+    record { size = s; long = rw s (end-passed area out log z .opened .long); is-sound = end-keeps area out log b e }

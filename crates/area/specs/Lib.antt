@@ -2,11 +2,11 @@ pub mod Accepts
 pub mod Area
 pub mod AreaLaws
 pub mod Block
+pub mod Blocks
 pub mod CallLaws
 pub mod Calls
 pub mod Close
 pub mod Counts
-pub mod Cutting
 pub mod FeedLaws
 pub mod Holds
 pub mod Keeps

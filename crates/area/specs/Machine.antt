@@ -13,10 +13,10 @@ use Rattle.lists.specs.Flatten.{map-append}
 use Rattle.tree.specs.Tree.{Params, Node, Mark, Subtree, blockBits, sequentialBits, outputBits, words, node, output, noChain, levels, lastOr, noNode, rootOf, root, leaves, listing, climb, subtrees, lastIndex}
 use Rattle.tree.specs.TreeLaws.{length-output-node, length-seqBlock, levels-one, levels-more, levels-some, rootOf-cons}
 use Rattle.bits.specs.BitsLaws.{length-numbers}
-use Rattle.area.specs.Area.{emptyLevel, emptyLevels, doneBlocks, heldBits}
+use Rattle.area.specs.Area.{emptyLevel, emptyLevels, doneBlocks, heldBits, areaLevels}
 use Rattle.area.specs.Calls.{Made, withBit, outWords, chained, joinParallel, receive, feedBit, feedBits, closeAbove, closing}
 use Rattle.area.specs.Block.{blockOf, length-blockOf, blockOf-full, blockOf-none, blockOf-noChain, blockOf-output, blockOf-chain-full, blockOf-bit}
-use Rattle.area.specs.Rows.{snoc-length, lastOr-snoc, Cut, cut-length, cut-last-4096, cut-last-3072, cut-blocks-4096, cut-more, cut-full, tops}
+use Rattle.area.specs.Rows.{snoc-length, lastOr-snoc, Cut, cut-length, cut-last, cut-held, cut-blocks, cut-more, cut-full, tops}
 use Rattle.area.specs.Rows
 use Rattle.area.specs.Receive.{listing-append, marked, marked-append, outWords-is}
 use Rattle.area.specs.Receive
@@ -53,14 +53,6 @@ unfolding mathlib.Core.List.flatten
 listing-quietLeaves [] = refl
 listing-quietLeaves (n ∷ ns) = cons-eq refl (listing-quietLeaves ns)
 
--- ---- what level 1 holds
-
-pub cut-held-4096 : {M : List Bool} {B : List (List Bool)} {l : List Bool} → Cut 4096 M B l → heldBits 4096 (length M) ≡ length l
-cut-held-4096 {M} {B} {l} c = rw (cut-last-4096 c) (omega (arith, cut-length c))
-
-pub cut-held-3072 : {M : List Bool} {B : List (List Bool)} {l : List Bool} → Cut 3072 M B l → heldBits 3072 (length M) ≡ length l
-cut-held-3072 {M} {B} {l} c = rw (cut-last-3072 c) (omega (arith, cut-length c))
-
 module _ (P : Params) where
   abbrev pub parNodes : List (List Bool) → List Node
   parNodes B = Rows.row P (Rows.parNode P 1) 0 [] B
@@ -73,9 +65,9 @@ module _ (P : Params) where
     pub B : List (List Bool)
     pub l : List Bool
     pub up : List (List ℕ)
-    pub cut : Cut 3072 M B l
+    pub cut : Cut sequentialBits M B l
     pub is : st ≡ blockOf (Rows.chain P 1 B ++ l) ∷ up
-    pub size : length up ≡ 26
+    pub size : length up ≡ areaLevels - 1
     pub empty : up ≡ replicate (length up) emptyLevel
     pub logged : log ≡ seqNodes B
 
@@ -83,33 +75,33 @@ module _ (P : Params) where
     pub B : List (List Bool)
     pub l : List Bool
     pub up : List (List ℕ)
-    pub cut : Cut 4096 M B l
+    pub cut : Cut blockBits M B l
     pub is : st ≡ blockOf l ∷ up
-    pub size : length up ≡ 26
+    pub size : length up ≡ areaLevels - 1
     pub inv : Receive.Inv P n 2 (quietLeaves (parNodes B)) up (marked false log)
 
   abbrev pub State : ℕ → List Bool → List (List ℕ) → List Node → Type 0
   State zero M st log = SeqState M st log
   State (suc n) M st log = ParState n M st log
 
-  nothing : (k : ℕ) → Cut k [] [] []
+  nothing : (k : ℕ) → 0 < k → Cut k [] [] []
   unfolding mathlib.Core.List.flatten
-  nothing k = record { whole = refl; full = tt; fits = omega arith; some = λ e. refl }
+  nothing k h = record { size = h; whole = refl; full = tt; fits = omega arith; some = λ e. refl }
 
   -- an opened stream
-  pub state-open : (limit : ℕ) → State limit [] emptyLevels []
+  pub state-open : (limit : ℕ) → State limit [] (emptyLevels areaLevels) []
   unfolding emptyLevels
   state-open zero = record {
     B = [];
     l = [];
-    up = replicate 26 emptyLevel;
-    cut = nothing 3072;
+    up = replicate (areaLevels - 1) emptyLevel;
+    cut = nothing sequentialBits (omega arith);
     is = rw (Rows.chain-none P 1, append-nil noChain, blockOf-noChain) refl;
     size = refl;
     empty = refl;
     logged = refl;
   }
-  state-open (suc n) = record { B = []; l = []; up = replicate 26 emptyLevel; cut = nothing 4096; is = rw blockOf-none refl; size = refl; inv = Receive.inv-open P n 2 26 }
+  state-open (suc n) = record { B = []; l = []; up = replicate (areaLevels - 1) emptyLevel; cut = nothing blockBits (omega arith); is = rw blockOf-none refl; size = refl; inv = Receive.inv-open P n 2 (areaLevels - 1) }
 
   -- ---- the steps of a bit
 
@@ -161,30 +153,30 @@ module _ (P : Params) where
 
   seq-step : (M : List Bool) (st : List (List ℕ)) (log : List Node) (b : Bool) → SeqState M st log →
       SeqState (M ++ (b ∷ [])) (feedBit P 0 (length M) b st .levels) (log ++ feedBit P 0 (length M) b st .nodes)
-  seq-step M st log b v = rw (v .is) (go (eqb (heldBits 3072 (length M)) 3072) refl)
+  seq-step M st log b v = rw (v .is) (go (eqb (heldBits sequentialBits (length M)) sequentialBits) refl)
     where
       c : List Bool
       c = Rows.chain P 1 (v .B)
 
-      lc : length c ≡ 1024
+      lc : length c ≡ outputBits
       lc = Rows.length-chain P 1 (v .B)
 
       ws : List ℕ
       ws = blockOf (c ++ v .l)
 
-      held : heldBits 3072 (length M) ≡ length (v .l)
-      held = cut-held-3072 (v .cut)
+      held : heldBits sequentialBits (length M) ≡ length (v .l)
+      held = cut-held (v .cut)
 
       m : Node
       m = Rows.seqNode P 1 (length (v .B)) c (v .l)
 
-      place : 1024 + length (v .l) ≡ length (c ++ v .l)
+      place : outputBits + length (v .l) ≡ length (c ++ v .l)
       place = rw (length-append c (v .l)) (omega (arith, lc))
 
-      go : (t : Bool) → eqb (heldBits 3072 (length M)) 3072 ≡ t →
+      go : (t : Bool) → eqb (heldBits sequentialBits (length M)) sequentialBits ≡ t →
           SeqState (M ++ (b ∷ [])) (feedBit P 0 (length M) b (ws ∷ v .up) .levels) (log ++ feedBit P 0 (length M) b (ws ∷ v .up) .nodes)
       go false e =
-          let less : length (v .l) < 3072 = omega (arith, held, v .cut .fits, eqb-false (heldBits 3072 (length M)) 3072 e) in
+          let less : length (v .l) < sequentialBits = omega (arith, held, v .cut .fits, eqb-false (heldBits sequentialBits (length M)) sequentialBits e) in
           rw (feed-seq-no (length M) b ws (v .up) e) record {
             B = v .B;
             l = v .l ++ (b ∷ []);
@@ -196,13 +188,13 @@ module _ (P : Params) where
             logged = append-nil log ∙ v .logged;
           }
       go true e =
-          let full : length (v .l) ≡ 3072 = omega (arith, held, eqb-true (heldBits 3072 (length M)) 3072 e) in
-          let o : length (output (P .rounds) m) ≡ 1024 = length-output-node P (P .rounds) 1 (length (v .B)) 0 0 (words 16 c ++ words 48 (v .l)) (length-seqBlock P c (v .l)) in
-          rw (feed-seq-yes (length M) b ws (v .up) e, cut-last-3072 (v .cut), blockOf-chain-full c (v .l) lc full) record {
+          let full : length (v .l) ≡ sequentialBits = omega (arith, held, eqb-true (heldBits sequentialBits (length M)) sequentialBits e) in
+          let o : length (output (P .rounds) m) ≡ outputBits = length-output-node P (P .rounds) 1 (length (v .B)) 0 0 (words 16 c ++ words 48 (v .l)) (length-seqBlock P c (v .l)) in
+          rw (feed-seq-yes (length M) b ws (v .up) e, cut-last (v .cut), blockOf-chain-full c (v .l) lc full) record {
             B = v .B ++ (v .l ∷ []);
             l = b ∷ [];
             up = v .up;
-            cut = cut-full b (v .cut) full (omega arith);
+            cut = cut-full b (v .cut) full;
             is = rw (outWords-is P m, blockOf-output (output (P .rounds) m) o, Rows.chain-snoc P 1 (v .B) (v .l), ← o)
                 (ap (λ (w : List ℕ). w ∷ v .up) (blockOf-bit (output (P .rounds) m) b (omega arith)));
             size = v .size;
@@ -215,18 +207,18 @@ module _ (P : Params) where
 
   par-step : (n : ℕ) (M : List Bool) (st : List (List ℕ)) (log : List Node) (b : Bool) → suc (length M) < 2 ^ 64 → ParState n M st log →
       ParState n (M ++ (b ∷ [])) (feedBit P (suc n) (length M) b st .levels) (log ++ feedBit P (suc n) (length M) b st .nodes)
-  par-step n M st log b hM v = rw (v .is) (go (eqb (heldBits 4096 (length M)) 4096) refl)
+  par-step n M st log b hM v = rw (v .is) (go (eqb (heldBits blockBits (length M)) blockBits) refl)
     where
       ws : List ℕ
       ws = blockOf (v .l)
 
-      held : heldBits 4096 (length M) ≡ length (v .l)
-      held = cut-held-4096 (v .cut)
+      held : heldBits blockBits (length M) ≡ length (v .l)
+      held = cut-held (v .cut)
 
       m : Node
       m = Rows.parNode P 1 (length (v .B)) [] (v .l)
 
-      o : length (output (P .rounds) m) ≡ 1024
+      o : length (output (P .rounds) m) ≡ outputBits
       o = length-output-node P (P .rounds) 1 (length (v .B)) 0 0 (words 64 (v .l)) (length-numbers 64 64 (v .l))
 
       X : List Subtree
@@ -235,15 +227,15 @@ module _ (P : Params) where
       above : Made
       above = receive P n 2 (length (v .B)) (words 16 (output (P .rounds) m)) (v .up)
 
-      came : length (v .l) ≡ 4096 → Receive.Inv P n 2 (X ++ (leaf false m ∷ [])) (above .levels) (marked false log ++ ((leaf false m) .nodes ++ marked false (above .nodes)))
+      came : length (v .l) ≡ blockBits → Receive.Inv P n 2 (X ++ (leaf false m ∷ [])) (above .levels) (marked false log ++ ((leaf false m) .nodes ++ marked false (above .nodes)))
       came full = rw (length-parNodes (v .B)) at
           (Receive.receive-inv P n 2 X (v .up) (marked false log) (leaf false m) (v .inv) refl o
           (rw (v .size, length-parNodes (v .B)) (omega (arith, cut-length (v .cut), full, hM))))
 
-      go : (t : Bool) → eqb (heldBits 4096 (length M)) 4096 ≡ t →
+      go : (t : Bool) → eqb (heldBits blockBits (length M)) blockBits ≡ t →
           ParState n (M ++ (b ∷ [])) (feedBit P (suc n) (length M) b (ws ∷ v .up) .levels) (log ++ feedBit P (suc n) (length M) b (ws ∷ v .up) .nodes)
       go false e =
-          let less : length (v .l) < 4096 = omega (arith, held, v .cut .fits, eqb-false (heldBits 4096 (length M)) 4096 e) in
+          let less : length (v .l) < blockBits = omega (arith, held, v .cut .fits, eqb-false (heldBits blockBits (length M)) blockBits e) in
           rw (feed-par-no n (length M) b ws (v .up) e) record {
             B = v .B;
             l = v .l ++ (b ∷ []);
@@ -254,12 +246,12 @@ module _ (P : Params) where
             inv = rw (append-nil log) (v .inv);
           }
       go true e =
-          let full : length (v .l) ≡ 4096 = omega (arith, held, eqb-true (heldBits 4096 (length M)) 4096 e) in
-          rw (feed-par-yes n (length M) b ws (v .up) e, cut-last-4096 (v .cut), blockOf-full (v .l) full, outWords-is P m) record {
+          let full : length (v .l) ≡ blockBits = omega (arith, held, eqb-true (heldBits blockBits (length M)) blockBits e) in
+          rw (feed-par-yes n (length M) b ws (v .up) e, cut-last (v .cut), blockOf-full (v .l) full, outWords-is P m) record {
             B = v .B ++ (v .l ∷ []);
             l = b ∷ [];
             up = above .levels;
-            cut = cut-full b (v .cut) full (omega arith);
+            cut = cut-full b (v .cut) full;
             is = rw (first-bit b) refl;
             size = receive-size n 2 (length (v .B)) (words 16 (output (P .rounds) m)) (v .up) ∙ v .size;
             inv = rw (Rows.row0-snoc P (Rows.parNode P 1) [] (v .B) (v .l), quietLeaves-snoc, marked-append) (came full);
@@ -316,10 +308,10 @@ module _ (P : Params) where
   seq-done : (M : List Bool) (st : List (List ℕ)) (log : List Node) → SeqState M st log → Done 0 M log (closing P 0 (length M) st)
   unfolding mathlib.Core.List.flatten
   seq-done M st log v =
-      rw (v .is, closing-seq (length M) ws (v .up), cut-held-3072 (v .cut), cut-last-3072 (v .cut)) record {
+      rw (v .is, closing-seq (length M) ws (v .up), cut-held (v .cut), cut-last (v .cut)) record {
         listed = ap (λ (T : List (List Node)). listing (subtrees 0 (length M) T)) level
-            ∙ ap listing (leaves-snoc 0 (lastIndex 3072 (length M)) (seqNodes (v .B)) m
-            (omega (arith, cut-last-3072 (v .cut), Rows.length-row P (Rows.seqNode P 1) 0 noChain (v .B))))
+            ∙ ap listing (leaves-snoc 0 (lastIndex sequentialBits (length M)) (seqNodes (v .B)) m
+            (omega (arith, cut-last (v .cut), Rows.length-row P (Rows.seqNode P 1) 0 noChain (v .B))))
             ∙ rw (listing-append, listing-quietLeaves, v .logged) refl;
         root = λ d. ap rootOf level ∙ lastOr-snoc noNode (seqNodes (v .B)) m;
       }
@@ -339,11 +331,11 @@ module _ (P : Params) where
   par-one n M st log v none =
       rw (
         v .is,
-        closing-one n (length M) (blockOf (v .l)) (v .up) (eq-eqb (doneBlocks 4096 (length M)) 0 (cut-last-4096 (v .cut) ∙ rw none refl)),
-        cut-held-4096 (v .cut),
+        closing-one n (length M) (blockOf (v .l)) (v .up) (eq-eqb (doneBlocks blockBits (length M)) 0 (cut-last (v .cut) ∙ rw none refl)),
+        cut-held (v .cut),
       ) record {
         listed = ap (λ (T : List (List Node)). listing (subtrees (suc n) (length M) T)) level
-            ∙ ap listing (leaves-snoc 0 (lastIndex 4096 (length M)) [] m (cut-last-4096 (v .cut) ∙ rw none refl)) ∙ rw quiet refl;
+            ∙ ap listing (leaves-snoc 0 (lastIndex blockBits (length M)) [] m (cut-last (v .cut) ∙ rw none refl)) ∙ rw quiet refl;
         root = λ d. ap rootOf level;
       }
     where
@@ -354,7 +346,7 @@ module _ (P : Params) where
       all = v .cut .whole ∙ rw none refl
 
       level : levels P (suc n) 1 M ≡ (m ∷ []) ∷ []
-      level = levels-one P n 1 M (cut-blocks-4096 (v .cut) ∙ rw none refl) ∙ rw (all, Rows.parallel-one P 1 (v .l) (v .cut .fits)) refl
+      level = levels-one P n 1 M (cut-blocks (v .cut) ∙ rw none refl) ∙ rw (all, Rows.parallel-one P 1 (v .l) (v .cut .fits)) refl
 
       quiet : marked false log ≡ []
       quiet = Close.inv-empty P n 2 (v .up) (marked false log)
@@ -365,14 +357,14 @@ module _ (P : Params) where
   par-many n M st log hM v some =
       rw (
         v .is,
-        closing-many n (length M) (blockOf (v .l)) (v .up) (ne-eqb (doneBlocks 4096 (length M)) 0 (λ e. omega (arith, cut-last-4096 (v .cut)))),
-        cut-held-4096 (v .cut),
-        cut-last-4096 (v .cut),
+        closing-many n (length M) (blockOf (v .l)) (v .up) (ne-eqb (doneBlocks blockBits (length M)) 0 (λ e. omega (arith, cut-last (v .cut)))),
+        cut-held (v .cut),
+        cut-last (v .cut),
         outWords-is P m,
       ) record {
         listed = ap (λ (T : List (List Node)). listing (subtrees (suc n) (length M) T)) level
-            ∙ ap (λ (ss : List Subtree). listing (climb n ss above)) (leaves-snoc 0 (lastIndex 4096 (length M)) (parNodes (v .B)) m
-            (omega (arith, cut-last-4096 (v .cut), Rows.length-row P (Rows.parNode P 1) 0 [] (v .B))))
+            ∙ ap (λ (ss : List Subtree). listing (climb n ss above)) (leaves-snoc 0 (lastIndex blockBits (length M)) (parNodes (v .B)) m
+            (omega (arith, cut-last (v .cut), Rows.length-row P (Rows.parNode P 1) 0 [] (v .B))))
             ∙ ends .listed;
         root = λ d. ap rootOf level ∙ rootOf-cons _ above (levels-some P n 2 _) ∙ ends .root _;
       }
@@ -390,12 +382,12 @@ module _ (P : Params) where
       nodes = map-append (λ (s : Subtree). s .top .node) X (leaf true m ∷ []) ∙ rw (tops-quietLeaves (parNodes (v .B)))
 
       level : levels P (suc n) 1 M ≡ (parNodes (v .B) ++ (m ∷ [])) ∷ above
-      level = levels-more P n 1 M (rw (cut-blocks-4096 (v .cut)) (omega arith)) ∙ rw (Rows.parallel-more P 1 (v .cut), nodes) refl
+      level = levels-more P n 1 M (rw (cut-blocks (v .cut)) (omega arith)) ∙ rw (Rows.parallel-more P 1 (v .cut), nodes) refl
 
       ends : Close.Ends P n 2 X (marked false log) (leaf true m) (closeAbove P n 2 (length (v .B)) (words 16 (output (P .rounds) m)) (v .up))
       ends = rw (length-parNodes (v .B)) at
           (Close.end-tree P n 2 X (v .up) (marked false log) (leaf true m) (v .inv) refl
-          (length-output-node P (P .rounds) 1 (length (v .B)) 0 (4096 - length (v .l)) (blockOf (v .l)) (length-blockOf (v .l)))
+          (length-output-node P (P .rounds) 1 (length (v .B)) 0 (blockBits - length (v .l)) (blockOf (v .l)) (length-blockOf (v .l)))
           (rw (length-parNodes (v .B)) some)
           (rw (v .size, length-parNodes (v .B)) (omega (arith, cut-length (v .cut), hM))))
 

@@ -2,7 +2,7 @@
 use mathlib.Core.Path.{_≡_, refl, sym, ap, _∙_}
 use mathlib.Core.Bool.{Bool, true, false, _||_}
 use mathlib.Core.List.{List, [], _∷_, _++_, flatten}
-use Prim.Native.Nat.{ℕ, zero, suc, _+_, _-_, _*_, _/_, _^_, _≤_, _<_}
+use Prim.Native.Nat.{ℕ, zero, suc, _+_, _-_, _/_, _^_, _≤_, _<_}
 use native.Mathlib.Omega.{arith}
 use borrow.Author.Tests.{ltb-true, ltb-false, eqb-true}
 use lib.Dec.{eqb, ltb}
@@ -12,13 +12,14 @@ use Rattle.lists.specs.Append.{cons-eq}
 use Rattle.lists.specs.Below.{Below, none}
 use Rattle.lists.specs.BelowLaws.{below-append, below-all, below-at, below-take, below-drop, below-zeros}
 use Rattle.lists.specs.And.{and-intro, and-parts}
+use Rattle.lists.specs.Take.{take-drop-take}
 use Rattle.bits.specs.Bits.{bitsOf}
 use Rattle.bits.specs.BitsLaws.{length-numbers, numbers-below}
-use Rattle.tree.specs.Tree.{Params, Valid, Node, Mark, Subtree, keyWords, order}
+use Rattle.tree.specs.Tree.{mostLevels, Params, Valid, Node, Mark, Subtree, keyWords, order, blockBits}
 use Rattle.tree.specs.TreeLaws.{keyWords-below, length-keyWords}
-use Rattle.tree.specs.Refusals.{refusedParams}
+use Rattle.tree.specs.Refusals.{firstRefusal, paramTests}
 use Rattle.tree.specs.Count.{treeNodes-bound}
-use Rattle.area.specs.Area.{headWords, areaWords, phaseOf, totalOf, keyBytesOf, kOf, compressionsOf, paramsOf, levelsFrom, levelsOf, emptyLevel, emptyLevels, openAbove, openCount, countFor, soundPhase, soundParams, soundKey, soundCount, soundLast, soundLevels, holdsFor, cleanAll, sound}
+use Rattle.area.specs.Area.{headWords, areaWords, phaseOf, totalOf, keyBytesOf, kOf, compressionsOf, paramsOf, levelsFrom, levelsOf, emptyLevel, emptyLevels, openAbove, openCount, countFor, soundPhase, soundParams, soundKey, soundCount, soundLast, soundLevels, holdsFor, cleanAll, sound, areaLevels, levelStart, blockWords, Long}
 use Rattle.area.specs.Marks.{settled}
 use Rattle.area.specs.Block.{blockOf-below}
 use Rattle.area.specs.Rows.{over}
@@ -63,10 +64,10 @@ length-key area = length-numbers 8 (keyBytesOf area) (bitsOf 64 (kOf area))
 pub sound-valid : (area : List ℕ) → sound area ≡ true → Valid (paramsOf area)
 unfolding paramsOf
 sound-valid area e =
-    params-valid (paramsOf area) (numbers-below 8 (keyBytesOf area) (bitsOf 64 (kOf area))) (eqb-true (refusedParams (paramsOf area) 0) 0 (sound-tests area e .params))
+    params-valid (paramsOf area) (numbers-below 8 (keyBytesOf area) (bitsOf 64 (kOf area))) (eqb-true (firstRefusal (paramTests (paramsOf area))) 0 (sound-tests area e .params))
 
 -- K of a sound area is K of the key that it stands for
-pub sound-key : (area : List ℕ) → areaWords ≤ length area → Below (2 ^ 64) area → sound area ≡ true → keyWords (paramsOf area .key) ≡ kOf area
+pub sound-key : (area : List ℕ) → Long area → Below (2 ^ 64) area → sound area ≡ true → keyWords (paramsOf area .key) ≡ kOf area
 unfolding paramsOf
 sound-key area h b e =
     let v = sound-valid area e in
@@ -75,21 +76,14 @@ sound-key area h b e =
 
 -- ---- the first 1,744 words
 
--- a take of a part of the first m elements
-take-drop-take : (m s n : ℕ) (l : List ℕ) → s + n ≤ m → take n (drop s (take m l)) ≡ take n (drop s l)
-take-drop-take m zero n l h = take-take n m l (omega arith)
-take-drop-take zero (suc s) n l h = absurd (omega arith)
-take-drop-take (suc m) (suc s) n [] h = refl
-take-drop-take (suc m) (suc s) n (x ∷ l) h = take-drop-take m s n l (omega arith)
-
-levels-front : (area : List ℕ) (n k : ℕ) → 0 < k → 16 + 64 * (k - 1) + 64 * n ≤ 1744 → levelsFrom (take 1744 area) n k ≡ levelsFrom area n k
+levels-front : (area : List ℕ) (n k : ℕ) → 0 < k → n + k ≤ areaLevels + 1 → levelsFrom (take areaWords area) n k ≡ levelsFrom area n k
 levels-front area zero k p h = refl
 levels-front area (suc n) k p h =
-    cons-eq (take-drop-take 1744 (16 + 64 * (k - 1)) 64 area (omega arith)) (levels-front area n (suc k) (omega arith) (omega arith))
+    cons-eq (take-drop-take areaWords (levelStart k) blockWords area (omega arith)) (levels-front area n (suc k) (omega arith) (omega arith))
 
 pub levelsOf-front : (area : List ℕ) → levelsOf (take areaWords area) ≡ levelsOf area
 unfolding levelsOf
-levelsOf-front area = levels-front area 27 1 (omega arith) (omega arith)
+levelsOf-front area = levels-front area areaLevels 1 (omega arith) (omega arith)
 
 -- two areas that agree in their first 1,744 words
 pub record Same (x y : List ℕ) : Type 0 where
@@ -98,7 +92,7 @@ pub record Same (x y : List ℕ) : Type 0 where
   pub params : paramsOf x ≡ paramsOf y
   pub levels : levelsOf x ≡ levelsOf y
 
-pub same-front : (x y : List ℕ) → areaWords ≤ length x → areaWords ≤ length y → take areaWords x ≡ take areaWords y → Same x y
+pub same-front : (x y : List ℕ) → Long x → Long y → take areaWords x ≡ take areaWords y → Same x y
 same-front x y hx hy e =
     let t : take headWords x ≡ take headWords y =
     sym (take-take headWords areaWords x (omega arith)) ∙ ap (take headWords) e ∙ take-take headWords areaWords y (omega arith) in
@@ -118,7 +112,7 @@ same-sound x y s =
     let w2 = s .word 2 (omega arith) in
     let w14 = s .word 14 (omega arith) in
     let phase : soundPhase x ≡ soundPhase y = ap (λ (p : ℕ). eqb p 1 || eqb p 2) w0 in
-    let params : soundParams x ≡ soundParams y = ap (λ (P : Params). eqb (refusedParams P 0) 0) (s .params) in
+    let params : soundParams x ≡ soundParams y = ap (λ (P : Params). eqb (firstRefusal (paramTests P)) 0) (s .params) in
     let key : soundKey x ≡ soundKey y = rw (s .key, w2) refl in
     let count : soundCount x ≡ soundCount y =
     ap (λ (c : ℕ). eqb c (countFor (phaseOf x) (paramsOf x .limit) (totalOf x))) w14
@@ -127,15 +121,15 @@ same-sound x y s =
     ∙ ap (λ (T : ℕ). eqb (compressionsOf y) (countFor (phaseOf y) (paramsOf y .limit) T)) w1 in
     let last : soundLast x ≡ soundLast y = ap (λ (w : ℕ). eqb w 0) (s .word 15 (omega arith)) in
     let levels : soundLevels x ≡ soundLevels y =
-    ap (λ (p : ℕ). cleanAll (holdsFor p (paramsOf x .limit) (totalOf x)) (levelsOf x)) w0
-    ∙ ap (λ (P : Params). cleanAll (holdsFor (phaseOf y) (P .limit) (totalOf x)) (levelsOf x)) (s .params)
-    ∙ ap (λ (T : ℕ). cleanAll (holdsFor (phaseOf y) (paramsOf y .limit) T) (levelsOf x)) w1
-    ∙ ap (cleanAll (holdsFor (phaseOf y) (paramsOf y .limit) (totalOf y))) (s .levels) in
+    ap (λ (p : ℕ). cleanAll (holdsFor areaLevels p (paramsOf x .limit) (totalOf x)) (levelsOf x)) w0
+    ∙ ap (λ (P : Params). cleanAll (holdsFor areaLevels (phaseOf y) (P .limit) (totalOf x)) (levelsOf x)) (s .params)
+    ∙ ap (λ (T : ℕ). cleanAll (holdsFor areaLevels (phaseOf y) (paramsOf y .limit) T) (levelsOf x)) w1
+    ∙ ap (cleanAll (holdsFor areaLevels (phaseOf y) (paramsOf y .limit) (totalOf y))) (s .levels) in
     rw (phase, params, key, count, last, levels) refl
 
 -- ---- an area moved to another place
 
-pub head-moved : (P : Params) (M : List Bool) (x y : List ℕ) → areaWords ≤ length y → Same x y → Head P M x → Head P M y
+pub head-moved : (P : Params) (M : List Bool) (x y : List ℕ) → Long y → Same x y → Head P M x → Head P M y
 head-moved P M x y hy s h = record {
   valid = h .valid;
   short = h .short;
@@ -147,7 +141,7 @@ head-moved P M x y hy s h = record {
   last = sym (s .word 15 (omega arith)) ∙ h .last;
 }
 
-pub stands-moved : (P : Params) (M : List Bool) (x y : List ℕ) → areaWords ≤ length y → take areaWords x ≡ take areaWords y → Stands P M x →
+pub stands-moved : (P : Params) (M : List Bool) (x y : List ℕ) → Long y → take areaWords x ≡ take areaWords y → Stands P M x →
     Stands P M y
 stands-moved P M x y hy e t =
     let s = same-front x y (t .head .long) hy e in
@@ -158,7 +152,7 @@ stands-moved P M x y hy e t =
       state = rw (s .levels) at (t .state);
     }
 
-pub closed-moved : (P : Params) (M : List Bool) (x y : List ℕ) → areaWords ≤ length y → take areaWords x ≡ take areaWords y → Closed P M x →
+pub closed-moved : (P : Params) (M : List Bool) (x y : List ℕ) → Long y → take areaWords x ≡ take areaWords y → Closed P M x →
     Closed P M y
 closed-moved P M x y hy e t =
     let s = same-front x y (t .head .long) hy e in
@@ -199,9 +193,9 @@ openAbove-most : (n i : ℕ) → openAbove n i ≤ i
 openAbove-most zero i = omega arith
 openAbove-most (suc n) i = omega (arith, openAbove-most n (i / 4))
 
-openCount-small : (limit T : ℕ) → T < 2 ^ 64 → openCount limit T + 27 < 2 ^ 64
+openCount-small : (limit T : ℕ) → T < 2 ^ 64 → openCount limit T + mostLevels < 2 ^ 64
 openCount-small zero T h = omega arith
-openCount-small (suc n) T h = omega (arith, openAbove-most n ((T - 1) / 4096))
+openCount-small (suc n) T h = omega (arith, openAbove-most n ((T - 1) / blockBits))
 
 -- the first 16 words
 module _ (P : Params) (M : List Bool) (area : List ℕ) (h : Head P M area) where
@@ -247,7 +241,7 @@ module _ (P : Params) (M : List Bool) (area : List ℕ) (h : Head P M area) wher
 -- the first 1,744 words are the head and the levels
 pub area-front : (area : List ℕ) → take areaWords area ≡ take headWords area ++ flatten (levelsOf area)
 unfolding levelsOf
-area-front area = take-add 16 1728 area ∙ rw (flatten-from area 27 1 (omega arith)) refl
+area-front area = take-add headWords (areaWords - headWords) area ∙ rw (flatten-from area areaLevels 1 (omega arith)) refl
 
 pub stands-below : {P : Params} {M : List Bool} {area : List ℕ} → Stands P M area → Below (2 ^ 64) (take areaWords area)
 stands-below {P} {M} {area} s =
@@ -262,4 +256,4 @@ closed-below {P} {M} {area} s =
     rw (area-front area)
     (below-append
     (head-below P M area (s .head) (omega (arith, s .phase)) (omega (arith, s .count, treeNodes-bound (P .limit) (length M) (s .head .short))))
-    (rw (s .levels) (flatten-below (empty-words 27))))
+    (rw (s .levels) (flatten-below (empty-words areaLevels))))

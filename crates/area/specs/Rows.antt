@@ -2,16 +2,18 @@
 use mathlib.Core.Path.{_≡_, refl, sym, ap, _∙_}
 use mathlib.Core.Bool.{Bool, true, false}
 use mathlib.Core.List.{List, [], _∷_, _++_, map, append-assoc, append-nil, flatten}
-use Prim.Native.Nat.{ℕ, suc, _+_, _-_, _*_, _/_, _≤_, _<_}
-use native.Mathlib.Nat.{add-zero, zero-add, suc-add, add-suc, zero-mul, suc-mul, add-comm}
+use Prim.Native.Nat.{ℕ, suc, _+_, _-_, _*_, _≤_, _<_}
+use native.Mathlib.Nat.{add-zero, zero-add, suc-add, add-suc, zero-mul, suc-mul, mul-suc, mul-comm, add-comm, zero-div}
 use native.Mathlib.Omega.{arith}
 use lib.ListN.{length, replicate, length-append}
 use lib.Seq.{take-at, drop-at, take-all}
 use Rattle.lists.specs.Append.{cons-eq}
 use Rattle.lists.specs.Flatten.{flatten-append, map-append}
 use Rattle.bits.specs.BitsLaws.{numbers-front}
-use Rattle.tree.specs.Tree.{Params, Node, Subtree, words, node, output, blocks, padding, par, seq, noChain, parallel, sequential, lastOr, parent, parents}
+use Rattle.tree.specs.Tree.{Params, Node, Subtree, words, node, output, blocks, padding, par, seq, noChain, parallel, sequential, lastOr, parent, parents, sequentialBits, blockBits, outputBits}
 use Rattle.tree.specs.TreeLaws.{length-output-node, length-seqBlock, length-noChain}
+use Rattle.area.specs.Area.{doneBlocks, heldBits}
+use Rattle.area.specs.Blocks.{done-is, blocks-done}
 use Rattle.area.specs.Block.{blockOf, blockOf-chain}
 
 -- ---- lists of lists of one length
@@ -39,65 +41,53 @@ lastOr-snoc d (y ∷ xs) x = lastOr-snoc y xs x
 -- ---- bits cut into full blocks and a last one, which is empty only where nothing came
 
 pub record Cut (k : ℕ) (M : List Bool) (B : List (List Bool)) (l : List Bool) : Type 0 where
+  pub size : 0 < k
   pub whole : M ≡ flatten B ++ l
   pub full : AllLen k B
   pub fits : length l ≤ k
   pub some : length l ≡ 0 → length B ≡ 0
 
-pub cut-length : {k : ℕ} {M : List Bool} {B : List (List Bool)} {l : List Bool} → Cut k M B l → length M ≡ length B * k + length l
-cut-length {k} {M} {B} {l} c = ap length (c .whole) ∙ length-append (flatten B) l ∙ rw (length-flatten k B (c .full))
+module _ {k : ℕ} {M : List Bool} {B : List (List Bool)} {l : List Bool} (c : Cut k M B l) where
+  pub cut-length : length M ≡ length B * k + length l
+  cut-length = ap length (c .whole) ∙ length-append (flatten B) l ∙ rw (length-flatten k B (c .full))
 
-blocks-4096 : (n m : ℕ) (l : List Bool) → m ≡ n * 4096 + length l → length l ≤ 4096 → (length l ≡ 0 → n ≡ 0) → blocks 4096 m ≡ suc n
-blocks-4096 n m [] e h z = let n0 : n ≡ 0 = z refl in omega arith
-blocks-4096 n m (b ∷ l) e h z = omega arith
+  -- the index of the last block
+  pub cut-last : doneBlocks k (length M) ≡ length B
+  cut-last = go (length B) l cut-length (c .fits) (c .some)
+    where
+      go : (n : ℕ) (l : List Bool) → length M ≡ n * k + length l → length l ≤ k → (length l ≡ 0 → n ≡ 0) → doneBlocks k (length M) ≡ n
+      go n [] e h z =
+          let m : length M ≡ 0 = e ∙ rw (z refl) (omega (arith, zero-mul k)) in
+          rw (m, z refl) (zero-div k)
+      go n (b ∷ l) e h z = done-is k (c .size) n (suc (length l)) (length M) e (omega arith) h
 
-blocks-3072 : (n m : ℕ) (l : List Bool) → m ≡ n * 3072 + length l → length l ≤ 3072 → (length l ≡ 0 → n ≡ 0) → blocks 3072 m ≡ suc n
-blocks-3072 n m [] e h z = let n0 : n ≡ 0 = z refl in omega arith
-blocks-3072 n m (b ∷ l) e h z = omega arith
+  pub cut-held : heldBits k (length M) ≡ length l
+  cut-held = rw cut-last (omega (arith, cut-length, mul-comm k (length B)))
 
-pub cut-blocks-4096 : {M : List Bool} {B : List (List Bool)} {l : List Bool} → Cut 4096 M B l → blocks 4096 (length M) ≡ suc (length B)
-cut-blocks-4096 {M} {B} {l} c = blocks-4096 (length B) (length M) l (cut-length c) (c .fits) (c .some)
+  pub cut-blocks : blocks k (length M) ≡ suc (length B)
+  cut-blocks = blocks-done k (c .size) (length M) ∙ ap suc cut-last
 
-pub cut-blocks-3072 : {M : List Bool} {B : List (List Bool)} {l : List Bool} → Cut 3072 M B l → blocks 3072 (length M) ≡ suc (length B)
-cut-blocks-3072 {M} {B} {l} c = blocks-3072 (length B) (length M) l (cut-length c) (c .fits) (c .some)
-
-cut-padding-4096 : {M : List Bool} {B : List (List Bool)} {l : List Bool} → Cut 4096 M B l → padding 4096 (length M) ≡ 4096 - length l
-cut-padding-4096 {M} {B} {l} c = rw (cut-blocks-4096 c) (omega (arith, cut-length c, c .fits))
-
-cut-padding-3072 : {M : List Bool} {B : List (List Bool)} {l : List Bool} → Cut 3072 M B l → padding 3072 (length M) ≡ 3072 - length l
-cut-padding-3072 {M} {B} {l} c = rw (cut-blocks-3072 c) (omega (arith, cut-length c, c .fits))
-
--- the index of the last block
-pub cut-last-4096 : {M : List Bool} {B : List (List Bool)} {l : List Bool} → Cut 4096 M B l → (length M - 1) / 4096 ≡ length B
-cut-last-4096 {M} {B} {l} c = go (length M) (length B) l (cut-length c) (c .fits) (c .some)
-  where
-    go : (m n : ℕ) (l : List Bool) → m ≡ n * 4096 + length l → length l ≤ 4096 → (length l ≡ 0 → n ≡ 0) → (m - 1) / 4096 ≡ n
-    go m n [] e h z = let n0 : n ≡ 0 = z refl in omega arith
-    go m n (b ∷ l) e h z = omega arith
-
-pub cut-last-3072 : {M : List Bool} {B : List (List Bool)} {l : List Bool} → Cut 3072 M B l → (length M - 1) / 3072 ≡ length B
-cut-last-3072 {M} {B} {l} c = go (length M) (length B) l (cut-length c) (c .fits) (c .some)
-  where
-    go : (m n : ℕ) (l : List Bool) → m ≡ n * 3072 + length l → length l ≤ 3072 → (length l ≡ 0 → n ≡ 0) → (m - 1) / 3072 ≡ n
-    go m n [] e h z = let n0 : n ≡ 0 = z refl in omega arith
-    go m n (b ∷ l) e h z = omega arith
+  cut-padding : padding k (length M) ≡ k - length l
+  cut-padding = rw cut-blocks (omega (arith, cut-length, c .fits, mul-suc k (length B), mul-comm k (length B)))
 
 pub cut-more : {k : ℕ} {M : List Bool} {B : List (List Bool)} {l : List Bool} (b : Bool) → Cut k M B l → length l < k →
     Cut k (M ++ (b ∷ [])) B (l ++ (b ∷ []))
 cut-more {k} {M} {B} {l} b c h = record {
+  size = c .size;
   whole = ap (λ (x : List Bool). x ++ (b ∷ [])) (c .whole) ∙ append-assoc (flatten B) l (b ∷ []);
   full = c .full;
   fits = rw (snoc-length l b) h;
   some = λ e. absurd (omega (arith, snoc-length l b));
 }
 
-pub cut-full : {k : ℕ} {M : List Bool} {B : List (List Bool)} {l : List Bool} (b : Bool) → Cut k M B l → length l ≡ k → 0 < k →
+pub cut-full : {k : ℕ} {M : List Bool} {B : List (List Bool)} {l : List Bool} (b : Bool) → Cut k M B l → length l ≡ k →
     Cut k (M ++ (b ∷ [])) (B ++ (l ∷ [])) (b ∷ [])
 unfolding flatten
-cut-full {k} {M} {B} {l} b c h p = record {
+cut-full {k} {M} {B} {l} b c h = record {
+  size = c .size;
   whole = ap (λ (x : List Bool). x ++ (b ∷ [])) (c .whole) ∙ simp (flatten-append, append-nil);
   full = allLen-snoc k B l (c .full) h;
-  fits = p;
+  fits = c .size;
   some = λ e. absurd (omega arith);
 }
 
@@ -135,7 +125,7 @@ module _ (P : Params) where
   length-row f i c (x ∷ B) = ap suc (length-row f (suc i) (out (f i c x)) B)
 
   -- every chained output has 1,024 bits
-  chained-length : (level i : ℕ) (c : List Bool) (B : List (List Bool)) → length c ≡ 1024 → length (lastOut c (row (seqNode level) i c B)) ≡ 1024
+  chained-length : (level i : ℕ) (c : List Bool) (B : List (List Bool)) → length c ≡ outputBits → length (lastOut c (row (seqNode level) i c B)) ≡ outputBits
   chained-length level i c [] h = h
   chained-length level i c (b ∷ B) h =
       chained-length level (suc i) (out (seqNode level i c b)) B
@@ -157,7 +147,7 @@ module _ (P : Params) where
   unfolding chain
   chain-snoc level B b = rw (row0-snoc (seqNode level) noChain B b, map-append out) (lastOr-snoc noChain (map out (row (seqNode level) 0 noChain B)) _)
 
-  pub length-chain : (level : ℕ) (B : List (List Bool)) → length (chain level B) ≡ 1024
+  pub length-chain : (level : ℕ) (B : List (List Bool)) → length (chain level B) ≡ outputBits
   unfolding chain
   length-chain level B = chained-length level 0 noChain B length-noChain
 
@@ -167,7 +157,7 @@ module _ (P : Params) where
 
   -- ---- a level of the tree is its row and a last node
 
-  par-row : (level p i : ℕ) (c : List Bool) (B : List (List Bool)) (e : List Bool) → AllLen 4096 B →
+  par-row : (level p i : ℕ) (c : List Bool) (B : List (List Bool)) (e : List Bool) → AllLen blockBits B →
       par P level 0 p i (suc (length B)) (flatten B ++ e) ≡ row (parNode level) i c B ++ (node P level (i + length B) 0 p (words 64 e) ∷ [])
   unfolding flatten
   par-row level p i c [] e a = rw (add-zero i) refl
@@ -175,13 +165,13 @@ module _ (P : Params) where
       rw (
         append-assoc b (flatten B) e,
         numbers-front 64 64 b (flatten B ++ e) (omega (arith, a .0)),
-        drop-at b (flatten B ++ e) 4096 (a .0),
+        drop-at b (flatten B ++ e) blockBits (a .0),
         par-row level p (suc i) (out (parNode level i c b)) B e (a .1),
         add-suc i (length B),
         suc-add i (length B),
       ) refl
 
-  seq-row : (level p i : ℕ) (c : List Bool) (B : List (List Bool)) (e : List Bool) → AllLen 3072 B →
+  seq-row : (level p i : ℕ) (c : List Bool) (B : List (List Bool)) (e : List Bool) → AllLen sequentialBits B →
       seq P level p i c (suc (length B)) (flatten B ++ e)
       ≡ row (seqNode level) i c B ++ (node P level (i + length B) 1 p (words 16 (lastOut c (row (seqNode level) i c B)) ++ words 48 e) ∷ [])
   unfolding flatten
@@ -190,36 +180,36 @@ module _ (P : Params) where
       rw (
         append-assoc b (flatten B) e,
         numbers-front 64 48 b (flatten B ++ e) (omega (arith, a .0)),
-        drop-at b (flatten B ++ e) 3072 (a .0),
+        drop-at b (flatten B ++ e) sequentialBits (a .0),
         seq-row level p (suc i) (out (seqNode level i c b)) B e (a .1),
         add-suc i (length B),
         suc-add i (length B),
       ) refl
 
   abbrev pub lastPar : ℕ → ℕ → ℕ → List Bool → Node
-  lastPar level i z l = node P level i z (4096 - length l) (blockOf l)
+  lastPar level i z l = node P level i z (blockBits - length l) (blockOf l)
 
   abbrev pub lastSeq : ℕ → ℕ → List Bool → List Bool → Node
-  lastSeq level i c l = node P level i 1 (3072 - length l) (blockOf (c ++ l))
+  lastSeq level i c l = node P level i 1 (sequentialBits - length l) (blockOf (c ++ l))
 
-  pub parallel-one : (level : ℕ) (M : List Bool) → length M ≤ 4096 → parallel P level true M ≡ lastPar level 0 1 M ∷ []
+  pub parallel-one : (level : ℕ) (M : List Bool) → length M ≤ blockBits → parallel P level true M ≡ lastPar level 0 1 M ∷ []
   unfolding blockOf flatten
   parallel-one level M h =
-      let c : Cut 4096 M [] M = record { whole = refl; full = tt; fits = h; some = λ e. refl } in
-      rw (cut-padding-4096 c, cut-blocks-4096 c) refl
+      let c : Cut blockBits M [] M = record { size = omega arith; whole = refl; full = tt; fits = h; some = λ e. refl } in
+      rw (cut-padding c, cut-blocks c) refl
 
-  pub parallel-more : (level : ℕ) {M : List Bool} {B : List (List Bool)} {l : List Bool} → Cut 4096 M B l →
+  pub parallel-more : (level : ℕ) {M : List Bool} {B : List (List Bool)} {l : List Bool} → Cut blockBits M B l →
       parallel P level false M ≡ row (parNode level) 0 [] B ++ (lastPar level (length B) 0 l ∷ [])
   unfolding blockOf
   parallel-more level {M} {B} {l} c =
-      rw (cut-padding-4096 c, cut-blocks-4096 c, c .whole, append-assoc (flatten B) l (replicate (4096 - length l) false))
-      (par-row level (4096 - length l) 0 [] B (l ++ replicate (4096 - length l) false) (c .full) ∙ rw (zero-add (length B)) refl)
+      rw (cut-padding c, cut-blocks c, c .whole, append-assoc (flatten B) l (replicate (blockBits - length l) false))
+      (par-row level (blockBits - length l) 0 [] B (l ++ replicate (blockBits - length l) false) (c .full) ∙ rw (zero-add (length B)) refl)
 
-  pub sequential-is : (level : ℕ) {M : List Bool} {B : List (List Bool)} {l : List Bool} → Cut 3072 M B l →
+  pub sequential-is : (level : ℕ) {M : List Bool} {B : List (List Bool)} {l : List Bool} → Cut sequentialBits M B l →
       sequential P level M ≡ row (seqNode level) 0 noChain B ++ (lastSeq level (length B) (chain level B) l ∷ [])
   sequential-is level {M} {B} {l} c =
-      rw (cut-padding-3072 c, cut-blocks-3072 c, c .whole, append-assoc (flatten B) l (replicate (3072 - length l) false))
-      (seq-row level (3072 - length l) 0 noChain B (l ++ replicate (3072 - length l) false) (c .full)
+      rw (cut-padding c, cut-blocks c, c .whole, append-assoc (flatten B) l (replicate (sequentialBits - length l) false))
+      (seq-row level (sequentialBits - length l) 0 noChain B (l ++ replicate (sequentialBits - length l) false) (c .full)
       ∙ rw (zero-add (length B), chain-is level B, blockOf-chain (chain level B) l (length-chain level B) (c .fits)) refl)
 
 -- ---- subtrees over groups of children

@@ -9,13 +9,12 @@ use lib.Dec.{ltb}
 use lib.ListN.{length, replicate, length-append, length-replicate}
 use lib.Seq.{take-at, drop-at}
 use Rattle.lists.specs.And.{and-intro}
-use Rattle.tree.specs.Tree.{Params, Node, Mark, Subtree, blockBits, sequentialBits, outputBits, mostLevels, noChain}
-use Rattle.area.specs.Area.{emptyLevel, doneBlocks, heldBits, parallelHold, sequentialHold, holdsAbove, openHolds, allFalse, clean, cleanAll}
+use Rattle.tree.specs.Tree.{Params, Node, Mark, Subtree, blockBits, sequentialBits, outputBits, noChain}
+use Rattle.area.specs.Area.{emptyLevel, doneBlocks, heldBits, parallelHold, sequentialHold, holdsAbove, openHolds, allFalse, clean, cleanAll, areaLevels}
 use Rattle.area.specs.Block.{blockOf, length-blockOf, bitsOf-blockOf, blockOf-none}
-use Rattle.area.specs.Rows.{AllLen, cut-last-4096, cut-last-3072, length-over, over}
+use Rattle.area.specs.Rows.{AllLen, cut-last, cut-held, length-over, over}
 use Rattle.area.specs.Rows
 use Rattle.area.specs.Receive
-use Rattle.area.specs.Machine.{cut-held-4096, cut-held-3072}
 use Rattle.area.specs.Machine
 use Rattle.area.specs.AreaLaws.{allFalse-replicate}
 
@@ -38,7 +37,7 @@ empty-widths (suc n) = (refl, empty-widths n)
 
 noChain-empty : allFalse noChain ≡ true
 unfolding noChain
-noChain-empty = allFalse-replicate 1024
+noChain-empty = allFalse-replicate outputBits
 
 pub clean-sequential : (n held : ℕ) (c X : List Bool) → length c ≡ outputBits → length X ≤ sequentialBits → length X ≡ held → (n ≡ 0 → c ≡ noChain) →
     clean (sequentialHold n held) (blockOf (c ++ X)) ≡ true
@@ -94,18 +93,22 @@ module _ (P : Params) where
   state-widths zero M st log v = rw (v .is) (length-blockOf (Rows.chain P 1 (v .B) ++ v .l), rw (v .empty) (empty-widths (length (v .up))))
   state-widths (suc n) M st log v = rw (v .is) (length-blockOf (v .l), inv-widths n 2 _ (v .up) _ (v .inv))
 
-  pub state-size : (limit : ℕ) (M : List Bool) (st : List (List ℕ)) (log : List Node) → Machine.State P limit M st log → length st ≡ mostLevels
+  pub state-size : (limit : ℕ) (M : List Bool) (st : List (List ℕ)) (log : List Node) → Machine.State P limit M st log → length st ≡ areaLevels
   state-size zero M st log v = rw (v .is) (ap suc (v .size))
   state-size (suc n) M st log v = rw (v .is) (ap suc (v .size))
 
+  state-clean : (limit : ℕ) (M : List Bool) (st : List (List ℕ)) (log : List Node) → Machine.State P limit M st log →
+      cleanAll (openHolds (length st) limit (length M)) st ≡ true
+  state-clean zero M st log v =
+      rw (v .is)
+      (and-intro (clean-sequential (doneBlocks sequentialBits (length M)) (heldBits sequentialBits (length M)) (Rows.chain P 1 (v .B)) (v .l) (Rows.length-chain P 1 (v .B)) (v .cut .fits)
+      (sym (cut-held (v .cut))) (λ e. none-chain 1 (v .B) (sym (cut-last (v .cut)) ∙ e)))
+      (rw (v .empty, length-replicate (length (v .up)) emptyLevel) (clean-empty (length (v .up)))))
+  state-clean (suc n) M st log v =
+      rw (v .is)
+      (and-intro (clean-parallel (heldBits blockBits (length M)) (v .l) (v .cut .fits) (sym (cut-held (v .cut))))
+      (rw (Machine.length-parNodes P (v .B), ← cut-last (v .cut)) at (inv-sound n 2 _ (v .up) _ (v .inv))))
+
   pub state-sound : (limit : ℕ) (M : List Bool) (st : List (List ℕ)) (log : List Node) → Machine.State P limit M st log →
-      cleanAll (openHolds limit (length M)) st ≡ true
-  state-sound zero M st log v =
-      rw (v .is)
-      (and-intro (clean-sequential (doneBlocks 3072 (length M)) (heldBits 3072 (length M)) (Rows.chain P 1 (v .B)) (v .l) (Rows.length-chain P 1 (v .B)) (v .cut .fits)
-      (sym (cut-held-3072 (v .cut))) (λ e. none-chain 1 (v .B) (sym (cut-last-3072 (v .cut)) ∙ e)))
-      (rw (v .empty, v .size) (clean-empty 26)))
-  state-sound (suc n) M st log v =
-      rw (v .is)
-      (and-intro (clean-parallel (heldBits 4096 (length M)) (v .l) (v .cut .fits) (sym (cut-held-4096 (v .cut))))
-      (rw (v .size, Machine.length-parNodes P (v .B), ← cut-last-4096 (v .cut)) at (inv-sound n 2 _ (v .up) _ (v .inv))))
+      cleanAll (openHolds areaLevels limit (length M)) st ≡ true
+  state-sound limit M st log v = rw (state-size limit M st log v) at (state-clean limit M st log v)

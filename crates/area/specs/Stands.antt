@@ -1,20 +1,19 @@
 -- Laws: an area stands for a message: what each accepted call makes of this, and that the area is sound.
 use mathlib.Core.Path.{_≡_, refl, sym, ap, _∙_}
-use mathlib.Core.Bool.{Bool, true, false, cond}
+use mathlib.Core.Bool.{Bool, true, false}
 use mathlib.Core.List.{List, [], _∷_, _++_, append-assoc, flatten}
-use Prim.Native.Nat.{ℕ, _+_, _^_, _≤_, _<_}
+use Prim.Native.Nat.{ℕ, _+_, _-_, _^_, _<_, _≤_}
 use native.Mathlib.Omega.{arith}
-use borrow.Author.Tests.{eq-eqb, ltb-false}
-use lib.Dec.{ltb}
+use borrow.Author.Tests.{eq-eqb}
 use lib.ListN.{length, take, drop, getD, set, replicate, length-append}
 use lib.Seq.{take-at, drop-at, getD-at, getD-append-add}
 use Rattle.lists.specs.Append.{cons-eq}
 use Rattle.lists.specs.Below.{Below}
 use Rattle.tree.specs.Tree.{Params, Valid, Node, keyWords, order, root, lastOr, noNode, digest, digestBytes}
 use Rattle.tree.specs.TreeLaws.{length-keyWords}
-use Rattle.tree.specs.Refusals.{pieceBits, refusedParams}
+use Rattle.tree.specs.Refusals.{pieceBits, firstRefusal, paramTests}
 use Rattle.tree.specs.Sizes.{treeNodes}
-use Rattle.area.specs.Area.{areaWords, phaseOf, totalOf, keyBytesOf, kOf, compressionsOf, paramsOf, levelsOf, withLevels, emptyLevel, emptyLevels, openCount, soundPhase, soundParams, soundKey, soundCount, soundLast, soundLevels, sound}
+use Rattle.area.specs.Area.{areaWords, phaseOf, totalOf, keyBytesOf, kOf, compressionsOf, paramsOf, levelsOf, withLevels, emptyLevel, emptyLevels, openCount, soundPhase, soundParams, soundKey, soundCount, soundLast, soundLevels, sound, areaLevels, headWords, Long}
 use Rattle.area.specs.Calls.{Made, feedBits, closing, openNumber, openedArea, fedBits, feedNumber, fedArea, closedBy, endedArea, digestOut}
 use Rattle.area.specs.Marks.{allNodes, settled}
 use Rattle.area.specs.Rows.{length-flatten}
@@ -24,8 +23,8 @@ use Rattle.area.specs.Counts
 use Rattle.area.specs.AreaLaws.{Changed, changed, levelsOf-at, key-back, key-clean}
 use Rattle.lists.specs.And.{and-intro}
 use Rattle.area.specs.Sound.{clean-empty, empty-widths, state-widths, state-size, state-sound}
-use Rattle.tree.specs.RefusalLaws.{test-passed, params-valid, valid-params, length-pieceBits}
-use Rattle.area.specs.CallLaws.{FeedPassed, feed-passed}
+use Rattle.tree.specs.RefusalLaws.{params-valid, valid-params, length-pieceBits}
+use Rattle.area.specs.CallLaws.{open-passed, FeedPassed, feed-passed}
 
 -- ---- the nodes made are those of the tree's listing
 
@@ -57,7 +56,7 @@ module _ (P : Params) (M : List Bool) (st : List (List ℕ)) (log : List Node) (
 
 -- the empty message has no node that does not reach its last bit
 pub settled-opened : (P : Params) → settled (order P []) ≡ []
-settled-opened P = state-settled P [] emptyLevels [] (omega arith) (Machine.state-open P (P .limit))
+settled-opened P = state-settled P [] (emptyLevels areaLevels) [] (omega arith) (Machine.state-open P (P .limit))
 
 -- ---- an area and a message
 
@@ -65,7 +64,7 @@ settled-opened P = state-settled P [] emptyLevels [] (omega arith) (Machine.stat
 pub record Head (P : Params) (M : List Bool) (area : List ℕ) : Type 0 where
   pub valid : Valid P
   pub short : length M < 2 ^ 64
-  pub long : areaWords ≤ length area
+  pub long : Long area
   pub total : totalOf area ≡ length M
   pub params : paramsOf area ≡ P
   pub keyBytes : keyBytesOf area ≡ length (P .key)
@@ -84,12 +83,12 @@ pub record Closed (P : Params) (M : List Bool) (area : List ℕ) : Type 0 where
   pub head : Head P M area
   pub phase : phaseOf area ≡ 2
   pub count : compressionsOf area ≡ treeNodes (P .limit) (length M)
-  pub levels : levelsOf area ≡ emptyLevels
+  pub levels : levelsOf area ≡ emptyLevels areaLevels
 
 -- ---- they are sound
 
 params-sound : {P : Params} {M : List Bool} {area : List ℕ} → Head P M area → soundParams area ≡ true
-params-sound {P} {M} {area} h = rw (h .params, valid-params P 0 (h .valid)) refl
+params-sound {P} {M} {area} h = rw (h .params, valid-params P (h .valid)) refl
 
 key-sound : {P : Params} {M : List Bool} {area : List ℕ} → Head P M area → soundKey area ≡ true
 key-sound {P} {M} {area} h = rw (h .keyBytes, h .key) (key-clean (P .key) (h .valid .keyBytes))
@@ -123,7 +122,7 @@ closed-sound {P} {M} {area} s =
     count = rw (s .phase, s .head .params, s .head .total) (eq-eqb (compressionsOf area) (treeNodes (P .limit) (length M)) (s .count))
 
     levels : soundLevels area ≡ true
-    levels = rw (s .phase, s .levels) (clean-empty 27)
+    levels = rw (s .phase, s .levels) (clean-empty areaLevels)
 
 -- ---- open
 
@@ -131,45 +130,45 @@ module _ (area : List ℕ) (P : Params) where
   front : List ℕ
   front = 1 ∷ 0 ∷ length (P .key) ∷ P .d ∷ P .limit ∷ P .rounds ∷ (keyWords (P .key) ++ (0 ∷ 0 ∷ []))
 
-  opened-is : openedArea area P ≡ front ++ (flatten emptyLevels ++ drop areaWords area)
+  opened-is : openedArea area P ≡ front ++ (flatten (emptyLevels areaLevels) ++ drop areaWords area)
   unfolding openedArea front
-  opened-is = rw (append-assoc (keyWords (P .key)) (0 ∷ 0 ∷ []) (flatten emptyLevels ++ drop areaWords area)) refl
+  opened-is = rw (append-assoc (keyWords (P .key)) (0 ∷ 0 ∷ []) (flatten (emptyLevels areaLevels) ++ drop areaWords area)) refl
 
   front-length : length front ≡ 16
   unfolding front
   front-length = rw (length-append (keyWords (P .key)) (0 ∷ 0 ∷ []), length-keyWords (P .key)) refl
 
-  empty-width : length (flatten emptyLevels) ≡ 1728
+  empty-width : length (flatten (emptyLevels areaLevels)) ≡ areaWords - headWords
   unfolding emptyLevels
-  empty-width = length-flatten 64 (replicate 27 emptyLevel) (empty-widths 27)
+  empty-width = length-flatten 64 (replicate areaLevels emptyLevel) (empty-widths areaLevels)
 
-  pub opened-size : areaWords ≤ length area → length (openedArea area P) ≡ length area
+  pub opened-size : Long area → length (openedArea area P) ≡ length area
   opened-size h =
-      rw (opened-is, length-append front (flatten emptyLevels ++ drop areaWords area), front-length, length-append (flatten emptyLevels) (drop areaWords area), empty-width, lib.ListN.length-drop areaWords area)
+      rw (opened-is, length-append front (flatten (emptyLevels areaLevels) ++ drop areaWords area), front-length, length-append (flatten (emptyLevels areaLevels)) (drop areaWords area), empty-width, lib.ListN.length-drop areaWords area)
       (omega arith)
 
   pub opened-tail : drop areaWords (openedArea area P) ≡ drop areaWords area
   opened-tail =
-      rw (opened-is, ← append-assoc front (flatten emptyLevels) (drop areaWords area))
-      (drop-at (front ++ flatten emptyLevels) (drop areaWords area) areaWords (rw (length-append front (flatten emptyLevels), front-length, empty-width) refl))
+      rw (opened-is, ← append-assoc front (flatten (emptyLevels areaLevels)) (drop areaWords area))
+      (drop-at (front ++ flatten (emptyLevels areaLevels)) (drop areaWords area) areaWords (rw (length-append front (flatten (emptyLevels areaLevels)), front-length, empty-width) refl))
 
-  pub opened-levels : levelsOf (openedArea area P) ≡ emptyLevels
+  pub opened-levels : levelsOf (openedArea area P) ≡ emptyLevels areaLevels
   unfolding emptyLevels
-  opened-levels = rw opened-is (levelsOf-at front (replicate 27 emptyLevel) (drop areaWords area) front-length (empty-widths 27) refl)
+  opened-levels = rw opened-is (levelsOf-at front (replicate areaLevels emptyLevel) (drop areaWords area) front-length (empty-widths areaLevels) refl)
 
   pub opened-key : kOf (openedArea area P) ≡ keyWords (P .key)
   unfolding openedArea
-  opened-key = take-at (keyWords (P .key)) (0 ∷ 0 ∷ (flatten emptyLevels ++ drop areaWords area)) 8 (length-keyWords (P .key))
+  opened-key = take-at (keyWords (P .key)) (0 ∷ 0 ∷ (flatten (emptyLevels areaLevels) ++ drop areaWords area)) 8 (length-keyWords (P .key))
 
   pub opened-14 : compressionsOf (openedArea area P) ≡ 0
   unfolding openedArea
-  opened-14 = getD-at (keyWords (P .key)) 0 (0 ∷ (flatten emptyLevels ++ drop areaWords area)) 0 8 (length-keyWords (P .key))
+  opened-14 = getD-at (keyWords (P .key)) 0 (0 ∷ (flatten (emptyLevels areaLevels) ++ drop areaWords area)) 0 8 (length-keyWords (P .key))
 
   pub opened-15 : getD (openedArea area P) 15 0 ≡ 0
   unfolding openedArea
   opened-15 =
-      ap (λ (k : ℕ). getD (keyWords (P .key) ++ (0 ∷ 0 ∷ (flatten emptyLevels ++ drop areaWords area))) (k + 1) 0) (sym (length-keyWords (P .key)))
-      ∙ getD-append-add (keyWords (P .key)) (0 ∷ 0 ∷ (flatten emptyLevels ++ drop areaWords area)) 1 0
+      ap (λ (k : ℕ). getD (keyWords (P .key) ++ (0 ∷ 0 ∷ (flatten (emptyLevels areaLevels) ++ drop areaWords area))) (k + 1) 0) (sym (length-keyWords (P .key)))
+      ∙ getD-append-add (keyWords (P .key)) (0 ∷ 0 ∷ (flatten (emptyLevels areaLevels) ++ drop areaWords area)) 1 0
 
   pub opened-0 : phaseOf (openedArea area P) ≡ 1
   unfolding openedArea
@@ -179,10 +178,10 @@ module _ (area : List ℕ) (P : Params) where
   unfolding openedArea paramsOf
   opened-params v = rw (opened-key′, key-back (P .key) (v .bytes) (v .keyBytes)) refl
     where
-      opened-key′ : take 8 (keyWords (P .key) ++ (0 ∷ 0 ∷ (flatten emptyLevels ++ drop areaWords area))) ≡ keyWords (P .key)
-      opened-key′ = take-at (keyWords (P .key)) (0 ∷ 0 ∷ (flatten emptyLevels ++ drop areaWords area)) 8 (length-keyWords (P .key))
+      opened-key′ : take 8 (keyWords (P .key) ++ (0 ∷ 0 ∷ (flatten (emptyLevels areaLevels) ++ drop areaWords area))) ≡ keyWords (P .key)
+      opened-key′ = take-at (keyWords (P .key)) (0 ∷ 0 ∷ (flatten (emptyLevels areaLevels) ++ drop areaWords area)) 8 (length-keyWords (P .key))
 
-  opened-head : Valid P → areaWords ≤ length area → Head P [] (openedArea area P)
+  opened-head : Valid P → Long area → Head P [] (openedArea area P)
   unfolding openedArea
   opened-head v h = record {
     valid = v;
@@ -197,16 +196,15 @@ module _ (area : List ℕ) (P : Params) where
 
   -- an accepted open
   pub open-stands : Below 256 (P .key) → openNumber area P ≡ 0 → Stands P [] (openedArea area P)
-  unfolding openNumber
   open-stands b e = record {
-    head = opened-head v (ltb-false (length area) areaWords (a .0));
+    head = opened-head v (a .0);
     phase = opened-0;
     count = opened-14 ∙ sym (Counts.openCount-none (P .limit));
     state = rw (opened-levels, settled-opened P) (Machine.state-open P (P .limit));
   }
     where
-      a : (ltb (length area) areaWords ≡ false) × (refusedParams P 0 ≡ 0)
-      a = test-passed (ltb (length area) areaWords) 6 (refusedParams P 0) e
+      a : (areaWords ≤ length area) × (firstRefusal (paramTests P) ≡ 0)
+      a = open-passed area P e
 
       v : Valid P
       v = params-valid P b (a .1)
@@ -321,8 +319,8 @@ end-closed P M area out s = record {
     is : nodes ≡ closing P (P .limit) (length M) (levelsOf area)
     is = rw (s .head .params, s .head .total) refl
 
-    c : Changed area 0 2 (compressionsOf area + length nodes) (replicate 27 emptyLevel) (withLevels (set (set area 0 2) 14 (compressionsOf area + length nodes)) (replicate 27 emptyLevel))
-    c = changed area 0 2 (compressionsOf area + length nodes) (replicate 27 emptyLevel) (s .head .long) (omega arith) (empty-widths 27) refl
+    c : Changed area 0 2 (compressionsOf area + length nodes) (replicate areaLevels emptyLevel) (withLevels (set (set area 0 2) 14 (compressionsOf area + length nodes)) (replicate areaLevels emptyLevel))
+    c = changed area 0 2 (compressionsOf area + length nodes) (replicate areaLevels emptyLevel) (s .head .long) (omega arith) (empty-widths areaLevels) refl
 
     counted : openCount (P .limit) (length M) + length nodes ≡ treeNodes (P .limit) (length M)
     counted = rw is (omega (arith, Counts.closing-count P (P .limit) (length M) (levelsOf area) (state-size P (P .limit) M (levelsOf area) (settled (order P M)) (s .state)) (s .head .short)))

@@ -1,13 +1,13 @@
 -- Laws: what no call changes. "words from 1,744 on are never touched", of every area, sound or not, short or long; "Feeding 0
 -- bits changes nothing." Read's words from 1,744 on: ReadLeaves of `text`.
-use mathlib.Core.Path.{_≡_, refl}
+use mathlib.Core.Path.{_≡_, refl, sym}
 use mathlib.Core.List.{List, []}
 use Prim.Native.Nat.{ℕ, zero, suc, _+_}
 use native.Mathlib.Omega.{arith}
 use lib.ListN.{length, drop, replicate}
 use Rattle.tree.specs.Tree.{Params}
 use Rattle.tree.specs.Refusals.{pieceBits}
-use Rattle.area.specs.Area.{areaWords, totalOf, compressionsOf, paramsOf, levelsOf, emptyLevel, emptyLevels}
+use Rattle.area.specs.Area.{areaWords, totalOf, compressionsOf, paramsOf, levelsOf, emptyLevel, emptyLevels, areaLevels}
 use Rattle.area.specs.Calls.{Made, feedBits, openNumber, openOf, fedBits, feedNumber, fedArea, feedOf, closedBy, endNumber, endedArea, endOf}
 use Rattle.area.specs.Machine
 use Rattle.area.specs.AreaLaws.{Changed, changed}
@@ -26,14 +26,14 @@ unfolding fedArea fedBits
 feed-changed area piece n log e =
     let made : Made = feedBits (paramsOf area) (totalOf area) (pieceBits piece n) (levelsOf area) in
     let q = feed-passed area piece n log e in
-    let w : Wide (made .levels) = wide-bits (paramsOf area) (totalOf area) (pieceBits piece n) (levelsOf area) (wide-levels area (q .long)) in
-    changed area 1 (totalOf area + n) (compressionsOf area + length (made .nodes)) (made .levels) (q .long) (omega arith) (w .widths) (w .size)
+    let w : Wide (made .levels) = wide-bits (paramsOf area) (totalOf area) (pieceBits piece n) (levelsOf area) (wide-levels area (q .opened .long)) in
+    changed area 1 (totalOf area + n) (compressionsOf area + length (made .nodes)) (made .levels) (q .opened .long) (omega arith) (w .widths) (w .size)
 
 pub end-changed : (area out log : List ℕ) → endNumber area out log ≡ 0 →
-    Changed area 0 2 (compressionsOf area + length (closedBy area)) emptyLevels (endedArea area (closedBy area))
+    Changed area 0 2 (compressionsOf area + length (closedBy area)) (emptyLevels areaLevels) (endedArea area (closedBy area))
 unfolding endedArea emptyLevels
 end-changed area out log e =
-    changed area 0 2 (compressionsOf area + length (closedBy area)) (replicate 27 emptyLevel) (end-passed area out log e .long) (omega arith) (empty-widths 27) refl
+    changed area 0 2 (compressionsOf area + length (closedBy area)) (replicate areaLevels emptyLevel) (end-passed area out log e .opened .long) (omega arith) (empty-widths areaLevels) refl
 
 -- ---- "words from 1,744 on are never touched"
 
@@ -42,21 +42,21 @@ open-tail area P = by (openNumber area P) refl
   where
     by : (k : ℕ) → openNumber area P ≡ k → drop areaWords (openOf area P .area) ≡ drop areaWords area
     by zero e = rw (open-accepted area P e) (opened-tail area P)
-    by (suc k) e = rw (open-refused area P k e) refl
+    by (suc k) e = rw (← open-refused area P (suc k) (sym e) (omega arith)) refl
 
 pub feed-tail : (area piece : List ℕ) (n : ℕ) (log : List ℕ) → drop areaWords (feedOf area piece n log .area) ≡ drop areaWords area
 feed-tail area piece n log = by (feedNumber area piece n log) refl
   where
     by : (k : ℕ) → feedNumber area piece n log ≡ k → drop areaWords (feedOf area piece n log .area) ≡ drop areaWords area
     by zero e = rw (feed-accepted area piece n log e) (feed-changed area piece n log e .tail)
-    by (suc k) e = rw (feed-refused area piece n log k e) refl
+    by (suc k) e = rw (← feed-refused area piece n log (suc k) (sym e) (omega arith)) refl
 
 pub end-tail : (area out log : List ℕ) → drop areaWords (endOf area out log .area) ≡ drop areaWords area
 end-tail area out log = by (endNumber area out log) refl
   where
     by : (k : ℕ) → endNumber area out log ≡ k → drop areaWords (endOf area out log .area) ≡ drop areaWords area
     by zero e = rw (end-accepted area out log e) (end-changed area out log e .tail)
-    by (suc k) e = rw (end-refused area out log k e) refl
+    by (suc k) e = rw (← end-refused area out log (suc k) (sym e) (omega arith)) refl
 
 -- ---- "Feeding 0 bits changes nothing."
 
@@ -71,4 +71,4 @@ feed-none area piece log = by (feedNumber area piece 0 log) refl
     by : (k : ℕ) → feedNumber area piece 0 log ≡ k →
         (feedOf area piece 0 log .area ≡ area) × (feedOf area piece 0 log .log ≡ log) × (feedOf area piece 0 log .count ≡ 0)
     by zero e = rw (feed-accepted area piece 0 log e, feed-nothing area, none-made area) (refl, refl, refl)
-    by (suc k) e = rw (feed-refused area piece 0 log k e) (refl, refl, refl)
+    by (suc k) e = rw (← feed-refused area piece 0 log (suc k) (sym e) (omega arith)) (refl, refl, refl)

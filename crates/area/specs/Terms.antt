@@ -3,13 +3,13 @@ use mathlib.Core.Path.{_≡_}
 use Prim.Native.Nat.{ℕ, zero, suc, _+_, _-_, _*_, _≤_, _<_}
 use lib.ListN.{getD, length}
 use Rattle.tree.specs.Tree.{blockBits, sequentialBits, outputBits}
-use Rattle.area.specs.Area.{parallelHold, openHolds, areaWords, sound}
+use Rattle.area.specs.Area.{parallelHold, openHolds, areaLevels, Long, sound}
 use mathlib.Core.Bool.{true}
 use mathlib.Core.List.{List}
 
 -- the bits that a level of an open area holds, for a limit and a total
 abbrev pub bitsAt : ℕ → ℕ → ℕ → ℕ
-bitsAt limit T level = getD (openHolds limit T) (level - 1) (parallelHold 0) .bits
+bitsAt limit T level = getD (openHolds areaLevels limit T) (level - 1) (parallelHold 0) .bits
 
 -- the most bits that level 1 holds
 abbrev pub mostFirst : ℕ → ℕ
@@ -27,5 +27,5 @@ pub record HoldsOutputs (limit level bits : ℕ) : Type 0 where
 -- what an accepted call leaves of an area: an area of the same length, which is long enough, and sound
 pub record LeavesSound (area after : List ℕ) : Type 0 where
   pub size : length after ≡ length area
-  pub long : areaWords ≤ length after
+  pub long : Long after
   pub is-sound : sound after ≡ true

@@ -8,8 +8,8 @@ use lib.Dec.{eqb}
 use lib.ListN.{length, replicate, length-append, length-take, length-drop}
 use Rattle.lists.specs.Part.{put}
 use Rattle.bits.specs.BitsLaws.{length-numbers}
-use Rattle.tree.specs.Tree.{Params, Node, node, output, blockBits, sequentialBits, outputBits, mostLevels}
-use Rattle.area.specs.Area.{areaWords, levelsOf, emptyLevel, doneBlocks, heldBits}
+use Rattle.tree.specs.Tree.{Params, Node, node, output, blockBits, sequentialBits, outputBits}
+use Rattle.area.specs.Area.{levelsOf, emptyLevel, doneBlocks, heldBits, areaLevels, Long}
 use Rattle.area.specs.Calls.{outWords, chained, joinParallel, joinSequential, receive, feedBit, feedBits}
 use Rattle.area.specs.Rows.{AllLen}
 use Rattle.area.specs.Receive
@@ -17,7 +17,7 @@ use Rattle.area.specs.Machine
 use Rattle.area.specs.Counts
 use Rattle.area.specs.Block.{length-withBit}
 use Rattle.area.specs.WriteLaws.{levelsOf-widths}
-use Rattle.area.specs.Accepts.{levelsOf-size}
+use Rattle.area.specs.AreaLaws.{length-levelsOf}
 
 pub length-empty : length emptyLevel ≡ 64
 unfolding emptyLevel
@@ -33,10 +33,10 @@ length-joined place ws out h g f = simp (length-append, length-take, length-drop
 
 pub record Wide (L : List (List ℕ)) : Type 0 where
   pub widths : AllLen 64 L
-  pub size : length L ≡ mostLevels
+  pub size : length L ≡ areaLevels
 
-pub wide-levels : (area : List ℕ) → areaWords ≤ length area → Wide (levelsOf area)
-wide-levels area h = record { widths = levelsOf-widths area h; size = levelsOf-size area }
+pub wide-levels : (area : List ℕ) → Long area → Wide (levelsOf area)
+wide-levels area h = record { widths = levelsOf-widths area h; size = length-levelsOf area }
 
 pub length-chained : (P : Params) (m : Node) → length (chained P m) ≡ 64
 length-chained P m = length-append (outWords P m) (replicate 48 0) ∙ omega (arith, length-outWords P m)
@@ -83,7 +83,7 @@ module _ (P : Params) where
   pub wide-bits : (T : ℕ) (bs : List Bool) (L : List (List ℕ)) → Wide L → Wide (feedBits P T bs L .levels)
   wide-bits T bs L w = record { widths = go T bs L (w .size) (w .widths); size = Counts.feedBits-size P T bs L (omega (arith, w .size)) ∙ w .size }
     where
-      go : (T : ℕ) (bs : List Bool) (L : List (List ℕ)) → length L ≡ mostLevels → AllLen 64 L → AllLen 64 (feedBits P T bs L .levels)
+      go : (T : ℕ) (bs : List Bool) (L : List (List ℕ)) → length L ≡ areaLevels → AllLen 64 L → AllLen 64 (feedBits P T bs L .levels)
       go T [] L s a = rw (Machine.feedBits-none P T L) a
       go T (b ∷ bs) [] s a = absurd (omega arith)
       go T (b ∷ bs) (ws ∷ up) s a =

@@ -7,8 +7,9 @@ use native.Mathlib.Nat.{mod-eq-of-lt}
 use native.Mathlib.Omega.{arith}
 use lib.ListN.{length, take, drop, getD, replicate, length-append, length-drop, length-replicate}
 use lib.Pow.{field, shr-lt}
-use lib.Seq.{paste, take-at, drop-at, take-add, take-take, drop-drop, drop-cons, take-append-le, drop-append-le, length-take-le}
+use lib.Seq.{paste, take-at, drop-at, take-take, drop-drop, drop-cons, take-append-le, drop-append-le, length-take-le}
 use Rattle.lists.specs.Append.{cons-eq}
+use Rattle.lists.specs.Take.{take-drop-take}
 use Rattle.lists.specs.Below.{Below, none, more}
 use Rattle.lists.specs.BelowLaws.{below-append, below-zeros, below-take, below-drop}
 use Rattle.bits.specs.Bits.{bits, bitsOf, spell}
@@ -26,9 +27,6 @@ pub byte-lt : {bytes : List ℕ} (i : ℕ) → Below 256 bytes → getD bytes i 
 byte-lt i none = omega arith
 byte-lt zero (more h hs) = h
 byte-lt (suc i) (more h hs) = byte-lt i hs
-
-take-drop : {A : Type 0} (n b : ℕ) (l : List A) → b ≤ length l → take n (drop b l) ≡ drop b (take (b + n) l)
-take-drop n b l h = rw (take-add b n l) (sym (drop-at (take b l) (take n (drop b l)) b (length-take-le b l h)))
 
 -- n elements one by one, from place j + i on; past the end they are 0
 abbrev elems : List ℕ → ℕ → ℕ → ℕ → List ℕ
@@ -94,7 +92,7 @@ word-read {bytes} j b hb h hk =
     let s : 72 - b - 64 ≡ 8 - b = omega arith in
     let m : 72 - b ≡ 64 + (8 - b) = omega arith in
     let e : take 64 (drop b y) ≡ take 64 (drop b n) =
-    take-drop 64 b y (simp (length-drop, length-append, length-bitsOf, length-replicate) (omega arith)) ∙ ap (drop b) (sym (take-take (b + 64) 72 y (omega arith))) ∙ sym (take-drop 64 b n (omega arith)) in
+    sym (take-drop-take 72 b 64 y (omega arith)) in
     sym
     (rw (← drop-drop b (8 * j) (bitsOf 8 bytes ++ replicate 72 false), e, spell-take 64 (drop b n), d, s, spell-drop b n, ln, m, nine-spelt j hb h)
     (field (eightFrom bytes j * 2 ^ 8 + getD bytes (j + 8) 0) 64 (8 - b)))

@@ -6,7 +6,7 @@ use Prim.Native.Nat.{ℕ, zero, suc, _+_, _-_, _*_, _/_, _%_, _^_, _≤_, _<_}
 use native.Mathlib.Nat.{mod-eq-of-lt, zero-mul, zero-div, lt-of-lt-of-le}
 use native.Mathlib.Omega.{arith}
 use lib.Dec.{eqb}
-use lib.ListN.{length, take, drop, getD, replicate, length-append, length-take, length-drop, take-append-drop, replicate-append-replicate}
+use lib.ListN.{length, take, drop, replicate, length-append, length-take, length-drop, take-append-drop, replicate-append-replicate}
 use lib.Pow.{mod-pow-add, pow-add, pow-mono, shr-shr, high, low}
 use lib.Seq.{take-at, drop-at, take-add, take-all, take-take, drop-drop, take-append-le, drop-append-le, length-take-le}
 use Rattle.lists.specs.Append.{cons-eq, append-split}
@@ -193,25 +193,6 @@ numbers-take k n bs h =
 pub numbers-one : (k : ℕ) (bs : List Bool) → length bs ≡ k → numbers k 1 bs ≡ spell 0 bs ∷ []
 unfolding numbers
 numbers-one k bs h = rw (take-all k bs (omega arith))
-
-pub take-numbers : (k m n : ℕ) (bs : List Bool) → m ≤ n → take m (numbers k n bs) ≡ numbers k m bs
-take-numbers k m n bs h =
-    let e : n ≡ m + (n - m) = omega arith in
-    rw (e, numbers-add k m (n - m) bs) (take-at (numbers k m bs) (numbers k (n - m) (drop (m * k) bs)) m (length-numbers k m bs))
-
-pub drop-numbers : (k m n : ℕ) (bs : List Bool) → m ≤ n → drop m (numbers k n bs) ≡ numbers k (n - m) (drop (m * k) bs)
-drop-numbers k m n bs h =
-    let e : n ≡ m + (n - m) = omega arith in
-    ap (λ (j : ℕ). drop m (numbers k j bs)) e
-    ∙ rw (numbers-add k m (n - m) bs) (drop-at (numbers k m bs) (numbers k (n - m) (drop (m * k) bs)) m (length-numbers k m bs))
-
-pub getD-numbers : (k n i : ℕ) (bs : List Bool) → i < n → getD (numbers k n bs) i 0 ≡ spell 0 (take k (drop (i * k) bs))
-unfolding numbers
-getD-numbers k zero i bs h = absurd (omega arith)
-getD-numbers k (suc n) zero bs h = let z : 0 * k ≡ 0 = omega arith in rw z
-getD-numbers k (suc n) (suc i) bs h =
-    let s : suc i * k ≡ k + i * k = omega arith in
-    rw (s, ← drop-drop (i * k) k bs) (getD-numbers k n i (drop k bs) (omega arith))
 
 -- There and back
 

@@ -1,15 +1,21 @@
 -- Laws: level 1 is full, and a later bit has come: its node is made, and its output goes up. What the code leaves then.
+use mathlib.Core.Bool.{Bool, true, false}
 use mathlib.Core.Path.{_≡_, refl, sym, ap, _∙_}
 use mathlib.Core.List.{List, [], _∷_, _++_}
-use Prim.Native.Nat.{ℕ, zero, suc, _+_, _-_, _*_, _≤_, _<_}
+use Prim.Native.Nat.{ℕ, zero, suc, _+_, _-_, _*_, _^_, _≤_, _<_}
 use native.Mathlib.Omega.{arith}
-use lib.ListN.{length, replicate, length-append}
-use lib.Seq.{sets}
+use lib.Dec.{ltb}
+use lib.ListN.{length, replicate}
+use lib.Seq.{sets, length-sets}
+use borrow.Author.Tests.{ltb-true, ltb-false}
+use Rattle.node.specs.declared.Params as declared
 use Rattle.tree.specs.Tree.{Params, Node, node, blockBits, sequentialBits}
 use Rattle.area.specs.Area.{areaWords, levelWords, levelsFrom, levelsOf, withLevels, emptyLevel, doneBlocks}
 use Rattle.area.specs.Calls.{Made, outWords, chained, receive, nodeLog}
-use Rattle.climb.specs.Levels.{withLevel, upArea, with-up, up-step, other-with, length-empty, low₁, high₁, levels-split, with-first}
-use Rattle.climb.specs.ReceiveLaws.{made, length-outWords, log-more}
+use Rattle.area.specs.Widths.{length-chained}
+use Rattle.climb.specs.Levels.{withLevel, Level, with-up, up-step, up-level, other-with, length-with, length-empty, first-level, levels-split}
+use Rattle.climb.specs.MakeLaws.{paramsFrom, Ready, Logged}
+use Rattle.climb.specs.ReceiveLaws.{made, received, Climbed, Coming, length-outWords, log-more}
 
 -- level 1 is full, and a later bit has come: its node is made and its output goes up
 abbrev pub flushed : Params → ℕ → ℕ → List (List ℕ) → Made
@@ -22,17 +28,13 @@ flushed P (suc n) T (ws ∷ up) =
     let above : Made = receive P n 2 (doneBlocks blockBits T) (outWords P m) up in
     made (emptyLevel ∷ above .levels) (m ∷ above .nodes)
 
+-- what the code needs to flush level 1
+pub record Flushing (key : List ℕ) (params : declared.Params) (table : List ℕ) (T : ℕ) (area log : List ℕ) (at : ℕ) : Type 0 where
+  pub ready : Ready key params table
+  pub long : areaWords ≤ length area
+  pub room : at + 2 * length (flushed (paramsFrom key params) (params .limit) T (levelsOf area) .nodes) ≤ length log
+
 -- ---- level 1 is flushed
-
--- a words of log are one node and b others
-room-one : (at : ℕ) {a b : ℕ} (room : ℕ) → a ≡ suc b → at + 2 * a ≤ room → at + 2 ≤ room
-room-one at room e h = omega arith
-
-room-others : (at : ℕ) {a b b′ : ℕ} (room : ℕ) → a ≡ suc b → b′ ≡ b → at + 2 * a ≤ room → (at + 2) + 2 * b′ ≤ room
-room-others at room e f h = omega arith
-
-count-others : (at : ℕ) {a b b′ at′ : ℕ} → a ≡ suc b → b′ ≡ b → at′ ≡ (at + 2) + 2 * b′ → at′ ≡ at + 2 * a
-count-others at e f h = omega arith
 
 -- a bound on a number that the code has worked out
 pub lt-at : {a b a′ b′ : ℕ} → a ≡ a′ → b ≡ b′ → a < b → a′ < b′
@@ -46,80 +48,79 @@ abbrev pub Leaves : Made → List ℕ → List ℕ → ℕ → List ℕ → List
 Leaves F area log at area′ log′ at′ =
     (area′ ≡ withLevels area (F .levels)) × (log′ ≡ sets log at (nodeLog (F .nodes))) × (at′ ≡ at + 2 * length (F .nodes))
 
-module _ (P : Params) (limit T : ℕ) (area : List ℕ) where
-  abbrev chainNode : Node
-  chainNode = node P 1 (doneBlocks sequentialBits T) 0 0 (levelWords area 1)
+pub leaves : {F : Made} {area log : List ℕ} {at : ℕ} {area′ log′ : List ℕ} {at′ : ℕ} → Climbed 1 F area log at area′ log′ at′ → Leaves F area log at area′ log′ at′
+leaves {F} {area} c = (c .levels ∙ sym (with-up area (F .levels)), c .logged, c .next)
 
-  abbrev leafNode : Node
-  leafNode = node P 1 (doneBlocks blockBits T) 0 0 (levelWords area 1)
+-- level 1 is sequential, or its output goes up
+module _ (P : Params) (T : ℕ) (area : List ℕ) where
+  abbrev firstNode : ℕ → Node
+  firstNode size = node P 1 (doneBlocks size T) 0 0 (levelWords area 1)
 
-  flushed-none : limit < 1 → flushed P limit T (levelsOf area) ≡ made (chained P chainNode ∷ levelsFrom area 26 2) (chainNode ∷ [])
-  flushed-none h = by limit h
+  flushed-none : (limit : ℕ) → limit < 1 → flushed P limit T (levelsOf area) ≡ made (chained P (firstNode sequentialBits) ∷ levelsFrom area 26 2) (firstNode sequentialBits ∷ [])
+  flushed-none zero h = rw (levels-split area)
+  flushed-none (suc n) h = absurd (omega arith)
+
+  abbrev above : ℕ → Made
+  above limit = received P (limit - 1) 2 (doneBlocks blockBits T) (outWords P (firstNode blockBits)) area
+
+  flushed-some : (limit : ℕ) → 1 ≤ limit → flushed P limit T (levelsOf area) ≡ made (emptyLevel ∷ above limit .levels) (firstNode blockBits ∷ above limit .nodes)
+  flushed-some zero h = absurd (omega arith)
+  flushed-some (suc n) h = let e : suc n - 1 ≡ n = omega arith in rw (levels-split area, e)
+
+module _ {key : List ℕ} {params : declared.Params} {table : List ℕ} {T : ℕ} {area log : List ℕ} {at : ℕ} (f : Flushing key params table T area log at) where
+  abbrev P : Params
+  P = paramsFrom key params
+
+  abbrev limit : ℕ
+  limit = params .limit
+
+  first : Level area 1
+  first = first-level (f .long)
+
+  -- the log has room for the node of level 1
+  pub flush-room : at + 2 ≤ length log
+  flush-room = by (ltb limit 1) refl
     where
-      by : (limit : ℕ) → limit < 1 → flushed P limit T (levelsOf area) ≡ made (chained P chainNode ∷ levelsFrom area 26 2) (chainNode ∷ [])
-      by zero h = rw (levels-split area)
-      by (suc n) h = absurd (omega arith)
+      by : (b : Bool) → ltb limit 1 ≡ b → at + 2 ≤ length log
+      by true e = omega (arith, ap (λ (x : Made). at + 2 * length (x .nodes)) (flushed-none P T area limit (ltb-true limit 1 e)), f .room)
+      by false e = omega (arith, ap (λ (x : Made). at + 2 * length (x .nodes)) (flushed-some P T area limit (ltb-false limit 1 e)), f .room)
 
-  flushed-some : 1 ≤ limit
-      → flushed P limit T (levelsOf area)
-      ≡ (let above : Made = receive P (limit - 1) 2 (doneBlocks blockBits T) (outWords P leafNode) (levelsFrom area 26 2) in made (emptyLevel ∷ above .levels) (leafNode ∷ above .nodes))
-  flushed-some h = by limit h
-    where
-      by : (limit : ℕ) → 1 ≤ limit
-          → flushed P limit T (levelsOf area)
-          ≡ (let above : Made = receive P (limit - 1) 2 (doneBlocks blockBits T) (outWords P leafNode) (levelsFrom area 26 2) in made (emptyLevel ∷ above .levels) (leafNode ∷ above .nodes))
-      by zero h = absurd (omega arith)
-      by (suc n) h = let e : suc n - 1 ≡ n = omega arith in rw (levels-split area, e)
+  pub flush-chained : {done : ℕ} {out log′ area′ : List ℕ} → limit < 1 → done ≡ doneBlocks sequentialBits T
+      → Logged P (node P 1 done 0 0 (levelWords area 1) ∷ []) log at out log′
+      → area′ ≡ withLevel area 1 (out ++ replicate 48 0)
+      → Climbed 1 (flushed P limit T (levelsOf area)) area log at area′ log′ (at + 2)
+  flush-chained h d m₁ ea =
+      let n = firstNode P T area sequentialBits in
+      let m : Logged P (n ∷ []) log at _ _ = rw d at m₁ in
+      rw (flushed-none P T area limit h) record {
+        levels = ea ∙ rw (m .words) (up-level first (chained P n) (length-chained P n));
+        logged = m .logged;
+        next = refl;
+      }
 
-  module _ (log : List ℕ) (at done : ℕ) (long : areaWords ≤ length area) where
-    pub flush-chained : (out log′ area′ : List ℕ) → limit < 1 → done ≡ doneBlocks sequentialBits T
-        → out ≡ outWords P (node P 1 done 0 0 (levelWords area 1))
-        → log′ ≡ sets log at (nodeLog (node P 1 done 0 0 (levelWords area 1) ∷ []))
-        → area′ ≡ withLevel area 1 (out ++ replicate 48 0)
-        → Leaves (flushed P limit T (levelsOf area)) area log at area′ log′ (at + 2)
-    flush-chained out log′ area′ h d eo el ea =
-        let F = flushed-none h in
-        let o : out ≡ outWords P chainNode = eo ∙ ap (λ (x : ℕ). outWords P (node P 1 x 0 0 (levelWords area 1))) d in
-        let l : length (chained P chainNode) ≡ 64 = length-append (outWords P chainNode) (replicate 48 0) ∙ omega (arith, length-outWords P chainNode) in (
-          ea ∙ ap (λ (x : List ℕ). withLevel area 1 (x ++ replicate 48 0)) o ∙ sym (with-first area (chained P chainNode) long l) ∙ sym (ap (λ (x : Made). withLevels area (x .levels)) F),
-          el ∙ ap (λ (x : ℕ). sets log at (nodeLog (node P 1 x 0 0 (levelWords area 1) ∷ []))) d ∙ sym (ap (λ (x : Made). sets log at (nodeLog (x .nodes))) F),
-          omega (arith, ap (λ (x : Made). at + 2 * length (x .nodes)) F),
-        )
+  module _ {done : ℕ} {out log₁ area₁ : List ℕ} (some : 1 ≤ limit) (d : done ≡ doneBlocks blockBits T)
+      (m₁ : Logged P (node P 1 done 0 0 (levelWords area 1) ∷ []) log at out log₁) (e₁ : area₁ ≡ withLevel area 1 emptyLevel) where
+    m : Logged P (firstNode P T area blockBits ∷ []) log at out log₁
+    m = rw d at m₁
 
-    pub flush-room : (room : ℕ) → at + 2 * length (flushed P limit T (levelsOf area) .nodes) ≤ room → at + 2 ≤ room
-    flush-room room h = by limit refl h
-      where
-        by : (n : ℕ) → n ≡ limit → at + 2 * length (flushed P limit T (levelsOf area) .nodes) ≤ room → at + 2 ≤ room
-        by zero e h = room-one at room (ap (λ (x : Made). length (x .nodes)) (flushed-none (omega arith))) h
-        by (suc n) e h = room-one at room (ap (λ (x : Made). length (x .nodes)) (flushed-some (omega arith))) h
+    above-is : received P (limit - 1) 2 done out area₁ ≡ above P T area limit
+    above-is = rw (m .words, d, e₁, other-with first emptyLevel length-empty 26 2 (omega arith)) refl
 
-    module _ (out area₁ : List ℕ) (some : 1 ≤ limit) (d : done ≡ doneBlocks blockBits T)
-        (eo : out ≡ outWords P (node P 1 done 0 0 (levelWords area 1))) (e₁ : area₁ ≡ withLevel area 1 emptyLevel) where
-      abbrev above : Made
-      above = receive P (limit - 1) 2 (doneBlocks blockBits T) (outWords P leafNode) (levelsFrom area 26 2)
+    pub flush-coming : done < 2 ^ 56 → Coming key params table (limit - 1) 2 done out area₁ log₁ (at + 2)
+    flush-coming small = record {
+      ready = f .ready;
+      level = record { long = rw (e₁, length-with first emptyLevel length-empty) (f .long); low = omega arith; high = omega arith };
+      small = small;
+      words = rw (m .words) (length-outWords P (firstNode P T area blockBits));
+      room = rw (above-is, m .logged, length-sets log at (nodeLog (firstNode P T area blockBits ∷ []))) (omega (arith, ap (λ (x : Made). at + 2 * length (x .nodes)) (flushed-some P T area limit some), f .room));
+    }
 
-      up-is : receive P (limit - 1) 2 done out (levelsFrom area₁ 26 2) ≡ above
-      up-is =
-          let o : out ≡ outWords P leafNode = eo ∙ ap (λ (x : ℕ). outWords P (node P 1 x 0 0 (levelWords area 1))) d in
-          let l : levelsFrom area₁ 26 2 ≡ levelsFrom area 26 2 = ap (λ (x : List ℕ). levelsFrom x 26 2) e₁ ∙ other-with area 1 emptyLevel long low₁ high₁ length-empty 26 2 (omega arith) in
-          rw (o, l, d)
-
-      pub flush-up-room : (room : ℕ) → at + 2 * length (flushed P limit T (levelsOf area) .nodes) ≤ room
-          → (at + 2) + 2 * length (receive P (limit - 1) 2 done out (levelsFrom area₁ 26 2) .nodes) ≤ room
-      flush-up-room room h = room-others at room (ap (λ (x : Made). length (x .nodes)) (flushed-some some)) (ap (λ (x : Made). length (x .nodes)) up-is) h
-
-      pub flush-up : (log₁ log′ area′ : List ℕ) (at′ : ℕ) → log₁ ≡ sets log at (nodeLog (node P 1 done 0 0 (levelWords area 1) ∷ []))
-          → area′ ≡ upArea area₁ 2 (receive P (limit - 1) 2 done out (levelsFrom area₁ 26 2) .levels)
-          → log′ ≡ sets log₁ (at + 2) (nodeLog (receive P (limit - 1) 2 done out (levelsFrom area₁ 26 2) .nodes))
-          → at′ ≡ (at + 2) + 2 * length (receive P (limit - 1) 2 done out (levelsFrom area₁ 26 2) .nodes)
-          → Leaves (flushed P limit T (levelsOf area)) area log at area′ log′ at′
-      flush-up log₁ log′ area′ at′ el ea el′ et =
-          let F = flushed-some some in
-          let n = ap (λ (x : ℕ). sets log at (nodeLog (node P 1 x 0 0 (levelWords area 1) ∷ []))) d in (
-            ea ∙ ap (λ (x : Made). upArea area₁ 2 (x .levels)) up-is ∙ ap (λ (x : List ℕ). upArea x 2 (above .levels)) e₁
-                ∙ sym (up-step area 1 emptyLevel long low₁ high₁ length-empty (above .levels)) ∙ sym (with-up area (emptyLevel ∷ above .levels))
-                ∙ sym (ap (λ (x : Made). withLevels area (x .levels)) F),
-            el′ ∙ ap (λ (x : Made). sets log₁ (at + 2) (nodeLog (x .nodes))) up-is ∙ ap (λ (x : List ℕ). sets x (at + 2) (nodeLog (above .nodes))) (el ∙ n)
-                ∙ sym (log-more log at leafNode (above .nodes)) ∙ sym (ap (λ (x : Made). sets log at (nodeLog (x .nodes))) F),
-            count-others at (ap (λ (x : Made). length (x .nodes)) F) (ap (λ (x : Made). length (x .nodes)) up-is) et,
-          )
+    pub flush-up : {area′ log′ : List ℕ} {at′ : ℕ} → Climbed 2 (received P (limit - 1) 2 done out area₁) area₁ log₁ (at + 2) area′ log′ at′
+        → Climbed 1 (flushed P limit T (levelsOf area)) area log at area′ log′ at′
+    flush-up c₁ =
+        let c : Climbed 2 (above P T area limit) area₁ log₁ (at + 2) _ _ _ = rw above-is at c₁ in
+        rw (flushed-some P T area limit some) record {
+          levels = c .levels ∙ rw e₁ (sym (up-step first emptyLevel length-empty (above P T area limit .levels)));
+          logged = c .logged ∙ rw (m .logged) (sym (log-more log at (firstNode P T area blockBits) (above P T area limit .nodes)));
+          next = omega (arith, c .next);
+        }

@@ -6,13 +6,11 @@ use native.Mathlib.Omega.{arith}
 use lib.ListN.{length, take, drop, replicate, length-append, length-take, length-drop, take-append-drop}
 use lib.Seq.{paste, take-at, drop-at, take-all, drop-drop, length-take-le}
 use Rattle.lists.specs.Part.{put}
-use Rattle.area.specs.Area.{headWords, blockWords, areaWords, levelWords, levelsFrom, levelsOf, withLevels, emptyLevel}
+use Rattle.area.specs.Area.{areaWords, levelWords, levelsFrom, levelsOf, withLevels, emptyLevel}
+use Rattle.area.specs.AreaLaws.{length-levelWords}
 use Rattle.area.specs.FeedLaws.{flatten-from}
+pub use Rattle.area.specs.Area.{levelStart}
 pub use Rattle.area.specs.Widths.{length-joined, length-empty}
-
--- the first word of a level
-abbrev pub levelStart : ℕ → ℕ
-levelStart k = headWords + blockWords * (k - 1)
 
 -- an area with other words in a level
 abbrev pub withLevel : List ℕ → ℕ → List ℕ → List ℕ
@@ -71,7 +69,13 @@ paste-put d at n s h =
 
 -- ---- one level replaced
 
-module _ (area : List ℕ) (k : ℕ) (ws : List ℕ) (long : areaWords ≤ length area) (low : 1 ≤ k) (high : k ≤ 27) (size : length ws ≡ 64) where
+-- a level of an area that has all its words
+pub record Level (area : List ℕ) (k : ℕ) : Type 0 where
+  pub long : areaWords ≤ length area
+  pub low : 1 ≤ k
+  pub high : k ≤ 27
+
+module _ {area : List ℕ} {k : ℕ} (l : Level area k) (ws : List ℕ) (size : length ws ≡ 64) where
   fits : levelStart k + 64 ≤ length area
   fits = omega arith
 
@@ -115,12 +119,13 @@ up-same area k h g =
     rw (flatten-from area (28 - k) k h, d) (ap (λ (x : List ℕ). take a area ++ x) (take-append-drop n (drop a area)) ∙ take-append-drop a area)
 
 -- a level replaced, those above it as they are
-pub up-level : (area : List ℕ) (k : ℕ) (ws : List ℕ) → areaWords ≤ length area → 1 ≤ k → k ≤ 27 → length ws ≡ 64
-    → upArea area k (ws ∷ levelsFrom area (28 - (k + 1)) (k + 1)) ≡ withLevel area k ws
-up-level area k ws long low high size =
-    up-step area k ws long low high size (levelsFrom area (28 - (k + 1)) (k + 1))
-    ∙ ap (upArea (withLevel area k ws) (k + 1)) (sym (other-with area k ws long low high size (28 - (k + 1)) (k + 1) (omega arith)))
-    ∙ up-same (withLevel area k ws) (k + 1) (omega arith) (omega arith)
+pub up-level : {area : List ℕ} {k : ℕ} (l : Level area k) (ws : List ℕ) → length ws ≡ 64
+    → withLevel area k ws ≡ upArea area k (ws ∷ levelsFrom area (28 - (k + 1)) (k + 1))
+up-level {area} {k} l ws size =
+    sym
+    (up-step l ws size (levelsFrom area (28 - (k + 1)) (k + 1))
+    ∙ ap (upArea (withLevel area k ws) (k + 1)) (sym (other-with l ws size (28 - (k + 1)) (k + 1) (omega arith)))
+    ∙ up-same (withLevel area k ws) (k + 1) (omega arith) (omega arith))
 
 pub levels-cons : (area : List ℕ) (k : ℕ) → k ≤ 27 → levelsFrom area (28 - k) k ≡ levelWords area k ∷ levelsFrom area (28 - (k + 1)) (k + 1)
 levels-cons area k h =
@@ -129,7 +134,7 @@ levels-cons area k h =
     rw (e, q)
 
 pub length-level : (area : List ℕ) (k : ℕ) → areaWords ≤ length area → 1 ≤ k → k ≤ 27 → length (levelWords area k) ≡ 64
-length-level area k long low high = simp (length-take, length-drop) (omega arith)
+length-level area k long low high = length-levelWords area k long high
 
 -- all levels
 pub with-up : (area : List ℕ) (L : List (List ℕ)) → withLevels area L ≡ upArea area 1 L
@@ -154,12 +159,12 @@ lent-join area k place out h =
     ∙ ap (withLevel area k) (paste-put (levelWords area k) place 16 out h)
 
 -- a level cleared, and an output put in front
-pub chain-made : (area : List ℕ) (k : ℕ) (out : List ℕ) → areaWords ≤ length area → 1 ≤ k → k ≤ 27
+pub chain-made : {area : List ℕ} {k : ℕ} (l : Level area k) (out : List ℕ)
     → withLevel (withLevel area k emptyLevel) k (put 0 16 (levelWords (withLevel area k emptyLevel) k) out) ≡ withLevel area k (out ++ replicate 48 0)
 unfolding emptyLevel
-chain-made area k out long low high =
-    ap (λ (x : List ℕ). withLevel (withLevel area k emptyLevel) k (put 0 16 x out)) (level-with area k emptyLevel long low high refl)
-    ∙ with-with area k emptyLevel long low high refl (out ++ replicate 48 0)
+chain-made {area} {k} l out =
+    ap (λ (x : List ℕ). withLevel (withLevel area k emptyLevel) k (put 0 16 x out)) (level-with l emptyLevel refl)
+    ∙ with-with l emptyLevel refl (out ++ replicate 48 0)
 
 -- ---- level 1
 
@@ -169,10 +174,13 @@ low₁ = omega arith
 pub high₁ : 1 ≤ 27
 high₁ = omega arith
 
+pub first-level : {area : List ℕ} → areaWords ≤ length area → Level area 1
+first-level h = record { long = h; low = low₁; high = high₁ }
+
 pub levels-split : (area : List ℕ) → levelsOf area ≡ levelWords area 1 ∷ levelsFrom area 26 2
 unfolding levelsOf
 levels-split area = refl
 
 -- level 1 replaced, the others as they are
 pub with-first : (area ws : List ℕ) → areaWords ≤ length area → length ws ≡ 64 → withLevels area (ws ∷ levelsFrom area 26 2) ≡ withLevel area 1 ws
-with-first area ws long size = with-up area (ws ∷ levelsFrom area 26 2) ∙ up-level area 1 ws long low₁ high₁ size
+with-first area ws long size = let l : Level area 1 = first-level long in with-up area (ws ∷ levelsFrom area 26 2) ∙ sym (up-level l ws size)

@@ -3,17 +3,18 @@ use mathlib.Core.Path.{_≡_, refl, sym, ap, _∙_}
 use mathlib.Core.List.{List}
 use Prim.Native.Nat.{ℕ, _^_, _≤_, _<_}
 use lib.ListN.{length, length-replicate}
+use lib.Seq.{sets}
 use Rattle.lists.specs.Below.{Below}
 use Rattle.bits.specs.Bits.{bitsOf, numbers}
 use Rattle.bits.specs.BitsLaws.{length-numbers, numbers-below, numbers-exact}
 use Rattle.compress.specs.Compress.{RoundTable, compressed, windowOf}
 use Rattle.node.specs.declared.Params as declared
-use Rattle.tree.specs.Tree.{Params, Valid, words, keyWords, nodeU, nodeV, node, output}
+use Rattle.tree.specs.Tree.{Params, Node, Valid, words, keyWords, nodeU, nodeV, node, output, lastOr, noNode}
 use Rattle.tree.specs.TreeLaws.{length-keyWords}
 use Rattle.node.specs.Words.{sized, commonOf, nodeWords}
 use Rattle.node.specs.WordLaws.{fair, length-nodeWords, below-nodeWords}
-use Rattle.area.specs.Calls.{outWords}
-use Rattle.sound.specs.SoundLaws.{InRange}
+use Rattle.area.specs.Calls.{outWords, nodeLog}
+use Rattle.tree.specs.RefusalLaws.{InRange}
 
 -- the parameters that the words of a key and four numbers stand for
 unfoldable pub paramsFrom : List ℕ → declared.Params → Params
@@ -31,6 +32,11 @@ pub record Ready (k : List ℕ) (numbered : declared.Params) (table : List ℕ) 
   pub key : keyWords (paramsFrom k numbered .key) ≡ k
   pub rule : RoundTable table
   pub rows : 255 ≤ length table
+
+-- what is left of nodes that are made: U and V of each in the log from a place on, and the words of the last one given back
+pub record Logged (P : Params) (nodes : List Node) (log : List ℕ) (at : ℕ) (out log′ : List ℕ) : Type 0 where
+  pub words : out ≡ outWords P (lastOr noNode nodes)
+  pub logged : log′ ≡ sets log at (nodeLog nodes)
 
 module _ (k : List ℕ) (numbered : declared.Params) (table : List ℕ) (ready : Ready k numbered table) where
   pub valid : Valid (paramsFrom k numbered)

@@ -1,6 +1,5 @@
 -- Laws: what the words of a sound open area give: parameters in range, K, and the compressions done.
 use mathlib.Core.Path.{_≡_, refl, sym, _∙_}
-use mathlib.Core.Bool.{true}
 use mathlib.Core.List.{List}
 use Prim.Native.Nat.{ℕ, _^_, _≤_}
 use native.Mathlib.Omega.{arith}
@@ -10,17 +9,13 @@ use Rattle.lists.specs.Below.{Below}
 use Rattle.compress.specs.Compress.{RoundTable}
 use Rattle.node.specs.declared.Params as declared
 use Rattle.tree.specs.Tree.{Params}
-use Rattle.tree.specs.Refusals.{refusedParams}
-use Rattle.area.specs.Area.{areaWords, phaseOf, totalOf, kOf, compressionsOf, paramsOf, openCount, countFor, sound}
+use Rattle.tree.specs.Refusals.{firstRefusal, paramTests}
+use Rattle.tree.specs.RefusalLaws.{InRange, in-range}
+use Rattle.area.specs.Area.{phaseOf, totalOf, kOf, compressionsOf, paramsOf, openCount, countFor}
+pub use Rattle.area.specs.CallLaws.{OpenArea}
 use Rattle.area.specs.Moved.{sound-tests, sound-key}
-use Rattle.sound.specs.SoundLaws.{refused-words, in-range-words, InRange, count-open}
+use Rattle.sound.specs.SoundLaws.{refused-words, count-open}
 use Rattle.climb.specs.MakeLaws.{paramsFrom, Ready}
-
--- an area that is long enough, sound and open
-pub record OpenArea (area : List ℕ) : Type 0 where
-  pub long : areaWords ≤ length area
-  pub sound : sound area ≡ true
-  pub phase : phaseOf area ≡ 2 → ⊥
 
 -- the parameters as the code reads them
 abbrev pub numbered : List ℕ → declared.Params
@@ -41,8 +36,8 @@ size-read area = refl
 module _ {area : List ℕ} (o : OpenArea area) where
   pub open-range : InRange (getD area 2 0) (getD area 3 0) (getD area 4 0) (getD area 5 0)
   open-range =
-      let e = eqb-true (refusedParams (paramsOf area) 0) 0 (sound-tests area (o .sound) .params) in
-      in-range-words (getD area 2 0) (getD area 3 0) (getD area 4 0) (getD area 5 0) (sym (refused-words area 0) ∙ e)
+      let e = eqb-true (firstRefusal (paramTests (paramsOf area))) 0 (sound-tests area (o .sound) .params) in
+      in-range (getD area 2 0) (getD area 3 0) (getD area 4 0) (getD area 5 0) (sym (refused-words area) ∙ e)
 
   pub open-done : compressionsOf area ≡ openCount (getD area 4 0) (totalOf area)
   unfolding paramsOf

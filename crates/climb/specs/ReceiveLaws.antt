@@ -3,7 +3,7 @@ use mathlib.Core.Path.{_≡_, refl, sym, ap, _∙_}
 use mathlib.Core.List.{List, [], _∷_, _++_}
 use Prim.Native.Nat.{ℕ, zero, suc, _+_, _-_, _*_, _/_, _%_, _^_, _≤_, _<_}
 use native.Mathlib.Omega.{arith}
-use lib.ListN.{length, drop, replicate, length-append}
+use lib.ListN.{length, drop, replicate}
 use lib.Seq.{sets, length-sets}
 use borrow.Author.Tests.{eq-eqb, ne-eqb}
 use Rattle.lists.specs.Part.{put}
@@ -13,8 +13,11 @@ use Rattle.tree.specs.Tree.{Params, Node, node}
 use Rattle.area.specs.Area.{areaWords, levelWords, levelsFrom, emptyLevel}
 use Rattle.area.specs.Calls.{Made, outWords, chained, joinParallel, joinSequential, receive, nodeLog, logged}
 use Rattle.area.specs.Receive
+use Rattle.area.specs.Widths.{length-chained}
 pub use Rattle.area.specs.Widths.{length-outWords}
-use Rattle.climb.specs.Levels.{length-empty, withLevel, upArea, levels-cons, up-step, up-level, up-same, other-with, level-with, with-with, length-with, length-level, length-joined}
+use Rattle.node.specs.declared.Params as declared
+use Rattle.climb.specs.Levels.{length-empty, withLevel, upArea, Level, levels-cons, up-step, up-level, up-same, other-with, level-with, with-with, length-with, length-level, length-joined}
+use Rattle.climb.specs.MakeLaws.{paramsFrom, Ready, Logged}
 
 abbrev pub made : List (List ℕ) → List Node → Made
 made levels nodes = record { levels = levels; nodes = nodes }
@@ -70,6 +73,71 @@ pub log-written : (nodes : List Node) (log : List ℕ) → 2 * length nodes ≤ 
 log-written nodes log h =
     first-stores (nodeLog nodes) log (rw (length-nodeLog nodes) h) ∙ ap (λ (k : ℕ). nodeLog nodes ++ drop k log) (length-nodeLog nodes)
 
+-- ---- an output comes to a level
+
+-- what is left of levels and nodes that a definition gives: the levels from a level on, U and V of the nodes in the log from a
+-- place on, and the place where the log goes on
+pub record Climbed (k : ℕ) (F : Made) (area log : List ℕ) (at : ℕ) (area′ log′ : List ℕ) (at′ : ℕ) : Type 0 where
+  pub levels : area′ ≡ upArea area k (F .levels)
+  pub logged : log′ ≡ sets log at (nodeLog (F .nodes))
+  pub next : at′ ≡ at + 2 * length (F .nodes)
+
+-- output i comes to a level: what the code needs then
+pub record Coming (key : List ℕ) (params : declared.Params) (table : List ℕ) (n k i : ℕ) (out area log : List ℕ) (at : ℕ) : Type 0 where
+  pub ready : Ready key params table
+  pub level : Level area k
+  pub small : i < 2 ^ 56
+  pub words : length out ≡ 16
+  pub room : at + 2 * length (received (paramsFrom key params) n k i out area .nodes) ≤ length log
+
+-- an output joined to a level's block: the block's node is made, and other words are put into the level
+module _ {area : List ℕ} {k : ℕ} (l : Level area k) (place : ℕ) (out : List ℕ) (words : length out ≡ 16) (h : place + 16 ≤ 64) where
+  abbrev block : List ℕ
+  block = put place 16 (levelWords area k) out
+
+  joined-size : length block ≡ 64
+  joined-size = length-joined place (levelWords area k) out (length-level area k (l .long) (l .low) (l .high)) words h
+
+  module _ {area₁ : List ℕ} (e : area₁ ≡ withLevel area k block) where
+    joined-made : {P : Params} (j : ℕ) {log : List ℕ} {at : ℕ} {out′ log′ : List ℕ}
+        → Logged P (node P k j 0 0 (levelWords area₁ k) ∷ []) log at out′ log′ → Logged P (node P k j 0 0 block ∷ []) log at out′ log′
+    joined-made j m = rw (e, level-with l block joined-size) at m
+
+    joined-other : {area′ : List ℕ} (ws : List ℕ) → area′ ≡ withLevel area₁ k ws → area′ ≡ withLevel area k ws
+    joined-other ws ea = ea ∙ rw e (with-with l block joined-size ws)
+
+-- ---- the sequential level
+
+module _ {key : List ℕ} {params : declared.Params} {table : List ℕ} {k i : ℕ} {out area log : List ℕ} {at : ℕ} (c : Coming key params table 0 k i out area log at) where
+  abbrev P : Params
+  P = paramsFrom key params
+
+  abbrev place : ℕ
+  place = 16 + 16 * (i % 3)
+
+  module _ {area₁ : List ℕ} (ea : area₁ ≡ withLevel area k (put place 16 (levelWords area k) out)) where
+    pub last-held : (i % 3 ≡ 2 → ⊥) → Climbed k (received P 0 k i out area) area log at area₁ log at
+    last-held e = rw (received-held P 0 k i out area (c .level .high) e) record {
+      levels = ea ∙ up-level (c .level) (put place 16 (levelWords area k) out) (joined-size (c .level) place out (c .words) (omega arith));
+      logged = refl;
+      next = omega arith;
+    }
+
+    pub last-chained : {out′ log′ area′ : List ℕ} → i % 3 ≡ 2 → Logged P (node P k (i / 3) 0 0 (levelWords area₁ k) ∷ []) log at out′ log′
+        → area′ ≡ withLevel area₁ k (out′ ++ replicate 48 0)
+        → Climbed k (received P 0 k i out area) area log at area′ log′ (at + 2)
+    last-chained {out′} e m₁ ez =
+        let m = joined-made (c .level) place out (c .words) (omega arith) ea (i / 3) m₁ in
+        let full = lastNode P 0 k i out area (c .level .high) in
+        rw (received-chained P 0 k i out area (c .level .high) e) record {
+          levels = joined-other (c .level) place out (c .words) (omega arith) ea (out′ ++ replicate 48 0) ez ∙ rw (m .words) (up-level (c .level) (chained P full) (length-chained P full));
+          logged = m .logged;
+          next = refl;
+        }
+
+  pub last-room : i % 3 ≡ 2 → at + 2 ≤ length log
+  last-room e = omega (arith, ap (λ (x : Made). at + 2 * length (x .nodes)) (received-chained P 0 k i out area (c .level .high) e), c .room)
+
 -- ---- the loop over the levels
 
 -- what is left to do, from the level that the loop has reached, is what there was to do at level 2
@@ -84,142 +152,96 @@ pub record Climb (P : Params) (all : Made) (area₀ log₀ : List ℕ) (at₀ n 
   pub area-same : upArea area k (received P n k i out area .levels) ≡ upArea area₀ 2 (all .levels)
   pub log-same : sets log at (nodeLog (received P n k i out area .nodes)) ≡ sets log₀ at₀ (nodeLog (all .nodes))
   pub count-same : at + 2 * length (received P n k i out area .nodes) ≡ at₀ + 2 * length (all .nodes)
+  pub room : at + 2 * length (received P n k i out area .nodes) ≤ length log
 
--- what the loop leaves
-abbrev pub Climbed : Made → List ℕ → List ℕ → ℕ → List ℕ → List ℕ → ℕ → Type 0
-Climbed all area₀ log₀ at₀ area log at =
-    (area ≡ upArea area₀ 2 (all .levels)) × (log ≡ sets log₀ at₀ (nodeLog (all .nodes))) × (at ≡ at₀ + 2 * length (all .nodes))
-
-pub climb-start : (P : Params) (n i : ℕ) (out area log : List ℕ) (at : ℕ) → i < 2 ^ 56 → length out ≡ 16 → areaWords ≤ length area
-    → Climb P (receive P n 2 i out (levelsFrom area 26 2)) area log at n 2 i out area log at
-climb-start P n i out area log at h g l = record {
+pub climb-start : {key : List ℕ} {params : declared.Params} {table : List ℕ} {n i : ℕ} {out area log : List ℕ} {at : ℕ} (c : Coming key params table n 2 i out area log at)
+    → Climb (paramsFrom key params) (received (paramsFrom key params) n 2 i out area) area log at n 2 i out area log at
+climb-start c = record {
   low = omega arith;
   high = omega arith;
-  small = h;
-  words = g;
-  long = l;
+  small = c .small;
+  words = c .words;
+  long = c .level .long;
   area-length = refl;
   log-length = refl;
   area-same = refl;
   log-same = refl;
   count-same = refl;
+  room = c .room;
 }
 
 module _ {P : Params} {all : Made} {area₀ log₀ : List ℕ} {at₀ n k i : ℕ} {out area log : List ℕ} {at : ℕ}
     (c : Climb P all area₀ log₀ at₀ n k i out area log at) where
-  -- a full parallel level is passed
-  pub climb-more : (area′ out′ log′ : List ℕ) → 1 ≤ n → k ≤ 27 → i % 4 ≡ 3 → area′ ≡ withLevel area k emptyLevel
-      → out′ ≡ outWords P (node P k (i / 4) 0 0 (joinParallel i out (levelWords area k)))
-      → log′ ≡ sets log at (nodeLog (node P k (i / 4) 0 0 (joinParallel i out (levelWords area k)) ∷ []))
-      → Climb P all area₀ log₀ at₀ (n - 1) (k + 1) (i / 4) out′ area′ log′ (at + 2)
-  climb-more area′ out′ log′ h high e ea eo el =
-      let low : 1 ≤ k = omega (arith, c .low) in
-      let m : Node = node P k (i / 4) 0 0 (joinParallel i out (levelWords area k)) in
-      let above : Made = receive P (n - 1) (k + 1) (i / 4) (outWords P m) (aboveLevels area k) in
-      let full = received-full P n k i out area high h e in
-      let la = length-with area k emptyLevel (c .long) low high length-empty in
-      let next : received P (n - 1) (k + 1) (i / 4) out′ area′ ≡ above =
-      rw (eo, ea, other-with area k emptyLevel (c .long) low high length-empty (28 - (k + 1)) (k + 1) (omega arith)) refl in
-      record {
-        low = omega arith;
-        high = omega arith;
-        small = omega (arith, c .small);
-        words = rw eo (length-outWords P m);
-        long = rw (ea, la) (c .long);
-        area-length = rw (ea, la) (c .area-length);
-        log-length = rw el (length-sets log at (nodeLog (m ∷ [])) ∙ c .log-length);
-        area-same = rw (next, ea) (sym (up-step area k emptyLevel (c .long) low high length-empty (above .levels))) ∙ sym (ap (λ (x : Made). upArea area k (x .levels)) full) ∙ c .area-same;
-        log-same = rw (next, el) (sym (log-more log at m (above .nodes))) ∙ sym (ap (λ (x : Made). sets log at (nodeLog (x .nodes))) full) ∙ c .log-same;
-        count-same = rw next (omega arith) ∙ sym (ap (λ (x : Made). at + 2 * length (x .nodes)) full) ∙ c .count-same;
-      }
+  pub climb-level : k ≤ 27 → Level area k
+  climb-level h = record { long = c .long; low = omega (arith, c .low); high = h }
 
-  -- the log has room for what is left
-  pub climb-room : at₀ + 2 * length (all .nodes) ≤ length log₀ → 1 ≤ n → k ≤ 27 → i % 4 ≡ 3 → at + 2 ≤ length log
-  climb-room h g high e =
-      omega (arith, ap (λ (x : Made). at + 2 * length (x .nodes)) (received-full P n k i out area high g e), c .count-same, c .log-length)
-
-  pub climb-last-room : at₀ + 2 * length (all .nodes) ≤ length log₀ → n < 1 → at + 2 * length (received P 0 k i out area .nodes) ≤ length log
-  climb-last-room h g =
-      let z : n ≡ 0 = omega arith in
-      omega (arith, ap (λ (x : ℕ). at + 2 * length (received P x k i out area .nodes)) z, c .count-same, c .log-length)
-
-  -- a parallel level that is not full keeps the output
-  pub climb-part : (area′ : List ℕ) → 1 ≤ n → k ≤ 27 → (i % 4 ≡ 3 → ⊥) → area′ ≡ withLevel area k (joinParallel i out (levelWords area k))
-      → Climbed all area₀ log₀ at₀ area′ log at
-  climb-part area′ h high e ea =
-      let low : 1 ≤ k = omega (arith, c .low) in
-      let part = received-part P n k i out area high h e in
-      let lb = length-joined (16 * (i % 4)) (levelWords area k) out (length-level area k (c .long) low high) (c .words) (omega arith) in (
-        ea ∙ sym (up-level area k (joinParallel i out (levelWords area k)) (c .long) low high lb) ∙ sym (ap (λ (x : Made). upArea area k (x .levels)) part) ∙ c .area-same,
-        sym (ap (λ (x : Made). sets log at (nodeLog (x .nodes))) part) ∙ c .log-same,
-        omega (arith, ap (λ (x : Made). at + 2 * length (x .nodes)) part, c .count-same),
-      )
-
-  -- the sequential level ends it
-  pub climb-last : (area′ log′ : List ℕ) (at′ : ℕ) → n < 1 → area′ ≡ upArea area k (received P 0 k i out area .levels)
-      → log′ ≡ sets log at (nodeLog (received P 0 k i out area .nodes)) → at′ ≡ at + 2 * length (received P 0 k i out area .nodes)
-      → Climbed all area₀ log₀ at₀ area′ log′ at′
-  climb-last area′ log′ at′ h ea el et =
-      let z : 0 ≡ n = omega arith in (
-        ea ∙ ap (λ (x : ℕ). upArea area k (received P x k i out area .levels)) z ∙ c .area-same,
-        el ∙ ap (λ (x : ℕ). sets log at (nodeLog (received P x k i out area .nodes))) z ∙ c .log-same,
-        et ∙ ap (λ (x : ℕ). at + 2 * length (received P x k i out area .nodes)) z ∙ c .count-same,
-      )
+  -- what is left of the output where the loop is, is what is left of all
+  pub climb-end : {area′ log′ : List ℕ} {at′ : ℕ} → Climbed k (received P n k i out area) area log at area′ log′ at′ → Climbed 2 all area₀ log₀ at₀ area′ log′ at′
+  climb-end d = record { levels = d .levels ∙ c .area-same; logged = d .logged ∙ c .log-same; next = d .next ∙ c .count-same }
 
   -- no level is left
-  pub climb-none : 28 ≤ k → Climbed all area₀ log₀ at₀ area log at
+  pub climb-none : 28 ≤ k → Climbed 2 all area₀ log₀ at₀ area log at
   climb-none h =
-      let e : k ≡ 28 = omega (arith, c .high) in
       let z : 28 - k ≡ 0 = omega arith in
-      let none : received P n k i out area ≡ made [] [] = rw z (Receive.receive-none P n k i out) in
-      let nil : levelsFrom area (28 - k) k ≡ [] = rw z refl in (
-        sym (up-same area k (omega arith) (omega arith)) ∙ ap (upArea area k) nil ∙ sym (ap (λ (x : Made). upArea area k (x .levels)) none) ∙ c .area-same,
-        sym (ap (λ (x : Made). sets log at (nodeLog (x .nodes))) none) ∙ c .log-same,
-        omega (arith, ap (λ (x : Made). at + 2 * length (x .nodes)) none, c .count-same),
-      )
+      let nil : levelsFrom area (28 - k) k ≡ [] = rw z refl in
+      climb-end (rw (nil, Receive.receive-none P n k i out) record {
+        levels = sym (up-same area k (omega (arith, c .low)) (c .high)) ∙ ap (upArea area k) nil;
+        logged = refl;
+        next = omega arith;
+      })
 
--- ---- the sequential level
+  -- the loop is at the sequential level
+  pub climb-zero : n < 1 → Climb P all area₀ log₀ at₀ 0 k i out area log at
+  climb-zero h = let z : n ≡ 0 = omega arith in rw z at c
 
--- what comes of an output at a level, as three facts of what the code leaves
-abbrev pub Received : Params → ℕ → ℕ → ℕ → List ℕ → List ℕ → List ℕ → ℕ → List ℕ → List ℕ → ℕ → Type 0
-Received P n k i out area log at area′ log′ at′ =
-    (area′ ≡ upArea area k (received P n k i out area .levels))
-    × (log′ ≡ sets log at (nodeLog (received P n k i out area .nodes)))
-    × (at′ ≡ at + 2 * length (received P n k i out area .nodes))
+  -- an output that a parallel level takes
+  module _ (some : 1 ≤ n) (high : k ≤ 27) {area₁ : List ℕ} (ea : area₁ ≡ withLevel area k (joinParallel i out (levelWords area k))) where
+    -- it is kept if the level's block is not full then
+    pub climb-part : (i % 4 ≡ 3 → ⊥) → Climbed 2 all area₀ log₀ at₀ area₁ log at
+    climb-part e =
+        let l = climb-level high in
+        climb-end (rw (received-part P n k i out area high some e) record {
+          levels = ea ∙ up-level l (joinParallel i out (levelWords area k)) (joined-size l (16 * (i % 4)) out (c .words) (omega arith));
+          logged = refl;
+          next = omega arith;
+        })
 
-module _ (P : Params) (k i : ℕ) (out area log : List ℕ) (at : ℕ) (long : areaWords ≤ length area) (low : 1 ≤ k) (high : k ≤ 27) (words : length out ≡ 16) where
-  abbrev block : List ℕ
-  block = joinSequential i out (levelWords area k)
+    -- and goes on as the output of the level's node otherwise
+    pub climb-more : {out′ log′ area′ : List ℕ} → i % 4 ≡ 3 → Logged P (node P k (i / 4) 0 0 (levelWords area₁ k) ∷ []) log at out′ log′
+        → area′ ≡ withLevel area₁ k emptyLevel
+        → Climb P all area₀ log₀ at₀ (n - 1) (k + 1) (i / 4) out′ area′ log′ (at + 2)
+    climb-more {out′} {log′} {area′} e m₁ ez =
+        let l = climb-level high in
+        let m = joined-made l (16 * (i % 4)) out (c .words) (omega arith) ea (i / 4) m₁ in
+        let a = joined-other l (16 * (i % 4)) out (c .words) (omega arith) ea emptyLevel ez in
+        let f : Node = fullNode P n k i out area high in
+        let above : Made = receive P (n - 1) (k + 1) (i / 4) (outWords P f) (aboveLevels area k) in
+        let full = received-full P n k i out area high some e in
+        let la = length-with l emptyLevel length-empty in
+        let ll = length-sets log at (nodeLog (f ∷ [])) in
+        let next : received P (n - 1) (k + 1) (i / 4) out′ area′ ≡ above =
+        rw (m .words, a, other-with l emptyLevel length-empty (28 - (k + 1)) (k + 1) (omega arith)) refl in
+        let count = ap (λ (x : Made). at + 2 * length (x .nodes)) full in
+        record {
+          low = omega (arith, c .low);
+          high = omega arith;
+          small = omega (arith, c .small);
+          words = rw (m .words) (length-outWords P f);
+          long = rw (a, la) (c .long);
+          area-length = rw (a, la) (c .area-length);
+          log-length = rw (m .logged, ll) (c .log-length);
+          area-same = rw (next, a) (sym (up-step l emptyLevel length-empty (above .levels))) ∙ sym (ap (λ (x : Made). upArea area k (x .levels)) full) ∙ c .area-same;
+          log-same = rw (next, m .logged) (sym (log-more log at f (above .nodes))) ∙ sym (ap (λ (x : Made). sets log at (nodeLog (x .nodes))) full) ∙ c .log-same;
+          count-same = rw next (omega (arith, count, c .count-same));
+          room = rw (next, m .logged, ll) (omega (arith, count, c .room));
+        }
 
-  size : length block ≡ 64
-  size = length-joined (16 + 16 * (i % 3)) (levelWords area k) out (length-level area k long low high) words (omega arith)
+  -- the log has room for the node of a full level
+  pub climb-room : 1 ≤ n → k ≤ 27 → i % 4 ≡ 3 → at + 2 ≤ length log
+  climb-room some high e = omega (arith, ap (λ (x : Made). at + 2 * length (x .nodes)) (received-full P n k i out area high some e), c .room)
 
-  pub last-held : (area′ : List ℕ) → (i % 3 ≡ 2 → ⊥) → area′ ≡ withLevel area k (put (16 + 16 * (i % 3)) 16 (levelWords area k) out)
-      → Received P 0 k i out area log at area′ log at
-  last-held area′ e ea =
-      let held = received-held P 0 k i out area high e in (
-        ea ∙ sym (up-level area k block long low high size) ∙ sym (ap (λ (x : Made). upArea area k (x .levels)) held),
-        sym (ap (λ (x : Made). sets log at (nodeLog (x .nodes))) held),
-        omega (arith, ap (λ (x : Made). at + 2 * length (x .nodes)) held),
-      )
-
-  pub last-room : (room : ℕ) → i % 3 ≡ 2 → at + 2 * length (received P 0 k i out area .nodes) ≤ room → at + 2 ≤ room
-  last-room room e h = omega (arith, ap (λ (x : Made). at + 2 * length (x .nodes)) (received-chained P 0 k i out area high e))
-
-  pub last-chained : (area₁ out′ log′ area′ : List ℕ) → i % 3 ≡ 2
-      → area₁ ≡ withLevel area k (put (16 + 16 * (i % 3)) 16 (levelWords area k) out)
-      → out′ ≡ outWords P (node P k (i / 3) 0 0 (levelWords area₁ k))
-      → log′ ≡ sets log at (nodeLog (node P k (i / 3) 0 0 (levelWords area₁ k) ∷ []))
-      → area′ ≡ withLevel area₁ k (out′ ++ replicate 48 0)
-      → Received P 0 k i out area log at area′ log′ (at + 2)
-  last-chained area₁ out′ log′ area′ e ea eo el ez =
-      let full = received-chained P 0 k i out area high e in
-      let m : Node = node P k (i / 3) 0 0 block in
-      let b : levelWords area₁ k ≡ block = ap (λ (x : List ℕ). levelWords x k) ea ∙ level-with area k block long low high size in
-      let o : out′ ≡ outWords P m = eo ∙ ap (λ (x : List ℕ). outWords P (node P k (i / 3) 0 0 x)) b in
-      let l : length (chained P m) ≡ 64 = length-append (outWords P m) (replicate 48 0) ∙ omega (arith, length-outWords P m) in (
-        ez ∙ rw (ea, o) (with-with area k block long low high size (chained P m))
-            ∙ sym (up-level area k (chained P m) long low high l) ∙ sym (ap (λ (x : Made). upArea area k (x .levels)) full),
-        el ∙ ap (λ (x : List ℕ). sets log at (nodeLog (node P k (i / 3) 0 0 x ∷ []))) b ∙ sym (ap (λ (x : Made). sets log at (nodeLog (x .nodes))) full),
-        omega (arith, ap (λ (x : Made). at + 2 * length (x .nodes)) full),
-      )
+-- the loop is at the sequential level, where the output can come
+pub climb-coming : {key : List ℕ} {params : declared.Params} {table : List ℕ} {all : Made} {area₀ log₀ : List ℕ} {at₀ n k i : ℕ} {out area log : List ℕ} {at : ℕ}
+    → Ready key params table → Climb (paramsFrom key params) all area₀ log₀ at₀ n k i out area log at → n < 1 → k ≤ 27
+    → Coming key params table 0 k i out area log at
+climb-coming r c h high = let z = climb-zero c h in record { ready = r; level = climb-level c high; small = c .small; words = c .words; room = z .room }

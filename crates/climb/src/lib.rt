@@ -1,31 +1,21 @@
 // How a node is made in an area, and how its output goes up through the levels.
 ghost use mathlib.Core.Path.{_≡_};
 ghost use mathlib.Core.List.{_∷_, []};
-ghost use Prim.Native.Nat.{_+_, _*_, _≤_, _<_, _^_};
-ghost use lib.ListN.{length, replicate};
+ghost use Prim.Native.Nat.{_+_, _≤_, _<_, _^_};
+ghost use lib.ListN.{length};
 ghost use lib.Seq.{sets};
 ghost use Rattle.tree.specs.Tree.{node};
-ghost use Rattle.area.specs.Area.{areaWords, levelsOf, withLevels};
+ghost use Rattle.area.specs.Area.{levelsOf};
 ghost use Rattle.area.specs.Calls.{outWords, nodeLog};
 ghost use Rattle.climb.specs.MakeLaws.{paramsFrom, Ready};
-ghost use Rattle.climb.specs.FlushLaws.{flushed};
+ghost use Rattle.climb.specs.ReceiveLaws.{Climbed};
+ghost use Rattle.climb.specs.FlushLaws.{flushed, Flushing};
 use node::Block;
 use node::Params;
 use sound::count;
 
 mod level; // level.rt: a level's own part of an area
 mod rise; // rise.rt: how an output goes up
-
-// Fills a part with zero words.
-pub fn clear(part: &mut [u64])
-    ensures { λ _. ⌜ now (part .exit) ≡ replicate (length (now (part .entry))) 0 ⌝ }
-{
-    let mut i = 0;
-    while i < part.len() {
-        part[i] = 0;
-        i += 1;
-    }
-}
 
 // Makes a node: U and V go to the log from a place on, and its 16 words are given back.
 pub fn make_node(
@@ -52,8 +42,9 @@ pub fn make_node(
     node::compress_node(key, u, v, block, table, params.rounds as usize)
 }
 
-// Makes the node of level 1 where it is sequential; the level keeps its output.
-fn flush_last(
+// Makes the node of level 1, which is full, and answers where the log goes on. The node's output goes to the level above; a
+// sequential level 1 keeps it.
+pub fn flush(
     area: &mut [u64],
     params: Params,
     key: &[u64],
@@ -62,36 +53,15 @@ fn flush_last(
     log: &mut [u64],
     at: usize,
 ) -> usize
-    requires { ⌜ Ready (now key) params (now table) ⌝ }
-    requires { ⌜ (areaWords ≤ length (now area)) × (params .limit < 1) ⌝ }
-    requires { ⌜ at + 2 * length (flushed (paramsFrom (now key) params) (params .limit) total (levelsOf (now area)) .nodes) ≤ length (now log) ⌝ }
-    ensures { λ _. ⌜ now (area .exit) ≡ withLevels (now (area .entry)) (flushed (paramsFrom (now (key .entry)) params) (params .limit) total (levelsOf (now (area .entry))) .levels) ⌝ }
-    ensures { λ _. ⌜ now (log .exit) ≡ sets (now (log .entry)) at (nodeLog (flushed (paramsFrom (now (key .entry)) params) (params .limit) total (levelsOf (now (area .entry))) .nodes)) ⌝ }
-    ensures { λ r. ⌜ r ≡ at + 2 * length (flushed (paramsFrom (now (key .entry)) params) (params .limit) total (levelsOf (now (area .entry))) .nodes) ⌝ }
+    requires { ⌜ Flushing (now key) params (now table) total (now area) (now log) at ⌝ }
+    ensures { λ r. ⌜ Climbed 1 (flushed (paramsFrom (now (key .entry)) params) (params .limit) total (levelsOf (now (area .entry)))) (now (area .entry)) (now (log .entry)) at (now (area .exit)) (now (log .exit)) r ⌝ }
 {
-    let done = count::done_blocks(Block::SEQUENTIAL_BITS, total);
-    let last = level::make_level(area, params, key, table, 1, done, log, at);
-    level::chain_level(&mut *area, 1, &last);
-    at + 2
-}
-
-// Makes the node of a parallel level 1, and gives its output to the level above.
-fn flush_up(
-    area: &mut [u64],
-    params: Params,
-    key: &[u64],
-    table: &[u64],
-    total: u64,
-    log: &mut [u64],
-    at: usize,
-) -> usize
-    requires { ⌜ Ready (now key) params (now table) ⌝ }
-    requires { ⌜ (areaWords ≤ length (now area)) × (1 ≤ params .limit) ⌝ }
-    requires { ⌜ at + 2 * length (flushed (paramsFrom (now key) params) (params .limit) total (levelsOf (now area)) .nodes) ≤ length (now log) ⌝ }
-    ensures { λ _. ⌜ now (area .exit) ≡ withLevels (now (area .entry)) (flushed (paramsFrom (now (key .entry)) params) (params .limit) total (levelsOf (now (area .entry))) .levels) ⌝ }
-    ensures { λ _. ⌜ now (log .exit) ≡ sets (now (log .entry)) at (nodeLog (flushed (paramsFrom (now (key .entry)) params) (params .limit) total (levelsOf (now (area .entry))) .nodes)) ⌝ }
-    ensures { λ r. ⌜ r ≡ at + 2 * length (flushed (paramsFrom (now (key .entry)) params) (params .limit) total (levelsOf (now (area .entry))) .nodes) ⌝ }
-{
+    if params.limit < 1 {
+        let done = count::done_blocks(Block::SEQUENTIAL_BITS, total);
+        let last = level::make_level(area, params, key, table, 1, done, log, at);
+        level::chain_level(&mut *area, 1, &last);
+        return at + 2;
+    }
     let done = count::done_blocks(Block::BITS, total);
     let made = level::make_level(area, params, key, table, 1, done, log, at);
     level::clear_level(&mut *area, 1);
@@ -106,27 +76,4 @@ fn flush_up(
         log,
         at + 2,
     )
-}
-
-// Makes the node of level 1, which is full, and answers where the log goes on.
-pub fn flush(
-    area: &mut [u64],
-    params: Params,
-    key: &[u64],
-    table: &[u64],
-    total: u64,
-    log: &mut [u64],
-    at: usize,
-) -> usize
-    requires { ⌜ Ready (now key) params (now table) ⌝ }
-    requires { ⌜ areaWords ≤ length (now area) ⌝ }
-    requires { ⌜ at + 2 * length (flushed (paramsFrom (now key) params) (params .limit) total (levelsOf (now area)) .nodes) ≤ length (now log) ⌝ }
-    ensures { λ _. ⌜ now (area .exit) ≡ withLevels (now (area .entry)) (flushed (paramsFrom (now (key .entry)) params) (params .limit) total (levelsOf (now (area .entry))) .levels) ⌝ }
-    ensures { λ _. ⌜ now (log .exit) ≡ sets (now (log .entry)) at (nodeLog (flushed (paramsFrom (now (key .entry)) params) (params .limit) total (levelsOf (now (area .entry))) .nodes)) ⌝ }
-    ensures { λ r. ⌜ r ≡ at + 2 * length (flushed (paramsFrom (now (key .entry)) params) (params .limit) total (levelsOf (now (area .entry))) .nodes) ⌝ }
-{
-    if params.limit < 1 {
-        return flush_last(area, params, key, table, total, log, at);
-    }
-    flush_up(area, params, key, table, total, log, at)
 }

@@ -1,9 +1,8 @@
 -- Laws: the collision theorem about the whole-message call: `hashOf` says all that the call answers and leaves.
-use mathlib.Core.Path.{_≡_, refl, sym, _∙_}
-use mathlib.Core.Bool.{Bool}
+use mathlib.Core.Path.{_≡_, sym, _∙_}
 use mathlib.Core.Logic.{_⊎_}
 use mathlib.Core.List.{List}
-use Prim.Native.Nat.{ℕ, zero, suc, _^_, _<_}
+use Prim.Native.Nat.{ℕ, _^_, _<_}
 use native.Mathlib.Omega.{arith}
 use lib.ListN.{take, drop, length-take}
 use lib.Seq.{take-at}
@@ -12,20 +11,14 @@ use Rattle.bits.specs.BitsLaws.{length-numbers}
 use Rattle.tree.specs.Tree.{Params, Valid, digest, digestBytes}
 use Rattle.tree.specs.Refusals.{pieceBits}
 use Rattle.tree.specs.RefusalLaws.{ranges-valid}
-use Rattle.hash.specs.Hash.{hashNumber, hashAnswer, hashOf}
-use Rattle.hash.specs.HashLaws.{Accepted, number-accepted}
+use Rattle.hash.specs.Hash.{hashOf}
+use Rattle.hash.specs.HashLaws.{Accepted, hash-number, number-accepted}
 use Rattle.collision.specs.Clash.{Different, RootsDiffer, Meeting}
 use Rattle.collision.specs.Collision.{collision}
 
--- the number that the call answers is hashNumber's
-same-number : (k : ℕ) (P : Params) (M : List Bool) (out : List ℕ) → hashAnswer k P M out .number ≡ k
-same-number zero P M out = refl
-same-number (suc k) P M out = refl
-
 -- an accepted call's parameters are valid, and its digest is the tree's
 pub accepted-hash : (message : List ℕ) (n : ℕ) (P : Params) (out : List ℕ) → hashOf message n P out .number ≡ 0 → Accepted message n P out
-unfolding hashOf
-accepted-hash message n P out e = number-accepted message n P out (sym (same-number (hashNumber message n P out) P (pieceBits message n) out) ∙ e)
+accepted-hash message n P out e = number-accepted message n P out (sym (hash-number message n P out) ∙ e)
 
 pub accepted-valid : (message : List ℕ) (n : ℕ) (P : Params) (out : List ℕ) → Below 256 (P .key) → hashOf message n P out .number ≡ 0 → Valid P
 accepted-valid message n P out hk e = ranges-valid P hk (accepted-hash message n P out e .ranges)
@@ -34,8 +27,7 @@ pub hash-digest : (message : List ℕ) (n : ℕ) (P : Params) (out : List ℕ) �
     → take (digestBytes (P .d)) (hashOf message n P out .digest) ≡ digest P (pieceBits message n)
 unfolding hashOf
 hash-digest message n P out e =
-    let z : hashNumber message n P out ≡ 0 = sym (same-number (hashNumber message n P out) P (pieceBits message n) out) ∙ e in
-    rw z (take-at (digest P (pieceBits message n)) (drop (digestBytes (P .d)) out) (digestBytes (P .d)) (length-numbers 8 (digestBytes (P .d)) _))
+    rw (sym (hash-number message n P out) ∙ e) (take-at (digest P (pieceBits message n)) (drop (digestBytes (P .d)) out) (digestBytes (P .d)) (length-numbers 8 (digestBytes (P .d)) _))
 
 -- Two accepted calls with one digest size whose digests, the first bytes of what they leave in the output, are equal, and that
 -- got different message bits, key, height limit or rounds.

@@ -10,9 +10,9 @@ use Prim.Native.Nat.{ℕ, suc, _^_, _<_}
 use native.Mathlib.Omega.{arith}
 use lib.ListN.{length, getElem?}
 use Rattle.lists.specs.Append.{cons-eq}
-use Rattle.tree.specs.Tree.{Params, Valid, Node, nodeU, tree, root, rootOf}
+use Rattle.tree.specs.Tree.{Params, Valid, Node, tree, root, rootOf}
 use Rattle.tree.specs.Place.{levelAt, nodeAt, RootAt}
-use Rattle.tree.specs.Places.{no-node, tree-u, tree-place, levels-filled, root-at, root-place}
+use Rattle.tree.specs.Places.{no-node, tree-place, levels-filled, root-at, root-place}
 use Rattle.tree.specs.Terms.{rootLevel, rootIndex}
 use Rattle.collision.specs.Clash.{Clash}
 use Rattle.collision.specs.Descent.{descend}
@@ -62,22 +62,9 @@ places-determine P Q M N vP vQ f = (s, go (descend P (P .limit) 1 M N (e ∙ sym
         let same : c .a ≡ c .b = cc in
         absurd (c .differ same)
 
--- ---- a clash
-
--- both nodes have the U of the level and the index
-pub clash-u : (P Q : Params) (M N : List Bool) (c : Clash (P .rounds) (Q .rounds) (tree P M) (tree Q N))
-    → (c .a .u ≡ nodeU (c .level) (c .index)) × (c .b .u ≡ nodeU (c .level) (c .index))
-clash-u P Q M N c = (tree-u P M (c .level) (c .index) (c .a) (c .atA), tree-u Q N (c .level) (c .index) (c .b) (c .atB))
-
 -- ---- the root
 
--- the root is the last node of the last level
-pub root-last : (P : Params) (M : List Bool) (level index : ℕ) (a : Node) → RootAt (tree P M) level index → nodeAt (tree P M) level index ≡ some a → a ≡ root P M
-root-last P M level index a h e =
-    let f : some a ≡ some (root P M) = sym e ∙ root-place (tree P M) level index h in
-    cc
-
--- and a node at any other place is not the root
+-- a node at any other place than the root's is not the root
 pub other-than-root : (P : Params) (M : List Bool) (level index : ℕ) (a : Node) → length M < 2 ^ 64 → nodeAt (tree P M) level index ≡ some a
     → ¬ RootAt (tree P M) level index → a ≢ root P M
 other-than-root P M level index a h e other f =

@@ -4,13 +4,14 @@ use mathlib.Core.Path.{_≡_, refl, sym, ap, _∙_, subst}
 use mathlib.Core.Bool.{Bool}
 use mathlib.Core.List.{List, [], _∷_, _++_, append-nil}
 use Prim.Native.Nat.{ℕ, zero, suc, _+_, _-_, _*_, _/_, _%_, _≤_, _<_}
-use native.Mathlib.Nat.{zero-add, add-zero, add-comm, suc-add}
+use native.Mathlib.Nat.{zero-add, add-zero, add-comm}
 use native.Mathlib.Numerals.{add-one}
 use native.Mathlib.Omega.{arith}
 use lib.Dec.{T, ltb, ltb→lt}
 use lib.ListN.{length, getD, set, take, drop, length-set, length-drop, replicate}
-use lib.Seq.{paste, paste-suc, drop-paste, getD-take, getD-drop, drop-drop, drop-cons, drop-set-add, take-suc-set, take-nil, take-take, drop-append-le}
+use lib.Seq.{paste, paste-suc, drop-paste, getD-take, getD-drop, drop-drop, drop-cons, drop-set-add, take-suc-set, take-take, length-take-le, drop-append-le}
 use Rattle.lists.specs.Table.{every, at}
+use Rattle.lists.specs.Take.{drop-take}
 use Rattle.compress.specs.Compress.{S, shiftsR, shiftsT, word, grown, compressed}
 use Rattle.compress.specs.CompressLaws.{length-grown, grown-suc}
 use Rattle.compress.specs.Buffer.{putAt, putRound}
@@ -39,11 +40,6 @@ move-more d b j room =
     ∙ ap (λ (k : ℕ). getD d k 0) (add-comm j b)
     ∙ sym (getD-drop b d j 0) in
     ap (set (paste d 0 s j) j) ahead ∙ copy-more d s j (omega arith) (omega arith)
-
-take-drop : (m n : ℕ) (l : List ℕ) → take m (drop n l) ≡ drop n (take (n + m) l)
-take-drop m zero l = ap (λ (k : ℕ). take k l) (sym (zero-add m))
-take-drop m (suc n) [] = take-nil m ∙ sym (ap (drop (suc n)) (take-nil (suc n + m)))
-take-drop m (suc n) (x ∷ l) = take-drop m n l ∙ rw suc-add
 
 -- ---- the window
 
@@ -145,13 +141,16 @@ last-words N xs i r low e =
     let i₁ : i - 16 ≡ i - 89 + 73 = omega arith in
     ap (λ (k : ℕ). take 16 (drop k xs)) i₁
     ∙ ap (take 16) (sym (drop-drop 73 (i - 89) xs))
-    ∙ take-drop 16 73 (drop (i - 89) xs)
+    ∙ sym (drop-take 73 16 (drop (i - 89) xs))
     ∙ ap (drop 73) e
     ∙ drop-drop 73 (16 * r) A
 
 -- 16 words copied from a part of the buffer to an array of 16
-pub part-out : (xs : List ℕ) (e m : ℕ) → 16 ≤ m → paste (replicate 16 0) 0 (take m (drop e xs)) 16 ≡ take 16 (drop e xs)
-part-out xs e m h = append-nil _ ∙ take-take 16 m (drop e xs) h
+pub part-out : (xs : List ℕ) (e m : ℕ) → m ≡ 16 → e + 16 ≤ length xs
+    → paste (replicate 16 0) 0 (take m (drop e xs)) (length (take m (drop e xs))) ≡ take 16 (drop e xs)
+part-out xs e m h l =
+    let n : length (take 16 (drop e xs)) ≡ 16 = length-take-le 16 (drop e xs) (rw length-drop (omega arith)) in
+    rw (h, n) (append-nil _ ∙ take-take 16 16 (drop e xs) (omega arith))
 
 -- ---- the shifts are below 64
 

@@ -28,12 +28,19 @@ const Q_WORDS: [u64; 15] = [
 ];
 
 // The shifts R and T of the 16 steps of a round.
-const SHIFTS_R: [u64; 16] = [10, 5, 13, 10, 11, 12, 2, 7, 14, 15, 7, 13, 11, 7, 6, 12];
+const SHIFTS_R: [u64; ROUND] = [10, 5, 13, 10, 11, 12, 2, 7, 14, 15, 7, 13, 11, 7, 6, 12];
 
-const SHIFTS_T: [u64; 16] = [11, 24, 9, 16, 15, 9, 27, 15, 6, 2, 29, 8, 15, 5, 31, 9];
+const SHIFTS_T: [u64; ROUND] = [11, 24, 9, 16, 15, 9, 27, 15, 6, 2, 29, 8, 15, 5, 31, 9];
 
-// The words of the buffer: a window of 89 words and 16 rounds of 16 words.
-const BUFFER: usize = 345;
+// The words of a window, and those of a round, the last of which are the output.
+pub const WINDOW: usize = 89;
+
+pub const ROUND: usize = 16;
+
+// The words of the buffer: a window, and the rounds that are written before its last words are moved to the front.
+const WRITTEN: usize = 16 * ROUND;
+
+const BUFFER: usize = WINDOW + WRITTEN;
 
 // The 15 words of Q, the first part of every window.
 pub fn q_words() -> [u64; 15]
@@ -85,21 +92,9 @@ fn round(a: &mut [u64], i: usize, s: u64)
     let rs = SHIFTS_R;
     let ts = SHIFTS_T;
     let mut j = 0;
-    while j < 16 {
+    while j < ROUND {
         put(a, i + j, s, rs[j], ts[j]);
         j += 1;
-    }
-}
-
-// Copies the first n words of src to the front of dst.
-pub fn copy(dst: &mut [u64], src: &[u64], n: usize)
-    requires { ⌜ (n ≤ length (now src)) × (n ≤ length (now dst)) ⌝ }
-    ensures { λ _. ⌜ now (dst .exit) ≡ paste (now (dst .entry)) 0 (now (src .entry)) n ⌝ }
-{
-    let mut i = 0;
-    while i < n {
-        dst[i] = src[i];
-        i += 1;
     }
 }
 
@@ -123,28 +118,28 @@ fn room(a: &mut [u64], at: usize) -> usize
     if at < BUFFER {
         at
     } else {
-        back(a, 256, 89);
-        89
+        back(a, WRITTEN, WINDOW);
+        WINDOW
     }
 }
 
 // The compression function: so many rounds on a window, with the constants of the rounds in the table.
-pub fn compress(window: &[u64; 89], table: &[u64], rounds: usize) -> [u64; 16]
+pub fn compress(window: &[u64; WINDOW], table: &[u64], rounds: usize) -> [u64; ROUND]
     requires { ⌜ RoundTable (now table) × (rounds ≤ length (now table)) ⌝ }
     ensures { λ c. ⌜ c ≡ compressed rounds (now (window .entry)) ⌝ }
 {
     let mut a = [0u64; BUFFER];
-    copy(&mut a, window, 89);
-    let mut at: usize = 89;
+    words::copy(&mut a, 0, window);
+    let mut at = WINDOW;
     let mut k = 0;
     while k < rounds {
         at = room(&mut a, at);
         round(&mut a, at, table[k]);
-        at += 16;
+        at += ROUND;
         k += 1;
     }
-    let mut c = [0u64; 16];
-    let e = at - 16;
-    copy(&mut c, &a[e..], 16);
+    let mut c = [0u64; ROUND];
+    let e = at - ROUND;
+    words::copy(&mut c, 0, &a[e..at]);
     c
 }

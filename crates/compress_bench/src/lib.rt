@@ -17,7 +17,7 @@ pub extern "C" fn md6_bench_compress(window: &[u64], rounds: usize, times: usize
         return;
     }
     let mut w = [0u64; 89];
-    compress::copy(&mut w, window, 89);
+    words::copy(&mut w, 0, window);
     let mut c = [0u64; 16];
     let mut i = 0;
     while i < times {
@@ -26,5 +26,5 @@ pub extern "C" fn md6_bench_compress(window: &[u64], rounds: usize, times: usize
         w[25] = w[25] ^ c[0];
         i += 1;
     }
-    compress::copy(out, &c, 16);
+    words::copy(out, 0, &c);
 }

@@ -63,28 +63,20 @@ fn print_all(node: usize, window: &[u64; 89], table: &[u64])
 fn window_of(k0: u64, k1: u64, u: u64, v: u64, block: &[u64; 64]) -> [u64; 89] {
     let mut w = [0u64; 89];
     let q = compress::q_words();
-    compress::copy(&mut w, &q, 15);
+    words::copy(&mut w, 0, &q);
+    words::copy(&mut w, 25, block);
     w[15] = k0;
     w[16] = k1;
     w[23] = u;
     w[24] = v;
-    let mut i = 0;
-    while i < 64 {
-        w[25 + i] = block[i];
-        i += 1;
-    }
     w
 }
 
 // The block of a node above two others: their outputs, and padding.
 fn joined(left: &[u64; 16], right: &[u64; 16]) -> [u64; 64] {
     let mut block = [0u64; 64];
-    let mut i = 0;
-    while i < 16 {
-        block[i] = left[i];
-        block[16 + i] = right[i];
-        i += 1;
-    }
+    words::copy(&mut block, 0, left);
+    words::copy(&mut block, 16, right);
     block
 }
 
@@ -139,7 +131,7 @@ fn sequential(index: usize, v: u64, chain: &[u64; 16], words: usize, table: &[u6
     requires { ⌜ RoundTable (now table) × (104 ≤ length (now table)) × (index < 3) × (words ≤ 48) ⌝ }
 {
     let mut block = [0u64; 64];
-    compress::copy(&mut block, chain, 16);
+    words::copy(&mut block, 0, chain);
     let end = 16 + words;
     fill(&mut block[16..end], 48 * index);
     let w = window_of(0, 0, 0x0100000000000000 + index as u64, v, &block);

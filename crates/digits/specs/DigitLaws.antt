@@ -14,7 +14,7 @@ use Rattle.bits.specs.Hex.{digitOf}
 use Rattle.bits.specs.HexLaws.{digit-of-hex, hex-of-digit}
 use Rattle.bits.specs.declared.hex.Digit.{Digit}
 use Rattle.bits.specs.declared.hex.Digit.the-variants.{Value, Refused}
-use Rattle.digits.specs.Digits.{hexDigits, wordDigits, withDigit, spelt, numberAt, speltWords, withWord, allSpelt}
+use Rattle.digits.specs.Digits.{hexDigits, wordDigits, withDigit, spelt, speltWords, withWord, allSpelt, bytesOf}
 
 -- a digit is four bits
 pub pow-16 : (n : ℕ) → 16 ^ n ≡ 2 ^ (4 * n)
@@ -138,9 +138,6 @@ fits-below xs [] f e = Below.none
 fits-below [] (w ∷ ws) f e = let z : _≡_ {A = ℕ} 0 1 = cc in absurd (omega arith)
 fits-below (x ∷ xs) (w ∷ ws) (one-more h f) e = Below.more (h w (cc)) (fits-below xs ws f (cc))
 
-pub number-fits : (text : List ℕ) (at n v : ℕ) → n ≤ 16 → numberAt text at n ≡ some v → v < 2 ^ 64
-number-fits text at n v h e = spelt-lt 16 v (take n (drop at text)) (rw length-take (omega arith)) e
-
 -- ---- words
 
 pub length-wordDigits : (ws : List ℕ) → length (wordDigits ws) ≡ 16 * length ws
@@ -156,7 +153,7 @@ length-speltWords (suc n) text = ap suc (length-speltWords n (drop 16 text))
 pub speltWords-fits : (n : ℕ) (text : List ℕ) → Fits (speltWords n text)
 unfolding speltWords
 speltWords-fits zero text = no-word
-speltWords-fits (suc n) text = one-more (λ v. number-fits text 0 16 v (omega arith)) (speltWords-fits n (drop 16 text))
+speltWords-fits (suc n) text = one-more (λ v. spelt-lt 16 v (take 16 text) (rw length-take (omega arith))) (speltWords-fits n (drop 16 text))
 
 -- words are read back
 pub words-back : {ws : List ℕ} (rest : List ℕ) → Below (2 ^ 64) ws → speltWords (length ws) (wordDigits ws ++ rest) ≡ map some ws
@@ -169,3 +166,17 @@ words-back rest (Below.more {w = w} {ws = ws} h hs) =
 
 pub words-exact : (n : ℕ) {ws : List ℕ} (rest : List ℕ) → Below (2 ^ 64) ws → length ws ≡ n → speltWords n (wordDigits ws ++ rest) ≡ map some ws
 words-exact n {ws} rest h e = rw (← e) (words-back rest h)
+
+-- ---- bytes
+
+pub length-bytesOf : (ds bs : List ℕ) → bytesOf ds ≡ some bs → length ds ≡ 2 * length bs
+length-bytesOf [] bs e = let k : [] ≡ bs = cc in rw (← k)
+length-bytesOf (a ∷ []) bs e = absurd (Option·none-ne-some bs e)
+length-bytesOf (a ∷ b ∷ ds) bs e = by (spelt 0 (a ∷ b ∷ [])) (bytesOf ds) (length-bytesOf ds) e
+  where
+    by : (x : Option ℕ) (o : Option (List ℕ)) → ((vs : List ℕ) → o ≡ some vs → length ds ≡ 2 * length vs) → withWord x o ≡ some bs → suc (suc (length ds)) ≡ 2 * length bs
+    by none o more e = absurd (Option·none-ne-some bs e)
+    by (some w) none more e = absurd (Option·none-ne-some bs e)
+    by (some w) (some vs) more e =
+        let k : w ∷ vs ≡ bs = cc in
+        rw (← k) (omega (arith, more vs refl))

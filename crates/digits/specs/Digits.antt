@@ -33,10 +33,6 @@ abbrev pub spelt : ℕ → List ℕ → Option ℕ
 spelt x [] = some x
 spelt x (b ∷ bs) = withDigit (digitOf b) (λ (v : ℕ). spelt (x * 16 + v) bs)
 
--- the number that n digits spell from a place of a text on
-abbrev pub numberAt : List ℕ → ℕ → ℕ → Option ℕ
-numberAt text at n = spelt 0 (take n (drop at text))
-
 -- n words of 16 digits each, each spelt or none
 unfoldable pub speltWords : ℕ → List ℕ → List (Option ℕ)
 speltWords zero text = []
@@ -51,6 +47,12 @@ withWord (some w) (some ws) = some (w ∷ ws)
 abbrev pub allSpelt : List (Option ℕ) → Option (List ℕ)
 allSpelt [] = some []
 allSpelt (w ∷ ws) = withWord w (allSpelt ws)
+
+-- the bytes that an even count of digits spells, two digits a byte, high digit first; none if a digit is refused or one is left
+abbrev pub bytesOf : List ℕ → Option (List ℕ)
+bytesOf [] = some []
+bytesOf (a ∷ []) = none
+bytesOf (a ∷ b ∷ bs) = withWord (spelt 0 (a ∷ b ∷ [])) (bytesOf bs)
 
 -- what the answer of `digits::number` says
 abbrev pub readingNumber : Reading → Option ℕ

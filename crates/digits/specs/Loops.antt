@@ -23,9 +23,6 @@ copy-more D p i h g =
     rw (add-one, drop-cons p i 0 g, set-at (take i D) (getD p i 0) (drop (suc i) p) (getD D i 0) i (length-take-le i D (omega arith)), take-suc D i 0 h)
     (sym (append-snoc (take i D) (getD D i 0) (drop (suc i) p)))
 
-pub copy-length : (D p : List ℕ) (i : ℕ) → i ≤ length D → i ≤ length p → length (take i D ++ drop i p) ≡ length p
-copy-length D p i h g = rw (length-append, length-take-le i D h, length-drop) (omega arith)
-
 pub copy-all : (D p : List ℕ) (i : ℕ) → i ≡ length D → i ≡ length p → take i D ++ drop i p ≡ D
 copy-all D p i h g = rw (take-all i D (omega arith), ap (λ (k : ℕ). drop k p) g, drop-length p) (append-nil D)
 

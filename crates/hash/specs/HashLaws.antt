@@ -1,94 +1,54 @@
--- Laws: of Hash: the numbers, which go by lengths alone, and the answers of a call that is refused or accepted.
+-- Laws: of Hash: the answers of a call that is refused or accepted, and the digest.
 use mathlib.Core.Path.{_≡_, refl, sym, ap, _∙_}
-use mathlib.Core.Bool.{Bool, true, false}
-use mathlib.Core.List.{List, _++_}
-use Prim.Native.Nat.{ℕ, zero, suc, _+_, _-_, _*_, _/_, _^_, _≤_, _<_}
-use native.Mathlib.Omega.{arith}
-use borrow.Author.Tests.{ltb-true, ltb-false, lt-ltb, le-ltb}
-use lib.Dec.{ltb}
+use mathlib.Core.Bool.{Bool, false}
+use mathlib.Core.List.{List, [], _∷_, _++_}
+use Prim.Native.Nat.{ℕ, suc, _-_, _*_, _^_, _≤_, _<_}
+use borrow.Author.Tests.{ltb-false}
 use lib.ListN.{length, drop, replicate, length-replicate}
 use Rattle.bits.specs.Bits.{bitsOf, numbers}
 use Rattle.tree.specs.Tree.{Params, Valid, bitField, keyWords, digest, order, digestBytes}
-use Rattle.tree.specs.Refusals.{pieceBits, refusedSize, refusedParams, refusedOutput}
-use Rattle.hash.specs.Hash.{hashNumber, Answer, hashAnswer, hashOf, Told, told, defaultRounds, defaultRoundsOf}
-use Rattle.node.specs.Words.{Common, common, commonOf, sized}
-use Rattle.hash.specs.Value.{rootValue}
-use Rattle.hash.specs.NodeByNode.{root-by-node}
+use Rattle.tree.specs.Refusals.{pieceBits, bitsTest, paramTests, outputTest}
+use Rattle.hash.specs.Hash.{hashNumber, Hashed, hashOf}
+use Rattle.node.specs.Words.{Common, common, commonOf}
+use Rattle.nodes.specs.Value.{rootValue}
+use Rattle.nodes.specs.NodeByNode.{root-by-node}
 use Rattle.tree.specs.Sizes.{treeNodes}
 use Rattle.tree.specs.Count.{order-nodes}
-use Rattle.tree.specs.RefusalLaws.{length-pieceBits, params-refused, params-accepted, params-ranges, Ranges}
-
--- ---- the numbers of the whole-message call
-
-pub number-over : (m : List ℕ) (bits : ℕ) (P : Params) (out : List ℕ) → ltb (8 * length m) bits ≡ true → 5 ≡ hashNumber m bits P out
-unfolding hashNumber
-number-over m bits P out e = rw e
-
-pub number-params : (m : List ℕ) (bits : ℕ) (P : Params) (out : List ℕ) → ltb (8 * length m) bits ≡ false → (refusedParams P 0 ≡ 0 → ⊥)
-    → refusedParams P 0 ≡ hashNumber m bits P out
-unfolding hashNumber
-number-params m bits P out e h = rw e (sym (params-refused P (refusedOutput (digestBytes (P .d)) out 0) h))
-
-pub number-short : (m : List ℕ) (bits : ℕ) (P : Params) (out : List ℕ) → ltb (8 * length m) bits ≡ false → refusedParams P 0 ≡ 0
-    → length out < digestBytes (P .d) → 9 ≡ hashNumber m bits P out
-unfolding hashNumber
-number-short m bits P out e h g =
-    rw e
-    (sym (params-accepted P (refusedOutput (digestBytes (P .d)) out 0) (params-ranges P h) ∙ rw (lt-ltb (length out) (digestBytes (P .d)) g)))
-
-pub number-none : (m : List ℕ) (bits : ℕ) (P : Params) (out : List ℕ) → ltb (8 * length m) bits ≡ false → refusedParams P 0 ≡ 0
-    → digestBytes (P .d) ≤ length out → 0 ≡ hashNumber m bits P out
-unfolding hashNumber
-number-none m bits P out e h g =
-    rw e
-    (sym (params-accepted P (refusedOutput (digestBytes (P .d)) out 0) (params-ranges P h) ∙ rw (le-ltb (length out) (digestBytes (P .d)) g)))
-
--- the number goes by lengths alone
-pub number-sized : (m : List ℕ) (bits : ℕ) (key : List ℕ) (d limit rounds : ℕ) (out : List ℕ)
-    → hashNumber (replicate (length m) 0) bits (sized (length key) d limit rounds) (replicate (length out) 0)
-    ≡ hashNumber m bits (record { key = key; d = d; limit = limit; rounds = rounds }) out
-unfolding hashNumber
-number-sized m bits key d limit rounds out =
-    rw (length-replicate {A = ℕ} (length m) 0, length-replicate {A = ℕ} (length key) 0, length-replicate {A = ℕ} (length out) 0)
+use Rattle.tree.specs.RefusalLaws.{length-pieceBits, passed-by, passed, InRange, ranges-passed, answer-number, answer-refused}
 
 -- what an accepted call shows
 pub record Accepted (m : List ℕ) (bits : ℕ) (P : Params) (out : List ℕ) : Type 0 where
   pub enough : bits ≤ 8 * length m
-  pub ranges : Ranges P
+  pub ranges : InRange (length (P .key)) (P .d) (P .limit) (P .rounds)
   pub room : digestBytes (P .d) ≤ length out
 
 pub number-accepted : (m : List ℕ) (bits : ℕ) (P : Params) (out : List ℕ) → hashNumber m bits P out ≡ 0 → Accepted m bits P out
 unfolding hashNumber
-number-accepted m bits P out h = go (ltb (8 * length m) bits) refl (refusedParams P 0) refl (ltb (length out) (digestBytes (P .d))) refl
-  where
-    go : (b : Bool) → ltb (8 * length m) bits ≡ b → (n : ℕ) → refusedParams P 0 ≡ n → (s : Bool) → ltb (length out) (digestBytes (P .d)) ≡ s
-        → Accepted m bits P out
-    go true e n p s q = absurd (omega (arith, number-over m bits P out e))
-    go false e (suc n) p s q =
-        let z : refusedParams P 0 ≡ 0 → ⊥ = λ w. omega (arith, w, p) in
-        absurd (omega (arith, number-params m bits P out e z, p))
-    go false e zero p true q = absurd (omega (arith, number-short m bits P out e p (ltb-true (length out) (digestBytes (P .d)) q)))
-    go false e zero p false q =
-        record { enough = ltb-false (8 * length m) bits e; ranges = params-ranges P p; room = ltb-false (length out) (digestBytes (P .d)) q }
+number-accepted m bits P out e =
+    let p = passed-by 0 (bitsTest m bits ∷ paramTests P) (outputTest (digestBytes (P .d)) out ∷ []) refl e in
+    record {
+      enough = ltb-false _ _ (p .0 0);
+      ranges = ranges-passed _ _ _ _ (λ k. p .0 (suc k));
+      room = ltb-false _ _ (passed (outputTest (digestBytes (P .d)) out ∷ []) refl (p .1) 0);
+    }
 
--- ---- the answer
-
-pub refused-answer : (m : List ℕ) (bits : ℕ) (P : Params) (out : List ℕ) (n : ℕ) → n ≡ hashNumber m bits P out → (n ≡ 0 → ⊥)
-    → record { number = n; count = 0; digest = out } ≡ hashOf m bits P out
+pub hash-number : (m : List ℕ) (bits : ℕ) (P : Params) (out : List ℕ) → hashOf m bits P out .number ≡ hashNumber m bits P out
 unfolding hashOf
-refused-answer m bits P out n e h = rw (← e) (go n h)
-  where
-    go : (n : ℕ) → (n ≡ 0 → ⊥) → _≡_ {A = Answer} (record { number = n; count = 0; digest = out }) (hashAnswer n P (pieceBits m bits) out)
-    go zero h = absurd (h refl)
-    go (suc n) h = refl
+hash-number m bits P out = answer-number (λ (x : Hashed). x .number) (hashNumber m bits P out) _ _ refl (λ k. refl)
 
-pub accepted-answer : (m : List ℕ) (bits : ℕ) (P : Params) (out : List ℕ) (count : ℕ) (written : List ℕ) → hashNumber m bits P out ≡ 0
-    → bits ≤ 8 * length m → count ≡ treeNodes (P .limit) bits → written ≡ digest P (pieceBits m bits) ++ drop (digestBytes (P .d)) out
+pub hash-refused : (m : List ℕ) (bits : ℕ) (P : Params) (out : List ℕ) (k : ℕ) → k ≡ hashNumber m bits P out → (k ≡ 0 → ⊥)
+    → record { number = k; count = 0; digest = out } ≡ hashOf m bits P out
+unfolding hashOf
+hash-refused m bits P out k = answer-refused k (hashNumber m bits P out) _ (λ k. record { number = k; count = 0; digest = out })
+
+pub hash-accepted : (m : List ℕ) (bits : ℕ) (P : Params) (out : List ℕ) (count : ℕ) (written : List ℕ) → hashNumber m bits P out ≡ 0
+    → count ≡ treeNodes (P .limit) bits → written ≡ digest P (pieceBits m bits) ++ drop (digestBytes (P .d)) out
     → record { number = 0; count = count; digest = written } ≡ hashOf m bits P out
 unfolding hashOf
-accepted-answer m bits P out count written e h c w =
+hash-accepted m bits P out count written e c w =
     let M : List Bool = pieceBits m bits in
-    let o : length (order P M) ≡ count = order-nodes P M ∙ ap (treeNodes (P .limit)) (length-pieceBits m bits h) ∙ sym c in
+    let l : length M ≡ bits = length-pieceBits m bits (number-accepted m bits P out e .enough) in
+    let o : length (order P M) ≡ count = order-nodes P M ∙ ap (treeNodes (P .limit)) l ∙ sym c in
     rw (e, o, w)
 
 -- ---- the digest
@@ -110,17 +70,3 @@ pub digest-root : (P : Params) (M : List Bool) (C : Common) (root : List ℕ) �
 digest-root P M C root v h c e =
     let b : bitsOf 64 root ≡ bitsOf 64 (rootValue (commonOf P) (P .limit) M) = ap (bitsOf 64) e ∙ ap (λ (x : Common). bitsOf 64 (rootValue x (P .limit) M)) c in
     rw (root-by-node P M v h, b)
-
--- ---- default rounds
-
-pub told-refused : (d n : ℕ) → n ≡ refusedSize d 0 → (n ≡ 0 → ⊥) → record { number = n; count = 0 } ≡ defaultRoundsOf d
-unfolding defaultRoundsOf
-told-refused d n e h = rw (← e) (go n h)
-  where
-    go : (n : ℕ) → (n ≡ 0 → ⊥) → _≡_ {A = Told} (record { number = n; count = 0 }) (told n (defaultRounds d))
-    go zero h = absurd (h refl)
-    go (suc n) h = refl
-
-pub told-accepted : (d : ℕ) → refusedSize d 0 ≡ 0 → record { number = 0; count = 40 + d / 4 } ≡ defaultRoundsOf d
-unfolding defaultRoundsOf
-told-accepted d e = rw e

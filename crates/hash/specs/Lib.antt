@@ -1,9 +1,2 @@
 pub mod Hash
-pub mod Value
-pub mod ValueLaws
-pub mod NodeByNode
-pub mod ShapeLaws
-pub mod BlockLaws
-pub mod SequentialLaws
 pub mod HashLaws
-pub mod Ready

@@ -1,21 +1,17 @@
 // The digest of a whole message, and the default rounds.
 ghost use mathlib.Core.Path.{_≡_};
 ghost use mathlib.Core.List.{_++_};
-ghost use lib.ListN.{length, drop, replicate};
+ghost use lib.ListN.{length, drop};
 ghost use Rattle.tree.specs.Tree.{digest, digestBytes};
 ghost use Rattle.tree.specs.Refusals.{pieceBits};
-ghost use Rattle.node.specs.Words.{sized};
 ghost use Rattle.hash.specs.Hash.{hashNumber, hashOf, defaultRoundsOf};
 ghost use Rattle.hash.specs.HashLaws.{Accepted};
-ghost use Rattle.hash.specs.Ready.{withKey};
+ghost use Rattle.nodes.specs.Ready.{withKey};
 use node::Answer;
 use node::Params;
 use node::count;
 use node::digest;
 use node::number;
-
-mod shape; // shape.rt: how many levels a tree has, and how many nodes each
-mod value; // value.rt: the value of a node, from the nodes one level below
 
 // Tells the default rounds for a digest size.
 pub fn default_rounds(d: u64) -> Answer
@@ -28,18 +24,19 @@ pub fn default_rounds(d: u64) -> Answer
     Answer::accepted(40 + d / 4)
 }
 
-// The number that refuses the whole-message call, and otherwise 0, for so many message bytes and output bytes.
-fn hash_number(bytes: u64, bits: u64, params: Params, out: u64) -> u64
-    ensures { λ r. ⌜ r ≡ hashNumber (replicate bytes 0) bits (sized (params .key) (params .d) (params .limit) (params .rounds)) (replicate out 0) ⌝ }
+// The number that refuses the whole-message call, and otherwise 0.
+fn hash_number(message: &[u8], bits: u64, key: &[u8], params: Params, digest: &[u8]) -> u64
+    requires { ⌜ params .key ≡ length (now key) ⌝ }
+    ensures { λ r. ⌜ r ≡ hashNumber (now (message .entry)) bits (withKey (now (key .entry)) params) (now (digest .entry)) ⌝ }
 {
-    if number::over(bits, bytes) {
+    if number::over(bits, message.len() as u64) {
         return 5;
     }
     let number = number::params_number(params);
     if number != 0 {
         return number;
     }
-    if out < (params.d + 7) / 8 {
+    if (digest.len() as u64) < (params.d + 7) / 8 {
         return 9;
     }
     0
@@ -52,7 +49,7 @@ fn put_digest(message: &[u8], bits: u64, key: &[u8], params: Params, out: &mut [
 {
     let k = digest::key_words(key);
     let table = compress::round_constants();
-    let root = value::root(message, bits, params, &k, &table);
+    let root = nodes::root(message, bits, params, &k, &table);
     digest::write_digest(&root, params.d, out);
 }
 
@@ -69,7 +66,7 @@ pub fn hash(
     ensures { λ o. ⌜ record { number = o .number; count = o .count; digest = now (digest .exit) } ≡ hashOf (now (message .entry)) bits (record { key = now (key .entry); d = d; limit = limit; rounds = rounds }) (now (digest .entry)) ⌝ }
 {
     let params = Params::new(key.len() as u64, d, limit, rounds);
-    let number = hash_number(message.len() as u64, bits, params, digest.len() as u64);
+    let number = hash_number(message, bits, key, params, digest);
     if number != 0 {
         return Answer::refused(number);
     }

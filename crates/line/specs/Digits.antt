@@ -1,14 +1,10 @@
--- Laws: the test for a decimal digit, and the values of hexadecimal digits.
-use mathlib.Core.Path.{_≡_, refl, sym, _∙_}
+-- Laws: the test for a decimal digit.
+use mathlib.Core.Path.{_≡_, refl}
 use mathlib.Core.Bool.{Bool, true, false, _&&_, false≢true}
 use Prim.Native.Nat.{ℕ, _≤_, _<_}
 use native.Mathlib.Omega.{arith}
 use borrow.Author.Tests.{le-leb, lt-leb, leb-true}
 use lib.Dec.{leb}
-use Rattle.bits.specs.Hex.{digitOf}
-use Rattle.bits.specs.HexLaws.{hex-of-digit}
-use Rattle.bits.specs.declared.hex.Digit.{Digit}
-use Rattle.bits.specs.declared.hex.Digit.the-variants.{Value}
 use Rattle.line.specs.Line.{isDecimal}
 
 pub decimal-yes : (b : ℕ) → 48 ≤ b → b < 58 → isDecimal b ≡ true
@@ -34,7 +30,3 @@ decimal-at-most b e = by (leb 48 b) (leb b 57) refl e
     by true true p q = leb-true b 57 p
     by true false p q = absurd (false≢true q)
     by false t p q = absurd (false≢true q)
-
--- the value of a hexadecimal digit
-pub value-below : (b n : ℕ) {v : Digit} → v ≡ digitOf b → v ≡ Value n → n < 16
-value-below b n p q = hex-of-digit b n (sym p ∙ q) .0

@@ -6,12 +6,10 @@ use mathlib.Core.Option.{Option, none, some}
 use Prim.Native.Nat.{ℕ, _+_, _-_, _*_, _%_, min}
 use lib.Dec.{ltb, eqb}
 use lib.ListN.{set, replicate, length, take}
-use Rattle.bits.specs.Hex.{digitOf}
-use Rattle.line.specs.Line.{isDecimal, byteOf, Line}
+use Rattle.digits.specs.Digits.{spelt}
+use Rattle.line.specs.Line.{isDecimal, Line}
 use Rattle.line.specs.declared.Rounds.{Rounds}
 use Rattle.line.specs.declared.Rounds.the-variants.{Default, Given}
-use Rattle.line.specs.declared.Pair.{Pair}
-use Rattle.line.specs.declared.Pair.the-variants.{Byte, NoByte}
 use Rattle.line.specs.declared.Field.{Field}
 use Rattle.line.specs.declared.Field.the-variants.{Digest as InDigest, Limit as InLimit, Rounds as InRounds, Key as InKey, Past}
 use Rattle.line.specs.declared.Number.{Number}
@@ -48,14 +46,14 @@ abbrev pub putByte : List ℕ → ℕ → ℕ → Key
 putByte bytes n x =
     cond (ltb n keptBytes) (record { pairs = Whole (n + 1); bytes = set bytes n x }) (record { pairs = Whole n; bytes = bytes })
 
-abbrev pub putPair : List ℕ → ℕ → Pair → Key
-putPair bytes n (Byte x) = putByte bytes n x
-putPair bytes n NoByte = record { pairs = WrongPairs; bytes = bytes }
+abbrev pub putPair : List ℕ → ℕ → Option ℕ → Key
+putPair bytes n (some x) = putByte bytes n x
+putPair bytes n none = record { pairs = WrongPairs; bytes = bytes }
 
 -- one byte more of the key's field: two bytes are looked at together, so the first of them only waits for the second
 abbrev pub pushPairs : Pairs → List ℕ → ℕ → Key
 pushPairs (Whole n) bytes b = record { pairs = Half n b; bytes = bytes }
-pushPairs (Half n a) bytes b = putPair bytes n (byteOf (digitOf a) (digitOf b))
+pushPairs (Half n a) bytes b = putPair bytes n (spelt 0 (a ∷ b ∷ []))
 pushPairs WrongPairs bytes b = record { pairs = WrongPairs; bytes = bytes }
 
 abbrev pub pushKey : Key → ℕ → Key

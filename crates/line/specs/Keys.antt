@@ -9,11 +9,9 @@ use borrow.Author.Tests.{ltb-true, ltb-false, le-leb, ne-eqb}
 use lib.Dec.{ltb, eqb}
 use lib.ListN.{length, take, set, replicate, length-append, length-take}
 use lib.Seq.{take-all, take-at, set-at, append-snoc, take-append-le}
-use Rattle.bits.specs.Hex.{digitOf}
-use Rattle.line.specs.Line.{byteOf, prepend, bytesOf, keyOf}
+use Rattle.digits.specs.Digits.{spelt, withWord, bytesOf}
+use Rattle.line.specs.Line.{keyOf}
 use Rattle.line.specs.Fold.{keptBytes, keptOf, putByte, putPair, pushKey, keyBytesIn}
-use Rattle.line.specs.declared.Pair.{Pair}
-use Rattle.line.specs.declared.Pair.the-variants.{Byte, NoByte}
 use Rattle.line.specs.declared.Pairs.the-variants.{Whole, Half, Wrong}
 use Rattle.line.specs.declared.Key.{Key}
 
@@ -82,7 +80,7 @@ abbrev Rest : Key → List ℕ → Option (List ℕ) → Type 0
 Rest k key none = keyBytesIn (k .pairs) ≡ none
 Rest k key (some more) = k ≡ keyed (key ++ more)
 
-one-more : (k : Key) (key : List ℕ) (x : ℕ) (o : Option (List ℕ)) → Rest k (key ++ (x ∷ [])) o → Rest k key (prepend (Byte x) o)
+one-more : (k : Key) (key : List ℕ) (x : ℕ) (o : Option (List ℕ)) → Rest k (key ++ (x ∷ [])) o → Rest k key (withWord (some x) o)
 one-more k key x none h = h
 one-more k key x (some more) h = h ∙ ap keyed (append-snoc key x more)
 
@@ -92,15 +90,15 @@ more-pairs (a ∷ []) key h =
     let e : min (length key) 65 ≡ 0 → ⊥ = omega arith in
     rw (ne-eqb (min (length key) 65) 0 e)
 more-pairs (a ∷ b ∷ bs) key h =
-    by (byteOf (digitOf a) (digitOf b)) (λ (x : ℕ). more-pairs bs (key ++ (x ∷ [])) (simp length-append (omega arith)))
+    by (spelt 0 (a ∷ b ∷ [])) (λ (x : ℕ). more-pairs bs (key ++ (x ∷ [])) (simp length-append (omega arith)))
   where
-    by : (p : Pair) → ((x : ℕ) → Rest (pushKeys (keyed (key ++ (x ∷ []))) bs) (key ++ (x ∷ [])) (bytesOf bs))
-        → Rest (pushKeys (putPair (keptOf key) (min (length key) keptBytes) p) bs) key (prepend p (bytesOf bs))
-    by NoByte ih = stays-wrong (keptOf key) bs
-    by (Byte x) ih = rw (put key x) (one-more (pushKeys (keyed (key ++ (x ∷ []))) bs) key x (bytesOf bs) (ih x))
+    by : (p : Option ℕ) → ((x : ℕ) → Rest (pushKeys (keyed (key ++ (x ∷ []))) bs) (key ++ (x ∷ [])) (bytesOf bs))
+        → Rest (pushKeys (putPair (keptOf key) (min (length key) keptBytes) p) bs) key (withWord p (bytesOf bs))
+    by none ih = stays-wrong (keptOf key) bs
+    by (some x) ih = rw (put key x) (one-more (pushKeys (keyed (key ++ (x ∷ []))) bs) key x (bytesOf bs) (ih x))
 
 -- a key of at least one byte
-says-some : (k : Key) (x : ℕ) (o : Option (List ℕ)) → Rest k (x ∷ []) o → SaysKey k (prepend (Byte x) o)
+says-some : (k : Key) (x : ℕ) (o : Option (List ℕ)) → Rest k (x ∷ []) o → SaysKey k (withWord (some x) o)
 says-some k x none h = h
 says-some k x (some more) h =
     let n : min (suc (length more)) 65 ≡ 0 → ⊥ = omega arith in
@@ -118,11 +116,11 @@ key-field (a ∷ []) = by (eqb a 45) refl
     by : (t : Bool) → eqb a 45 ≡ t → SaysKey (record { pairs = Half 0 a; bytes = replicate keptBytes 0 }) (cond t (some []) none)
     by true e = (rw e, refl)
     by false e = rw e
-key-field (a ∷ b ∷ bs) = rw (le-leb 1 (suc (suc (length bs))) (omega arith)) (by (byteOf (digitOf a) (digitOf b)))
+key-field (a ∷ b ∷ bs) = rw (le-leb 1 (suc (suc (length bs))) (omega arith)) (by (spelt 0 (a ∷ b ∷ [])))
   where
-    by : (p : Pair) → SaysKey (pushKeys (putPair (replicate keptBytes 0) 0 p) bs) (prepend p (bytesOf bs))
-    by NoByte = stays-wrong (replicate keptBytes 0) bs
-    by (Byte x) = says-some (pushKeys (keyed (x ∷ [])) bs) x (bytesOf bs) (more-pairs bs (x ∷ []) (omega arith))
+    by : (p : Option ℕ) → SaysKey (pushKeys (putPair (replicate keptBytes 0) 0 p) bs) (withWord p (bytesOf bs))
+    by none = stays-wrong (replicate keptBytes 0) bs
+    by (some x) = says-some (pushKeys (keyed (x ∷ [])) bs) x (bytesOf bs) (more-pairs bs (x ∷ []) (omega arith))
 
 -- the bytes that are counted are the key's first 65
 pub counted : (key : List ℕ) → take (min (length key) keptBytes) (keptOf key) ≡ take keptBytes key

@@ -8,13 +8,9 @@ use mathlib.Core.Option.{Option, none, some}
 use Prim.Native.Nat.{ℕ, _+_, _-_, _*_}
 use lib.Dec.{leb, eqb}
 use lib.ListN.{length}
-use Rattle.bits.specs.Hex.{digitOf}
-use Rattle.bits.specs.declared.hex.Digit.{Digit}
-use Rattle.bits.specs.declared.hex.Digit.the-variants.{Value, Refused}
+use Rattle.digits.specs.Digits.{bytesOf}
 use Rattle.line.specs.declared.Rounds.{Rounds}
 use Rattle.line.specs.declared.Rounds.the-variants.{Default, Given}
-use Rattle.line.specs.declared.Pair.{Pair}
-use Rattle.line.specs.declared.Pair.the-variants.{Byte, NoByte}
 
 -- what a readable line says; the key is its bytes, however many
 pub record Line : Type 0 where
@@ -60,23 +56,6 @@ given (some r) = some (Given r)
 
 abbrev pub roundsOf : List ℕ → Option Rounds
 roundsOf f = cond (isDash f) (some Default) (given (numberOf f))
-
--- the byte of two digits, high digit first
-abbrev pub byteOf : Digit → Digit → Pair
-byteOf (Value h) (Value l) = Byte (h * 16 + l)
-byteOf (Value h) Refused = NoByte
-byteOf Refused l = NoByte
-
-abbrev pub prepend : Pair → Option (List ℕ) → Option (List ℕ)
-prepend NoByte xs = none
-prepend (Byte x) none = none
-prepend (Byte x) (some xs) = some (x ∷ xs)
-
--- the bytes that an even count of digits spells, two digits a byte
-abbrev pub bytesOf : List ℕ → Option (List ℕ)
-bytesOf [] = some []
-bytesOf (a ∷ []) = none
-bytesOf (a ∷ b ∷ bs) = prepend (byteOf (digitOf a) (digitOf b)) (bytesOf bs)
 
 -- "- for none"; an empty run of digits is no key
 abbrev pub keyOf : List ℕ → Option (List ℕ)

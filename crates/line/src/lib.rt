@@ -1,22 +1,13 @@
 // The program's first line, read byte by byte: a state by value and a step for each byte, so that a line of any length needs
 // fixed memory. No function asks anything of a state: the contracts hold of every value that a State may have.
-use bits::hex::Digit;
 ghost use mathlib.Core.Path.{_≡_};
 ghost use mathlib.Core.Option.{some};
-ghost use Rattle.bits.specs.Hex.{digitOf};
-ghost use Rattle.line.specs.Line.{byteOf};
 ghost use Rattle.line.specs.Fold.{nextField, pushNumber, putByte, pushKey, start, spaceOf, pushAt, stepOf, readingOf, readFields, keyBytesIn};
 
 // The rounds that a line names: `-` for the default, or a number.
 pub enum Rounds {
     Default,
     Given(u64),
-}
-
-// What two bytes are as hexadecimal digits: a byte, the high digit first, or none.
-enum Pair {
-    Byte(u8),
-    NoByte,
 }
 
 // The field that the next byte belongs to; Past behind a fourth space.
@@ -68,19 +59,6 @@ pub enum Reading {
         rounds: Rounds,
         key_bytes: usize,
     },
-}
-
-// The byte that two digits spell.
-fn two_digits(high: u8, low: u8) -> Pair
-    ensures { λ r. ⌜ r ≡ byteOf (digitOf high) (digitOf low) ⌝ }
-{
-    let Digit::Value(h) = bits::hex::digit_value(high) else {
-        return Pair::NoByte;
-    };
-    let Digit::Value(l) = bits::hex::digit_value(low) else {
-        return Pair::NoByte;
-    };
-    Pair::Byte((h * 16 + l) as u8)
 }
 
 impl Field {
@@ -165,13 +143,16 @@ impl Key {
                 pairs: Pairs::Half(n, b),
                 bytes,
             },
-            Pairs::Half(n, a) => match two_digits(a, b) {
-                Pair::Byte(x) => Key::put(bytes, n, x),
-                Pair::NoByte => Key {
-                    pairs: Pairs::Wrong,
-                    bytes,
-                },
-            },
+            Pairs::Half(n, a) => {
+                let two = [a, b];
+                match digits::number(&two) {
+                    digits::Reading::Number(x) => Key::put(bytes, n, x as u8),
+                    digits::Reading::NoDigit => Key {
+                        pairs: Pairs::Wrong,
+                        bytes,
+                    },
+                }
+            }
             Pairs::Wrong => Key {
                 pairs: Pairs::Wrong,
                 bytes,

@@ -9,3 +9,4 @@ pub mod Paste
 pub mod Replicate
 pub mod Slices
 pub mod Table
+pub mod Take

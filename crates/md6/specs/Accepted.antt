@@ -4,29 +4,26 @@ use mathlib.Core.Path.{_≡_, refl, sym, ap, _∙_}
 use mathlib.Core.List.{List, [], _∷_, _++_, flatten}
 use Prim.Native.Nat.{ℕ, _*_, _≤_}
 use native.Mathlib.Omega.{arith}
-use lib.Dec.{ltb}
 use lib.ListN.{length, take, drop}
 use lib.Seq.{take-at}
 use Rattle.bits.specs.BitsLaws.{length-numbers}
 use Rattle.tree.specs.Tree.{Params, Node, lastOr, noNode, digestBytes, rootDigest}
-use Rattle.tree.specs.Refusals.{pieceBits, refusedParams}
-use Rattle.area.specs.Area.{areaWords, paramsOf}
-use Rattle.area.specs.Calls.{Opened, Fed, Finished, openNumber, openOf, fedBits, feedNumber, feedOf, closedBy, endNumber, endOf, digestOut, nodeLog, logged, logWordsOf}
-use Rattle.tree.specs.RefusalLaws.{test-passed, params-ranges}
-use Rattle.area.specs.CallLaws.{open-number, feed-number, feed-accepted, feed-passed, end-number, end-accepted, end-passed}
+use Rattle.tree.specs.Refusals.{pieceBits}
+use Rattle.area.specs.Area.{paramsOf}
+use Rattle.area.specs.Calls.{Opened, Fed, Finished, openOf, fedBits, feedNumber, feedOf, closedBy, endNumber, endOf, digestOut, nodeLog, logged, logWordsOf}
+use Rattle.tree.specs.RefusalLaws.{in-range}
+use Rattle.area.specs.CallLaws.{open-number, open-passed, feed-number, feed-accepted, feed-passed, end-number, end-accepted, end-passed}
 use Rattle.area.specs.Accepts.{told-enough}
 use Rattle.print.specs.Print.{nodeLine, nodeLines}
 use Rattle.md6.specs.Lines.{linesOf}
 
 -- ---- open
 
-params-size : (area : List ℕ) (P : Params) → openNumber area P ≡ 0 → P .d ≤ 512
-unfolding openNumber
-params-size area P e = params-ranges P (test-passed (ltb (length area) areaWords) 6 (refusedParams P 0) e .1) .dHigh
-
 -- a digest has at most 512 bits
 pub open-size : {number count : ℕ} {area′ : List ℕ} (area : List ℕ) (P : Params) → record { number = number; count = count; area = area′ } ≡ openOf area P → number ≡ 0 → P .d ≤ 512
-open-size area P e z = params-size area P (sym (open-number area P) ∙ sym (ap (λ (o : Opened). o .number) e) ∙ z)
+open-size area P e z =
+    let p = open-passed area P (sym (open-number area P) ∙ sym (ap (λ (o : Opened). o .number) e) ∙ z) in
+    in-range (length (P .key)) (P .d) (P .limit) (P .rounds) (p .1) .dHigh
 
 -- ---- the lines of nodes
 

@@ -2,7 +2,6 @@
 ghost use mathlib.Core.Path.{_≡_};
 ghost use Prim.Native.Nat.{_+_, _-_, _*_, _≤_, _<_, _^_};
 ghost use lib.ListN.{length, replicate};
-ghost use lib.Seq.{paste};
 ghost use Rattle.compress.specs.Compress.{RoundTable, compressed, windowOf};
 ghost use Rattle.tree.specs.Tree.{blockBits, sequentialBits, mostLevels, nodeU, nodeV};
 ghost use Rattle.node.specs.Words.{sized};
@@ -20,6 +19,15 @@ pub struct Params {
 }
 
 impl Params {
+    // The most bytes of a key, bits of a digest, height limit and rounds.
+    pub const MOST_KEY_BYTES: u64 = 64;
+
+    pub const MOST_DIGEST_BITS: u64 = 512;
+
+    pub const MOST_LIMIT: u64 = 64;
+
+    pub const MOST_ROUNDS: u64 = 255;
+
     // The most levels of a tree.
     pub const LEVELS: u64 = 27;
 
@@ -121,18 +129,6 @@ pub fn node_v(params: Params, z: u64, p: u64) -> u64
     ((high * 65536 + p) * 256 + params.key) * 4096 + params.d
 }
 
-// Copies all words of src into dst from a place on.
-pub fn put_words(dst: &mut [u64], at: usize, src: &[u64])
-    requires { ⌜ at + length (now src) ≤ length (now dst) ⌝ }
-    ensures { λ _. ⌜ now (dst .exit) ≡ paste (now (dst .entry)) at (now (src .entry)) (length (now (src .entry))) ⌝ }
-{
-    let mut i = 0;
-    while i < src.len() {
-        dst[at + i] = src[i];
-        i += 1;
-    }
-}
-
 // The 16 words of a node: the window is Q, K, U, V and the block.
 pub fn compress_node(
     k: &[u64],
@@ -147,10 +143,10 @@ pub fn compress_node(
 {
     let q = compress::q_words();
     let mut window = [0u64; 89];
-    put_words(&mut window, 0, &q);
-    put_words(&mut window, 15, k);
+    words::copy(&mut window, 0, &q);
+    words::copy(&mut window, 15, k);
     window[23] = u;
     window[24] = v;
-    put_words(&mut window, 25, block);
+    words::copy(&mut window, 25, block);
     compress::compress(&window, table, rounds)
 }

@@ -2,8 +2,7 @@
 ghost use mathlib.Core.Path.{_≡_};
 ghost use Prim.Native.Nat.{_*_};
 ghost use lib.Dec.{ltb};
-ghost use Rattle.tree.specs.Refusals.{refusedSize, refusedParams};
-ghost use Rattle.node.specs.Words.{sized};
+ghost use Rattle.tree.specs.Refusals.{firstRefusal, sizeTests, rangeTests};
 use super::Params;
 
 // Whether a bit count is over 8 times the bytes given, by division: 8 times the bytes may pass 2^64.
@@ -15,12 +14,12 @@ pub fn over(bits: u64, bytes: u64) -> bool
 
 // 1 for a digest size that is not 1 to 512, and otherwise 0.
 pub fn size_number(d: u64) -> u64
-    ensures { λ r. ⌜ r ≡ refusedSize d 0 ⌝ }
+    ensures { λ r. ⌜ r ≡ firstRefusal (sizeTests d) ⌝ }
 {
     if d < 1 {
         return 1;
     }
-    if 512 < d {
+    if Params::MOST_DIGEST_BITS < d {
         return 1;
     }
     0
@@ -28,19 +27,19 @@ pub fn size_number(d: u64) -> u64
 
 // The number that refuses parameters, and otherwise 0: by the digest size, the key's bytes, the height limit, the rounds.
 pub fn params_number(params: Params) -> u64
-    ensures { λ r. ⌜ r ≡ refusedParams (sized (params .key) (params .d) (params .limit) (params .rounds)) 0 ⌝ }
+    ensures { λ r. ⌜ r ≡ firstRefusal (rangeTests (params .key) (params .d) (params .limit) (params .rounds)) ⌝ }
 {
     let size = size_number(params.d);
     if size != 0 {
         return size;
     }
-    if 64 < params.key {
+    if Params::MOST_KEY_BYTES < params.key {
         return 2;
     }
-    if 64 < params.limit {
+    if Params::MOST_LIMIT < params.limit {
         return 3;
     }
-    if 255 < params.rounds {
+    if Params::MOST_ROUNDS < params.rounds {
         return 4;
     }
     0

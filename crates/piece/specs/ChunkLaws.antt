@@ -3,7 +3,7 @@
 use mathlib.Core.Path.{_≡_, refl, sym, ap, _∙_}
 use mathlib.Core.Bool.{Bool}
 use mathlib.Core.List.{List, [], _∷_, _++_}
-use Prim.Native.Nat.{ℕ, _+_, _-_, _*_, _^_, _≤_, _<_, suc}
+use Prim.Native.Nat.{ℕ, _+_, _-_, _*_, _^_, _≤_, suc}
 use native.Mathlib.Omega.{arith}
 use lib.ListN.{length, take, drop, set, length-append}
 use lib.Seq.{sets, take-add, length-sets, length-take-le}
@@ -13,42 +13,44 @@ use Rattle.bits.specs.Bits.{bitsOf, filled}
 use Rattle.bits.specs.BitsLaws.{length-bitsOf}
 use Rattle.bits.specs.FilledLaws.{length-filled}
 use Rattle.tree.specs.Tree.{Params, Node}
-use Rattle.area.specs.Area.{areaWords, levelWords, levelsFrom, levelsOf, withLevels, heldBits}
+use Rattle.area.specs.Area.{Long, levelWords, levelsUp, levelsOf, withLevels, heldBits}
 use Rattle.area.specs.Calls.{Made, feedBits, nodeLog}
 use Rattle.area.specs.Machine
-use Rattle.area.specs.AreaLaws.{length-withLevels, levelsOf-withLevels}
+use Rattle.area.specs.AreaLaws.{length-levelWords, length-withLevels, levelsOf-withLevels}
 use Rattle.area.specs.CallLaws.{length-nodeLog, nodeLog-append}
 use Rattle.area.specs.FeedLaws.{feedBits-append, withLevels-same}
 use Rattle.area.specs.WriteLaws.{withLevels-again}
-use Rattle.climb.specs.Levels.{withLevel, low₁, high₁, levels-split, with-first, length-level}
+use Rattle.climb.specs.Levels.{withLevel, levels-split, with-first}
 use Rattle.climb.specs.ReceiveLaws.{made}
 use Rattle.climb.specs.FlushLaws.{flushed, Leaves, le-at}
-use Rattle.piece.specs.FeedSteps.{sizeOf, baseOf, firstOf, restOf, roomOf, room-free, room-full, held-le, chunk, full-chunk}
+use Rattle.piece.specs.FeedSteps.{sizeOf, baseOf, firstOf, restOf, freeOf, roomOf, free-place, room-full, held-le, chunk, full-chunk}
 use Rattle.piece.specs.Widths.{Wide, wide-levels, wide-bits, wide-flushed}
 
 -- ---- a chunk
 
 module _ (P : Params) (limit : ℕ) (same : P .limit ≡ limit) (T start count : ℕ) (area log bytes : List ℕ) (at : ℕ)
-    (long : areaWords ≤ length area) (below : Below (2 ^ 64) area) (inside : start + count ≤ 8 * length bytes) where
+    (long : Long area) (below : Below (2 ^ 64) area) (inside : start + count ≤ 8 * length bytes) where
   abbrev fedNow : Made
   fedNow = feedBits P T (take count (drop start (bitsOf 8 bytes))) (levelsOf area)
 
   level-size : length (levelWords area 1) ≡ 64
-  level-size = length-level area 1 long low₁ high₁
+  level-size = length-levelWords area 1 long (omega arith)
 
-  pub chunk-free : (area′ : List ℕ) → heldBits (sizeOf limit) T < sizeOf limit → count ≤ roomOf limit T
-      → area′ ≡ withLevel area 1 (filled (levelWords area 1) (baseOf limit + heldBits (sizeOf limit) T) bytes start count)
+  pub chunk-free : (area′ : List ℕ) (free : ℕ) → free ≡ freeOf limit T → count ≤ free
+      → area′ ≡ withLevel area 1 (filled (levelWords area 1) (4096 - free) bytes start count)
       → Leaves fedNow area log at area′ log at
-  chunk-free area′ h g ea =
+  chunk-free area′ free f g ea =
       let ws : List ℕ = levelWords area 1 in
       let place : ℕ = baseOf limit + heldBits (sizeOf limit) T in
-      let fits : heldBits (sizeOf (P .limit)) T + count ≤ sizeOf (P .limit) = rw same (omega (arith, room-free limit T h)) in
-      let c : fedNow ≡ made (filled ws place bytes start count ∷ levelsFrom area 26 2) [] =
+      let fits : heldBits (sizeOf (P .limit)) T + count ≤ sizeOf (P .limit) = rw same (omega (arith, held-le limit T)) in
+      let e = ap (λ (x : ℕ). withLevel area 1 (filled ws (4096 - x) bytes start count)) f
+      ∙ ap (λ (x : ℕ). withLevel area 1 (filled ws x bytes start count)) (free-place limit T) in
+      let c : fedNow ≡ made (filled ws place bytes start count ∷ levelsUp area 2) [] =
       ap (feedBits P T (take count (drop start (bitsOf 8 bytes)))) (levels-split area)
-      ∙ chunk P count T start ws bytes (levelsFrom area 26 2) (below-take 64 (below-drop 16 below)) level-size fits inside
+      ∙ chunk P count T start ws bytes (levelsUp area 2) (below-take 64 (below-drop 16 below)) level-size fits inside
       ∙ rw same in
       let l : length (filled ws place bytes start count) ≡ 64 = length-filled ws place bytes start count ∙ level-size in (
-        ea ∙ sym (with-first area (filled ws place bytes start count) long l) ∙ sym (ap (λ (x : Made). withLevels area (x .levels)) c),
+        ea ∙ e ∙ sym (with-first area (filled ws place bytes start count) long l) ∙ sym (ap (λ (x : Made). withLevels area (x .levels)) c),
         sym (ap (λ (x : Made). sets log at (nodeLog (x .nodes))) c),
         omega (arith, ap (λ (x : Made). at + 2 * length (x .nodes)) c),
       )
@@ -56,14 +58,14 @@ module _ (P : Params) (limit : ℕ) (same : P .limit ≡ limit) (T start count :
   abbrev flushedNow : Made
   flushedNow = flushed P limit T (levelsOf area)
 
-  module _ (full : sizeOf limit ≤ heldBits (sizeOf limit) T) (some : 1 ≤ count) (most : count ≤ roomOf limit T) where
+  module _ (full : freeOf limit T ≤ 0) (some : 1 ≤ count) (most : count ≤ roomOf limit T) where
     full-is : fedNow ≡ made (filled (firstOf (flushedNow .levels)) (baseOf limit) bytes start count ∷ restOf (flushedNow .levels)) (flushedNow .nodes)
     full-is =
         let ws : List ℕ = levelWords area 1 in
         let e : heldBits (sizeOf (P .limit)) T ≡ sizeOf (P .limit) = rw same (omega (arith, held-le limit T)) in
         let m : count ≤ sizeOf (P .limit) = rw same (omega (arith, room-full limit T full)) in
         ap (feedBits P T (take count (drop start (bitsOf 8 bytes)))) (levels-split area)
-        ∙ full-chunk P count T start ws bytes (levelsFrom area 26 2) e some m inside
+        ∙ full-chunk P count T start ws bytes (levelsUp area 2) e some m inside
         ∙ rw (same, levels-split area)
 
     pub chunk-room : (room : ℕ) → at + 2 * length (fedNow .nodes) ≤ room → at + 2 * length (flushedNow .nodes) ≤ room
@@ -76,12 +78,12 @@ module _ (P : Params) (limit : ℕ) (same : P .limit ≡ limit) (T start count :
         let ea = ef ∙ ap (λ (x : ℕ). withLevel area₁ 1 (filled (levelWords area₁ 1) x bytes start count)) ep in
         let s = wide-flushed P limit T (levelsOf area) (wide-levels area long) in
         let back : levelsOf area₁ ≡ flushedNow .levels = ap levelsOf (F .0) ∙ levelsOf-withLevels area (flushedNow .levels) long (s .widths) (s .size) in
-        let both : levelWords area₁ 1 ∷ levelsFrom area₁ 26 2 ≡ flushedNow .levels = sym (levels-split area₁) ∙ back in
+        let both : levelWords area₁ 1 ∷ levelsUp area₁ 2 ≡ flushedNow .levels = sym (levels-split area₁) ∙ back in
         let w : levelWords area₁ 1 ≡ firstOf (flushedNow .levels) = ap firstOf both in
-        let u : levelsFrom area₁ 26 2 ≡ restOf (flushedNow .levels) = ap restOf both in
-        let long₁ : areaWords ≤ length area₁ = rw (F .0, length-withLevels area (flushedNow .levels) long (s .widths) (s .size)) long in
+        let u : levelsUp area₁ 2 ≡ restOf (flushedNow .levels) = ap restOf both in
+        let long₁ : Long area₁ = rw (F .0, length-withLevels area (flushedNow .levels) long (s .widths) (s .size)) long in
         let new : List ℕ = filled (levelWords area₁ 1) (baseOf limit) bytes start count in
-        let l : length new ≡ 64 = length-filled (levelWords area₁ 1) (baseOf limit) bytes start count ∙ length-level area₁ 1 long₁ low₁ high₁ in
+        let l : length new ≡ 64 = length-filled (levelWords area₁ 1) (baseOf limit) bytes start count ∙ length-levelWords area₁ 1 long₁ (omega arith) in
         let L : List (List ℕ) = filled (firstOf (flushedNow .levels)) (baseOf limit) bytes start count ∷ restOf (flushedNow .levels) in (
           ea ∙ sym (with-first area₁ new long₁ l)
               ∙ ap (λ (x : List (List ℕ)). withLevels area₁ (new ∷ x)) u ∙ ap (λ (x : List ℕ). withLevels area₁ (filled x (baseOf limit) bytes start count ∷ restOf (flushedNow .levels))) w
@@ -122,7 +124,7 @@ feeding-none P T bytes bits area log =
     }
 
 module _ {P : Params} {T : ℕ} {bytes : List ℕ} {bits : ℕ} {area₀ log₀ area log : List ℕ} {at done : ℕ}
-    (f : Feeding P T bytes bits area₀ log₀ area log at done) (long : areaWords ≤ length area₀) (inside : bits ≤ 8 * length bytes) where
+    (f : Feeding P T bytes bits area₀ log₀ area log at done) (long : Long area₀) (inside : bits ≤ 8 * length bytes) where
   abbrev before : Made
   before = feedBits P T (take done (bitsOf 8 bytes)) (levelsOf area₀)
 
@@ -161,7 +163,7 @@ module _ {P : Params} {T : ℕ} {bytes : List ℕ} {bits : ℕ} {area₀ log₀ 
   feeding-more c area′ log′ at′ h F =
       let bs : List Bool = take c (drop done (bitsOf 8 bytes)) in
       let C : Made = feedBits P (T + done) bs (levelsOf area) in
-      let longer : areaWords ≤ length area = le-at refl (sym (f .area-length)) long in
+      let longer : Long area = le-at refl (sym (f .area-length)) long in
       let w = wide-bits P (T + done) bs (levelsOf area) (wide-levels area longer) in
       let la = ap length (F .0) ∙ length-withLevels area (C .levels) longer (w .widths) (w .size) in
       let ll = ap length (F .1) ∙ length-sets log at (nodeLog (C .nodes)) in

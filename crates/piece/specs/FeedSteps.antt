@@ -19,6 +19,7 @@ use Rattle.bits.specs.FilledLaws.{length-filled, filled-below, filled-more}
 use Rattle.tree.specs.Tree.{Params, Node, node, output, blockBits, sequentialBits}
 use Rattle.area.specs.Area.{emptyLevel, doneBlocks, heldBits}
 use Rattle.area.specs.Calls.{Made, withBit, outWords, feedBit, feedBits}
+use Rattle.area.specs.Blocks.{held-most, held-first}
 use Rattle.area.specs.FeedLaws.{withBits-filled, fill-parallel, fill-sequential}
 use Rattle.area.specs.Machine
 use Rattle.climb.specs.Levels.{length-empty}
@@ -36,15 +37,14 @@ baseOf limit = blockBits - sizeOf limit
 
 -- ---- numbers
 
+pub size-pos : (limit : ℕ) → (0 < sizeOf limit) × (sizeOf limit ≤ 4096)
+size-pos zero = (omega arith, omega arith)
+size-pos (suc n) = (omega arith, omega arith)
+
 pub held-le : (limit T : ℕ) → heldBits (sizeOf limit) T ≤ sizeOf limit
-held-le zero T = omega arith
-held-le (suc n) T = omega arith
+held-le limit T = held-most (sizeOf limit) (size-pos limit .0) T
 
-held-first : (limit T : ℕ) → heldBits (sizeOf limit) T ≡ sizeOf limit → heldBits (sizeOf limit) (suc T) ≡ 1
-held-first zero T h = omega arith
-held-first (suc n) T h = omega arith
-
-base-size : (limit : ℕ) → baseOf limit + sizeOf limit ≡ 4096
+base-size : (limit : ℕ) → baseOf limit + sizeOf limit ≡ blockBits
 base-size zero = refl
 base-size (suc n) = refl
 
@@ -119,12 +119,12 @@ module _ (P : Params) where
       let at : ℕ = baseOf (P .limit) in
       let b : Bool = getD (bitsOf 8 bytes) start false in
       let bs : List Bool = take c (drop (suc start) (bitsOf 8 bytes)) in
-      let room : at + S ≡ 4096 = base-size (P .limit) in
+      let room : at + S ≡ blockBits = base-size (P .limit) in
       let lw : length W ≡ 64 = first-size P (P .limit) T ws up in
       let one : withBit at b W ≡ filled W at bytes start 1 = bit-filled W at bytes start (first-below P (P .limit) T ws up) (omega arith) (omega arith) in
       let full : feedBit P (P .limit) T b (ws ∷ up) ≡ made (filled W at bytes start 1 ∷ restOf (F .levels)) (F .nodes) =
       bit-full T b ws up e ∙ ap (λ (x : List ℕ). made (x ∷ restOf (F .levels)) (F .nodes)) one in
-      let next : heldBits S (suc T) ≡ 1 = held-first (P .limit) T e in
+      let next : heldBits S (suc T) ≡ 1 = held-first S (size-pos (P .limit) .0) T e in
       let q : suc start ≡ start + 1 = omega arith in
       let p : at + heldBits S (suc T) ≡ at + 1 = omega arith in
       let t : 1 + c ≡ suc c = omega arith in
@@ -138,23 +138,34 @@ module _ (P : Params) where
 
 -- ---- as the code does it
 
--- the bits that level 1 takes before a node is made, or after it if it is full
+-- the bits that level 1 takes before a node is made: the last of its words' bits
+abbrev pub freeOf : ℕ → ℕ → ℕ
+freeOf limit T = sizeOf limit - heldBits (sizeOf limit) T
+
+pub free-place : (limit T : ℕ) → blockBits - freeOf limit T ≡ baseOf limit + heldBits (sizeOf limit) T
+free-place zero T = omega (arith, held-le zero T)
+free-place (suc n) T = omega (arith, held-le (suc n) T)
+
+pub free-le : (limit T : ℕ) → freeOf limit T ≤ 4096
+free-le zero T = omega arith
+free-le (suc n) T = omega arith
+
+-- the bits that it takes next: before a node is made, or after it if it is full
 abbrev pub roomOf : ℕ → ℕ → ℕ
-roomOf limit T = elim (ltb (heldBits (sizeOf limit) T) (sizeOf limit)) [ true ↦ sizeOf limit - heldBits (sizeOf limit) T | false ↦ sizeOf limit ]
+roomOf limit T = elim (ltb 0 (freeOf limit T)) [ true ↦ freeOf limit T | false ↦ sizeOf limit ]
 
-pub room-free : (limit T : ℕ) → heldBits (sizeOf limit) T < sizeOf limit → roomOf limit T ≡ sizeOf limit - heldBits (sizeOf limit) T
-room-free limit T h = rw (lt-ltb (heldBits (sizeOf limit) T) (sizeOf limit) h, roomOf)
+pub room-free : (limit T : ℕ) → 0 < freeOf limit T → roomOf limit T ≡ freeOf limit T
+room-free limit T h = rw (lt-ltb 0 (freeOf limit T) h, roomOf)
 
-pub room-full : (limit T : ℕ) → sizeOf limit ≤ heldBits (sizeOf limit) T → roomOf limit T ≡ sizeOf limit
-room-full limit T h = rw (le-ltb (heldBits (sizeOf limit) T) (sizeOf limit) h, roomOf)
+pub room-full : (limit T : ℕ) → freeOf limit T ≤ 0 → roomOf limit T ≡ sizeOf limit
+room-full limit T h = rw (le-ltb 0 (freeOf limit T) h, roomOf)
 
-room-by : (limit T : ℕ) (b : Bool) → ltb (heldBits (sizeOf limit) T) (sizeOf limit) ≡ b → 1 ≤ roomOf limit T
-room-by limit T true e = rw (room-free limit T (ltb-true (heldBits (sizeOf limit) T) (sizeOf limit) e)) (omega (arith, ltb-true (heldBits (sizeOf limit) T) (sizeOf limit) e))
-room-by zero T false e = rw (room-full zero T (ltb-false (heldBits (sizeOf zero) T) (sizeOf zero) e)) (omega arith)
-room-by (suc n) T false e = rw (room-full (suc n) T (ltb-false (heldBits (sizeOf (suc n)) T) (sizeOf (suc n)) e)) (omega arith)
+room-by : (limit T : ℕ) (b : Bool) → ltb 0 (freeOf limit T) ≡ b → 1 ≤ roomOf limit T
+room-by limit T true e = rw (room-free limit T (ltb-true 0 (freeOf limit T) e)) (omega (arith, ltb-true 0 (freeOf limit T) e))
+room-by limit T false e = rw (room-full limit T (ltb-false 0 (freeOf limit T) e)) (size-pos limit .0)
 
 pub room-some : (limit T : ℕ) → 1 ≤ roomOf limit T
-room-some limit T = room-by limit T (ltb (heldBits (sizeOf limit) T) (sizeOf limit)) refl
+room-some limit T = room-by limit T (ltb 0 (freeOf limit T)) refl
 
 pub size-none : (limit : ℕ) → limit < 1 → sizeOf limit ≡ sequentialBits
 size-none zero h = refl
@@ -164,14 +175,7 @@ pub size-some : (limit : ℕ) → 1 ≤ limit → sizeOf limit ≡ blockBits
 size-some zero h = absurd (omega arith)
 size-some (suc n) h = refl
 
-pub size-pos : (limit : ℕ) → (0 < sizeOf limit) × (sizeOf limit ≤ 4096)
-size-pos zero = (omega arith, omega arith)
-size-pos (suc n) = (omega arith, omega arith)
-
--- places of bits in level 1: size bits in all, held of them filled, count more
-pub room-place : {held size count : ℕ} → held < size → size ≤ 4096 → count ≤ size - held → ((4096 - size) + held) + count ≤ 4096
-room-place h g f = omega arith
-
+-- the places of count bits among the last size bits of level 1
 pub base-place : {size count : ℕ} → size ≤ 4096 → count ≤ size → (4096 - size) + count ≤ 4096
 base-place h g = omega arith
 

@@ -8,7 +8,7 @@ use lib.Seq.{paste, length-take-le, take-all}
 use Rattle.bits.specs.Bits.{bitsOf}
 use Rattle.tree.specs.Tree.{blockBits}
 use Rattle.tree.specs.Refusals.{pieceBits}
-use Rattle.area.specs.Area.{areaWords, totalOf, kOf, compressionsOf, paramsOf, levelsOf, withLevels, doneBlocks, openCount, sound}
+use Rattle.area.specs.Area.{Long, totalOf, kOf, compressionsOf, paramsOf, levelsOf, withLevels, doneBlocks, openCount, areaWords}
 use Rattle.area.specs.Calls.{Made, feedBits, fedBits, fedArea}
 use Rattle.area.specs.CallLaws.{FeedPassed}
 use Rattle.area.specs.WriteLaws.{set-withLevels}
@@ -17,9 +17,6 @@ use Rattle.climb.specs.MakeLaws.{paramsFrom}
 use Rattle.climb.specs.OpenArea.{OpenArea, numbered, open-done, limit-read}
 use Rattle.tree.specs.RefusalLaws.{length-pieceBits}
 use Rattle.area.specs.Accepts.{fed-count}
-
-pub passed-open : {area piece log : List ℕ} {n : ℕ} → FeedPassed area piece n log → OpenArea area
-passed-open p = record { long = p .long; sound = p .sound; phase = p .notEnded }
 
 -- the nodes that a feed makes, and those made before
 pub made-count : {area : List ℕ} → OpenArea area → (piece : List ℕ) (n : ℕ) → n ≤ 8 * length piece → totalOf area + n < 2 ^ 64
@@ -33,10 +30,10 @@ made-count {area} o piece n h g =
 -- ---- what the code reads
 
 -- K is copied out of the area
-pub key-copied : (area : List ℕ) → areaWords ≤ length area → paste (replicate 8 0) 0 (take 8 (drop 6 area)) 8 ≡ kOf area
+pub key-copied : (area : List ℕ) → areaWords ≤ length area → paste (replicate 8 0) 0 (take 8 (drop 6 area)) (length (take 8 (drop 6 area))) ≡ kOf area
 key-copied area long =
     let l : length (take 8 (drop 6 area)) ≡ 8 = length-take-le 8 (drop 6 area) (rw length-drop (omega arith)) in
-    rw (take-all 8 (take 8 (drop 6 area)) (omega arith)) (append-nil (take 8 (drop 6 area)))
+    rw (l, take-all 8 (take 8 (drop 6 area)) (omega arith)) (append-nil (take 8 (drop 6 area)))
 
 -- what the code feeds is what the definition feeds
 pub fed-read : (area piece : List ℕ) (n : ℕ)
@@ -50,7 +47,7 @@ half-double n = omega arith
 -- ---- what it leaves
 
 -- words 1 and 14 are stored after the levels
-pub fed-written : (area : List ℕ) (n count : ℕ) (made : Made) → areaWords ≤ length area → count ≡ length (made .nodes)
+pub fed-written : (area : List ℕ) (n count : ℕ) (made : Made) → Long area → count ≡ length (made .nodes)
     → set (set (withLevels area (made .levels)) 1 (totalOf area + n)) 14 (compressionsOf area + count) ≡ fedArea area n made
 unfolding fedArea
 fed-written area n count made long e =
@@ -67,7 +64,7 @@ openCount-le (suc n) T = omega (arith, openAbove-le n (doneBlocks blockBits T))
 pub count-fits : {area piece log : List ℕ} {n count : ℕ} → FeedPassed area piece n log → count ≡ length (fedBits area (pieceBits piece n) .nodes)
     → compressionsOf area + count < 2 ^ 64
 count-fits {area} {piece} {n = n} p e =
-    let m = made-count (passed-open p) piece n (p .bits) (p .total) in
+    let m = made-count (p .opened) piece n (p .bits) (p .total) in
     fits (compressionsOf area) e m (openCount-le (getD area 4 0) (totalOf area + n)) (p .total)
   where
     fits : (a : ℕ) {b c d t : ℕ} → b ≡ d → d + a ≡ c → c ≤ t → t < 2 ^ 64 → a + b < 2 ^ 64

@@ -4,11 +4,11 @@ ghost use Prim.Native.Nat.{_+_, _*_, _≤_, _<_, _^_, min};
 ghost use lib.ListN.{length, take, drop};
 ghost use lib.Seq.{sets};
 ghost use Rattle.bits.specs.Bits.{bitsOf, filled};
-ghost use Rattle.area.specs.Area.{areaWords, levelWords, levelsOf, withLevels};
+ghost use Rattle.area.specs.Area.{Long, levelWords, levelsOf, withLevels};
 ghost use Rattle.area.specs.Calls.{nodeLog, feedBits};
 ghost use Rattle.climb.specs.Levels.{withLevel};
 ghost use Rattle.climb.specs.MakeLaws.{paramsFrom, Ready};
-ghost use Rattle.piece.specs.FeedSteps.{sizeOf, roomOf};
+ghost use Rattle.piece.specs.FeedSteps.{sizeOf, freeOf, roomOf};
 use node::Block;
 use node::Params;
 use sound::Area;
@@ -24,21 +24,28 @@ fn size_of(limit: u64) -> u64
     Block::BITS
 }
 
-// The bits that level 1 still takes; all of a block if it is full, since it is compressed when the next bit comes.
+// The bits that level 1 takes before a node is made: the last of its words' bits.
+pub fn free_of(limit: u64, total: u64) -> u64
+    ensures { λ r. ⌜ r ≡ freeOf limit total ⌝ }
+{
+    let size = size_of(limit);
+    size - count::held_bits(size, total)
+}
+
+// The bits that level 1 takes next; all of a block if it is full, since it is compressed when the next bit comes.
 fn room_of(limit: u64, total: u64) -> u64
     ensures { λ r. ⌜ r ≡ roomOf limit total ⌝ }
 {
-    let size = size_of(limit);
-    let held = count::held_bits(size, total);
-    if held < size {
-        return size - held;
+    let free = free_of(limit, total);
+    if 0 < free {
+        return free;
     }
-    size
+    size_of(limit)
 }
 
 // Copies bits of a piece into level 1, through its own part of the area.
-fn fill_level(area: &mut [u64], place: u64, piece: &[u8], start: u64, count: u64)
-    requires { ⌜ (areaWords ≤ length (now area)) × (place + count ≤ 4096) × (start + count ≤ 8 * length (now piece)) ⌝ }
+pub fn fill_level(area: &mut [u64], place: u64, piece: &[u8], start: u64, count: u64)
+    requires { ⌜ Long (now area) × (place + count ≤ 4096) × (start + count ≤ 8 * length (now piece)) ⌝ }
     ensures { λ _. ⌜ now (area .exit) ≡ withLevel (now (area .entry)) 1 (filled (levelWords (now (area .entry)) 1) place (now (piece .entry)) start count) ⌝ }
 {
     let byte = (start / 8) as usize;
@@ -67,21 +74,20 @@ fn feed_chunk(
     at: usize,
 ) -> usize
     requires { ⌜ Ready (now key) params (now table) ⌝ }
-    requires { ⌜ (areaWords ≤ length (now area)) × (1 ≤ count) × (count ≤ roomOf (params .limit) total) × (start + count ≤ 8 * length (now piece)) ⌝ }
+    requires { ⌜ Long (now area) × (1 ≤ count) × (count ≤ roomOf (params .limit) total) × (start + count ≤ 8 * length (now piece)) ⌝ }
     requires { ⌜ at + 2 * length (feedBits (paramsFrom (now key) params) total (take count (drop start (bitsOf 8 (now piece)))) (levelsOf (now area)) .nodes) ≤ length (now log) ⌝ }
     ensures { λ _. ⌜ now (area .exit) ≡ withLevels (now (area .entry)) (feedBits (paramsFrom (now (key .entry)) params) total (take count (drop start (bitsOf 8 (now (piece .entry))))) (levelsOf (now (area .entry))) .levels) ⌝ }
     ensures { λ _. ⌜ now (log .exit) ≡ sets (now (log .entry)) at (nodeLog (feedBits (paramsFrom (now (key .entry)) params) total (take count (drop start (bitsOf 8 (now (piece .entry))))) (levelsOf (now (area .entry))) .nodes)) ⌝ }
     ensures { λ r. ⌜ r ≡ at + 2 * length (feedBits (paramsFrom (now (key .entry)) params) total (take count (drop start (bitsOf 8 (now (piece .entry))))) (levelsOf (now (area .entry))) .nodes) ⌝ }
 {
-    let size = size_of(params.limit);
-    let base = Block::BITS - size;
-    let held = count::held_bits(size, total);
-    if held < size {
-        fill_level(&mut *area, base + held, piece, start, count);
+    let free = free_of(params.limit, total);
+    if 0 < free {
+        fill_level(&mut *area, Block::BITS - free, piece, start, count);
         return at;
     }
     let next = climb::flush(&mut *area, params, key, table, total, log, at);
-    fill_level(&mut *area, base, piece, start, count);
+    let size = size_of(params.limit);
+    fill_level(&mut *area, Block::BITS - size, piece, start, count);
     next
 }
 
@@ -97,7 +103,7 @@ pub fn feed_bits(
     log: &mut [u64],
 ) -> usize
     requires { ⌜ Ready (now key) params (now table) ⌝ }
-    requires { ⌜ (areaWords ≤ length (now area)) × (bits ≤ 8 * length (now piece)) × (total + bits < 2 ^ 64) ⌝ }
+    requires { ⌜ Long (now area) × (bits ≤ 8 * length (now piece)) × (total + bits < 2 ^ 64) ⌝ }
     requires { ⌜ 2 * length (feedBits (paramsFrom (now key) params) total (take bits (bitsOf 8 (now piece))) (levelsOf (now area)) .nodes) ≤ length (now log) ⌝ }
     ensures { λ _. ⌜ now (area .exit) ≡ withLevels (now (area .entry)) (feedBits (paramsFrom (now (key .entry)) params) total (take bits (bitsOf 8 (now (piece .entry)))) (levelsOf (now (area .entry))) .levels) ⌝ }
     ensures { λ _. ⌜ now (log .exit) ≡ sets (now (log .entry)) 0 (nodeLog (feedBits (paramsFrom (now (key .entry)) params) total (take bits (bitsOf 8 (now (piece .entry)))) (levelsOf (now (area .entry))) .nodes)) ⌝ }

@@ -5,6 +5,7 @@ use mathlib.Core.Bool.{Bool, true, false}
 use mathlib.Core.Option.{Option, none, some}
 use mathlib.Core.List.{List, [], _++_}
 use Prim.Native.Nat.{ℕ, zero, suc, _+_, _^_, _<_}
+use native.Mathlib.Omega.{arith}
 use lib.ListN.{length, drop}
 use lib.Seq.{take-at}
 use Rattle.bits.specs.BitsLaws.{length-numbers}
@@ -90,7 +91,7 @@ module _ (P : Params) (M : List Bool) (area : List ℕ) (text : Option (List ℕ
       number = feed-number area piece n log
 
       by : {e : Bool} (k : ℕ) → feedNumber area piece n log ≡ k → At P M area e → Step P M area e text c
-      by (suc k) q at = refused c k (number ∙ q) (ap (λ (x : Fed). x .area) (feed-refused area piece n log k q))
+      by (suc k) q at = refused c k (number ∙ q) (ap (λ (x : Fed). x .area) (sym (feed-refused area piece n log (suc k) (sym q) (omega arith))))
       by zero q (isOpen s) =
           let o = feed-one P M area piece n log s (number ∙ q) in
           record {
@@ -98,7 +99,7 @@ module _ (P : Params) (M : List Bool) (area : List ℕ) (text : Option (List ℕ
             effect = fed (rw (share-of c (number ∙ q)) (record { stands = o .stands; log = o .log; count = o .count; output = refl }));
             held = rw (role-of c (number ∙ q)) tt;
           }
-      by zero q (hasEnded s) = absurd (feed-passed area piece n log q .notEnded (s .phase))
+      by zero q (hasEnded s) = absurd (feed-passed area piece n log q .opened .phase (s .phase))
 
   end-step : {e : Bool} (out log : List ℕ) (b : Bytes out) (w : Words log) → At P M area e → Step P M area e text (end out log b w)
   unfolding outcomeOf
@@ -111,7 +112,7 @@ module _ (P : Params) (M : List Bool) (area : List ℕ) (text : Option (List ℕ
       number = end-number area out log
 
       by : {e : Bool} (k : ℕ) → endNumber area out log ≡ k → At P M area e → Step P M area e text c
-      by (suc k) q at = refused c k (number ∙ q) (ap (λ (x : Finished). x .area) (end-refused area out log k q))
+      by (suc k) q at = refused c k (number ∙ q) (ap (λ (x : Finished). x .area) (sym (end-refused area out log (suc k) (sym q) (omega arith))))
       by zero q (isOpen s) =
           let o = end-one P M area out log s (number ∙ q) in
           record {
@@ -127,7 +128,7 @@ module _ (P : Params) (M : List Bool) (area : List ℕ) (text : Option (List ℕ
             }));
             held = rw (role-of c (number ∙ q)) tt;
           }
-      by zero q (hasEnded s) = absurd (end-passed area out log q .notEnded (s .phase))
+      by zero q (hasEnded s) = absurd (end-passed area out log q .opened .phase (s .phase))
 
   show-step : {e : Bool} (level : ℕ) → Step P M area e text (show level)
   unfolding outcomeOf shareOf roleOf
@@ -163,7 +164,7 @@ module _ (P : Params) (M : List Bool) (area : List ℕ) (text : Option (List ℕ
       number = read-number area x
 
       by : (k : ℕ) → readNumber area x ≡ k → Step P M area e text c
-      by (suc k) q = refused c k (number ∙ q) (ap (λ (t : Taken). t .area) (read-refused area x k q))
+      by (suc k) q = refused c k (number ∙ q) (ap (λ (t : Taken). t .area) (sym (read-refused area x (suc k) (sym q) (omega arith))))
       by zero q =
           let t : text ≡ some x = rw (role-of c (number ∙ q)) at a in
           record {
@@ -207,7 +208,7 @@ module _ (P : Params) (M : List Bool) (area : List ℕ) (text : Option (List ℕ
       number = open-number area Q
 
       by : (k : ℕ) → openNumber area Q ≡ k → Step P M area e text c
-      by (suc k) q = refused c k (number ∙ q) (ap (λ (o : Opened). o .area) (open-refused area Q k q))
+      by (suc k) q = refused c k (number ∙ q) (ap (λ (o : Opened). o .area) (sym (open-refused area Q (suc k) (sym q) (omega arith))))
       by zero q = absurd (rw (role-of c (number ∙ q)) at a)
 
   -- every call has an effect

@@ -1,7 +1,7 @@
 -- Laws: what is a run, and what is none.
 use mathlib.Core.Path.{_≡_, refl, ap}
 use mathlib.Core.Option.{Option, none, some}
-use mathlib.Core.List.{List, [], _∷_, _++_}
+use mathlib.Core.List.{List, _∷_}
 use Prim.Native.Nat.{ℕ, suc, _^_, _<_}
 use Rattle.tree.specs.Tree.{Params}
 use Rattle.area.specs.Calls.{openOf, feedOf}
@@ -43,9 +43,3 @@ module _ (area other x : List ℕ) (w : Words other) (b : Bytes x) where
   pub accepted-moves : readOf other x .number ≡ 0 → outcomeOf area (readInto other x w b) .area ≡ readOf other x .area
   unfolding outcomeOf
   accepted-moves e = ap (λ (j : ℕ). unless j area (readOf other x .area)) e
-
--- every beginning of a run is a run
-pub beginning : (area : List ℕ) (text : Option (List ℕ)) (cs ds : List Call) → Goes area text (cs ++ ds) → Goes area text cs
-unfolding Goes
-beginning area text [] ds g = tt
-beginning area text (c ∷ cs) ds g = (g .0, beginning _ _ cs ds (g .1))

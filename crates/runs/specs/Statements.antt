@@ -1,17 +1,16 @@
 -- Definitions: what is said of every run (`Demand3`, `Table`) and of two runs that both ended (`Same`), and the functions that
 -- these statements use. Their theorems are `demand3`, `table`, `same-runs` and `run-collision`.
 use mathlib.Core.Path.{_≡_}
-use mathlib.Core.Bool.{Bool, true, not, cond}
+use mathlib.Core.Bool.{Bool, true, false, not}
 use mathlib.Core.Logic.{_⊎_}
 use mathlib.Core.Option.{Option, none, some}
-use mathlib.Core.List.{List, [], _++_}
-use Prim.Native.Nat.{ℕ, _+_, _-_, _*_, _^_, _≤_, _<_}
-use lib.Dec.{ltb}
+use mathlib.Core.List.{List, [], _∷_, _++_}
+use Prim.Native.Nat.{ℕ, _+_, _-_, _^_, _≤_, _<_}
 use lib.ListN.{length}
-use Rattle.tree.specs.Tree.{Params, Valid, Node, Mark, mostLevels, order, digest, digestBytes}
-use Rattle.tree.specs.Refusals.{pieceBits, refusedBits, refusedParams, refusedOutput}
+use Rattle.tree.specs.Tree.{Params, Valid, Node, Mark, mostLevels, order, digest}
+use Rattle.tree.specs.Refusals.{pieceBits, firstRefusal, paramTests, outputTest}
 use Rattle.area.specs.Area.{areaWords, phaseOf, totalOf, paramsOf, levelWords, sound}
-use Rattle.area.specs.Calls.{refusedShort, openOf, feedOf, endOf, levelOf}
+use Rattle.area.specs.Calls.{shortTest, openOf, feedTests, feedOf, endTests, endOf, levelOf}
 use Rattle.area.specs.Calls
 use Rattle.area.specs.Marks.{allNodes, settled}
 use Rattle.text.specs.Text.{textOf, writeOf, readable, readOf}
@@ -53,10 +52,10 @@ pub record Demand3 (r : Run) : Type 0 where
 
 -- ---- which calls are accepted
 
--- "10, 0: area has ended", and otherwise what the tests after it give
-abbrev pub tenIf : Option (List ℕ) → ℕ → ℕ
-tenIf none later = later
-tenIf (some out) later = 10
+-- "10, 0: area has ended": an end was accepted
+abbrev pub endedTest : Option (List ℕ) → Bool × ℕ
+endedTest none = (false, 10)
+endedTest (some out) = (true, 10)
 
 -- the nodes that a feed of the bits Y makes after M, and those that the end makes: "a call makes the nodes that it adds to the log"
 abbrev pub feedMakes : Params → List Bool → List Bool → ℕ
@@ -71,22 +70,17 @@ endMakes P M = length (order P M) - length (settled (order P M))
 pub record Table (r : Run) : Type 0 where
   -- "Feed 7, 10, 5, 6, 8"
   pub feed : (piece : List ℕ) (n : ℕ) (log : List ℕ) → feedOf (areaOf r) piece n log .number
-      ≡ tenIf (outputOf r)
-      (refusedBits piece n
-      (cond (ltb (2 ^ 64 - 1) (length (messageOf r) + n)) 6
-      (cond (ltb (length log) (2 * feedMakes (r .params) (messageOf r) (pieceBits piece n))) 8 0)))
+      ≡ firstRefusal (endedTest (outputOf r) ∷ feedTests (length (messageOf r)) (feedMakes (r .params) (messageOf r) (pieceBits piece n)) piece n log)
   -- "End 7, 10, 9, 8"
   pub end : (out log : List ℕ) → endOf (areaOf r) out log .number
-      ≡ tenIf (outputOf r)
-      (refusedOutput (digestBytes (r .params .d)) out
-      (cond (ltb (length log) (2 * endMakes (r .params) (messageOf r))) 8 0))
+      ≡ firstRefusal (endedTest (outputOf r) ∷ endTests (r .params .d) (endMakes (r .params) (messageOf r)) out log)
   -- "Write 7, 9"
-  pub write : (out : List ℕ) → writeOf (areaOf r) out .number ≡ refusedOutput (length (textOf (areaOf r))) out 0
+  pub write : (out : List ℕ) → writeOf (areaOf r) out .number ≡ firstRefusal (outputTest (length (textOf (areaOf r))) out ∷ [])
   -- "Read 7, 11": 11 exactly if the text is not what writing some sound area gives; another area may be short
-  pub read : (text : List ℕ) → readOf (areaOf r) text .number ≡ cond (not (readable text)) 11 0
-  pub readInto : (other text : List ℕ) → readOf other text .number ≡ refusedShort other (cond (not (readable text)) 11 0)
+  pub read : (text : List ℕ) → readOf (areaOf r) text .number ≡ firstRefusal ((not (readable text), 11) ∷ [])
+  pub readInto : (other text : List ℕ) → readOf other text .number ≡ firstRefusal (shortTest other ∷ (not (readable text), 11) ∷ [])
   -- "open 7, 1, 2, 3, 4"
-  pub reopen : (Q : Params) → openOf (areaOf r) Q .number ≡ refusedParams Q 0
+  pub reopen : (Q : Params) → openOf (areaOf r) Q .number ≡ firstRefusal (paramTests Q)
   -- "Showing a level gives back that level's part of the caller's area, or an empty part if .. the level outside 1 to 27"
   pub show : (level : ℕ) → 1 ≤ level → level ≤ mostLevels → levelOf (areaOf r) level ≡ levelWords (areaOf r) level
   pub showNone : (level : ℕ) → level < 1 ⊎ mostLevels < level → levelOf (areaOf r) level ≡ []

@@ -1,17 +1,17 @@
 -- Laws: "Which calls are accepted follows from the table", for every call after a run.
 use mathlib.Core.Path.{_≡_, refl, ap, _∙_}
-use mathlib.Core.Bool.{Bool, true, false, _&&_, and-false, cond}
+use mathlib.Core.Bool.{Bool, true, false, _&&_, and-false}
 use mathlib.Core.Logic.{_⊎_, inl, inr}
-use mathlib.Core.List.{List, []}
-use Prim.Native.Nat.{ℕ, _+_, _-_, _*_, _^_, _<_}
+use mathlib.Core.List.{List, [], _∷_}
+use Prim.Native.Nat.{ℕ, _+_, _-_, _^_, _<_}
 use native.Mathlib.Omega.{arith}
 use borrow.Author.Tests.{ltb-false, le-ltb, lt-leb}
 use lib.Dec.{leb, ltb}
 use lib.ListN.{length, length-append, length-map}
-use Rattle.tree.specs.Tree.{Params, Mark, mostLevels, order, digestBytes}
-use Rattle.tree.specs.Refusals.{pieceBits, refusedBits, refusedOutput}
+use Rattle.tree.specs.Tree.{Params, Mark, mostLevels, order}
+use Rattle.tree.specs.Refusals.{pieceBits, firstRefusal, bitsTest}
 use Rattle.area.specs.Area.{areaWords, sound}
-use Rattle.area.specs.Calls.{openNumber, fedBits, feedOf, closedBy, endOf, shown, levelOf}
+use Rattle.area.specs.Calls.{totalTest, logTest, openNumber, fedBits, feedTests, feedOf, closedBy, endTests, endOf, shown, levelOf}
 use Rattle.area.specs.Marks.{settled}
 use Rattle.area.specs.CallLaws.{open-number, feed-number, end-number}
 use Rattle.tree.specs.RefusalLaws.{length-pieceBits}
@@ -20,13 +20,14 @@ use Rattle.area.specs.Accepts.{feed-tests, end-tests, feed-nodes, end-nodes, fe
 use Rattle.text.specs.Text.{writeNumber, readNumber}
 use Rattle.text.specs.ReadLaws.{write-number, read-number}
 use Rattle.runs.specs.Runs.{Run, shares, answersOf, areaOf, messageOf, outputOf}
-use Rattle.runs.specs.Statements.{tenIf, feedMakes, endMakes, Demand3, Table}
+use Rattle.runs.specs.Statements.{endedTest, feedMakes, endMakes, Demand3, Table}
 use Rattle.runs.specs.Demand3.{demand3}
 use Rattle.runs.specs.Induction.{Fits, going, over, run-fits}
 
-later-eq : (b : Bool) (k x y : ℕ) → (b ≡ false → x ≡ y) → cond b k x ≡ cond b k y
-later-eq true k x y f = refl
-later-eq false k x y f = f refl
+-- a later test counts only if the first does not hold
+later-eq : (t : Bool × ℕ) (xs ys : List (Bool × ℕ)) → (t .0 ≡ false → firstRefusal xs ≡ firstRefusal ys) → firstRefusal (t ∷ xs) ≡ firstRefusal (t ∷ ys)
+later-eq (true, k) xs ys f = refl
+later-eq (false, k) xs ys f = f refl
 
 module _ {P : Params} {M : List Bool} {area : List ℕ} (s : Stands P M area) where
   feed-made : (Y : List Bool) → length M + length Y < 2 ^ 64 → length (fedBits area Y .nodes) ≡ feedMakes P M Y
@@ -40,18 +41,19 @@ module _ {P : Params} {M : List Bool} {area : List ℕ} (s : Stands P M area) wh
       let m = length-map (order P M) (λ (x : Mark). x .node) in
       omega arith
 
-  feed-number-is : (piece : List ℕ) (n : ℕ) (log : List ℕ) → feedOf area piece n log .number
-      ≡ refusedBits piece n (cond (ltb (2 ^ 64 - 1) (length M + n)) 6 (cond (ltb (length log) (2 * feedMakes P M (pieceBits piece n))) 8 0))
+  feed-number-is : (piece : List ℕ) (n : ℕ) (log : List ℕ)
+      → feedOf area piece n log .number ≡ firstRefusal (feedTests (length M) (feedMakes P M (pieceBits piece n)) piece n log)
   feed-number-is piece n log =
+      let made : ℕ = length (fedBits area (pieceBits piece n) .nodes) in
+      let makes : ℕ = feedMakes P M (pieceBits piece n) in
+      let total : Bool × ℕ = totalTest (length M) n in
       feed-number area piece n log ∙ feed-tests s piece n log
-      ∙ later-eq (ltb (8 * length piece) n) 5 _ _ (λ b. ap (λ (t : ℕ). cond (ltb (2 ^ 64 - 1) (t + n)) 6 (cond (ltb (length log) (2 * length (fedBits area (pieceBits piece n) .nodes))) 8 0)) (s .head .total)
-      ∙ later-eq (ltb (2 ^ 64 - 1) (length M + n)) 6 _ _ (λ t.
-      let l : length (pieceBits piece n) ≡ n = length-pieceBits piece n (ltb-false (8 * length piece) n b) in
+      ∙ later-eq (bitsTest piece n) (total ∷ logTest made log ∷ []) (total ∷ logTest makes log ∷ []) (λ b. later-eq total (logTest made log ∷ []) (logTest makes log ∷ []) (λ t.
+      let l : length (pieceBits piece n) ≡ n = length-pieceBits piece n (ltb-false _ _ b) in
       let small = ltb-false (2 ^ 64 - 1) (length M + n) t in
-      ap (λ (m : ℕ). cond (ltb (length log) (2 * m)) 8 0) (feed-made (pieceBits piece n) (omega arith))))
+      ap (λ (m : ℕ). firstRefusal (logTest m log ∷ [])) (feed-made (pieceBits piece n) (omega arith))))
 
-  end-number-is : (out log : List ℕ) → endOf area out log .number
-      ≡ refusedOutput (digestBytes (P .d)) out (cond (ltb (length log) (2 * endMakes P M)) 8 0)
+  end-number-is : (out log : List ℕ) → endOf area out log .number ≡ firstRefusal (endTests (P .d) (endMakes P M) out log)
   end-number-is out log = end-number area out log ∙ end-tests s out log ∙ rw end-made refl
 
 -- a level outside 1 to 27 is an empty part, whatever the area
@@ -97,11 +99,11 @@ table r = record {
     long = le-ltb (length area) areaWords (d .long)
 
     feeds : {e : Bool} (piece : List ℕ) (n : ℕ) (log : List ℕ) → Fits P (shares (answersOf r)) area e → feedOf area piece n log .number
-        ≡ tenIf (outputOf r) (refusedBits piece n (cond (ltb (2 ^ 64 - 1) (length M + n)) 6 (cond (ltb (length log) (2 * feedMakes P M (pieceBits piece n))) 8 0)))
+        ≡ firstRefusal (endedTest (outputOf r) ∷ feedTests (length M) (feedMakes P M (pieceBits piece n)) piece n log)
     feeds piece n log (going g) = rw (g .output) (feed-number-is (g .stands) piece n log)
     feeds piece n log (over g) = rw (g .output) (feed-number area piece n log ∙ feed-ended (g .closed) piece n log)
 
     ends : {e : Bool} (out log : List ℕ) → Fits P (shares (answersOf r)) area e → endOf area out log .number
-        ≡ tenIf (outputOf r) (refusedOutput (digestBytes (P .d)) out (cond (ltb (length log) (2 * endMakes P M)) 8 0))
+        ≡ firstRefusal (endedTest (outputOf r) ∷ endTests (P .d) (endMakes P M) out log)
     ends out log (going g) = rw (g .output) (end-number-is (g .stands) out log)
     ends out log (over g) = rw (g .output) (end-number area out log ∙ end-ended (g .closed) out log)

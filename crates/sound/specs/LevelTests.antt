@@ -1,16 +1,15 @@
 -- Laws: soundness of the levels as the code tests it, level by level, and that this is what Area says of them.
 use mathlib.Core.Path.{_≡_, refl, sym, ap, _∙_}
-use mathlib.Core.Bool.{Bool, true, false, not, _||_, _&&_}
+use mathlib.Core.Bool.{Bool, true, not, _||_, _&&_}
 use mathlib.Core.List.{List, [], _∷_}
 use Prim.Native.Nat.{ℕ, zero, suc, _+_, _-_, _*_, _/_}
 use native.Mathlib.Nat.{zero-add}
-use native.Mathlib.Omega.{arith}
 use borrow.Author.Tests.{eq-eqb, ne-eqb}
 use lib.Dec.{eqb, ltb, leb·zero, leb·suc-suc, eqb·suc-zero}
 use lib.ListN.{take, drop, replicate}
 use Rattle.bits.specs.Bits.{bitsOf}
-use Rattle.tree.specs.Tree.{blockBits, sequentialBits, outputBits, mostLevels}
-use Rattle.area.specs.Area.{allFalse, doneBlocks, heldBits, heldParallel, heldSequential, Hold, parallelHold, sequentialHold, holdsAbove, openHolds, holdsFor, clean, cleanAll, levelsFrom}
+use Rattle.tree.specs.Tree.{blockBits, sequentialBits, outputBits}
+use Rattle.area.specs.Area.{allFalse, doneBlocks, heldBits, heldParallel, heldSequential, parallelHold, sequentialHold, holdsAbove, openHolds, holdsFor, clean, cleanAll, levelsFrom}
 
 -- no bit of a level's words is set from its bit n on
 abbrev pub emptyFrom : ℕ → List ℕ → Bool
@@ -58,34 +57,14 @@ clean-above area zero n i k = refl
 clean-above area (suc m) zero i k = rw (clean-empty area m (suc k), clean-sequential) refl
 clean-above area (suc m) (suc n) i k = rw (clean-above area m n (i / 4) (suc k), clean-parallel) refl
 
--- the holds of an open area with m levels above level 1; Area has 26
-abbrev openHoldsOf : ℕ → ℕ → ℕ → List Hold
-openHoldsOf m zero T = sequentialHold (doneBlocks sequentialBits T) (heldBits sequentialBits T) ∷ replicate m (parallelHold 0)
-openHoldsOf m (suc n) T = parallelHold (heldBits blockBits T) ∷ holdsAbove m n (doneBlocks blockBits T)
-
-clean-open-of : (area : List ℕ) (m limit T k : ℕ) → cleanAll (openHoldsOf m limit T) (levelsFrom area (suc m) k) ≡ soundOpen limit T (levelsFrom area (suc m) k)
-clean-open-of area m zero T k = rw (clean-empty area m (suc k), clean-sequential) refl
-clean-open-of area m (suc n) T k = rw (clean-above area m n (doneBlocks blockBits T) (suc k), clean-parallel) refl
-
-open-holds : (limit T : ℕ) → openHolds limit T ≡ openHoldsOf (mostLevels - 1) limit T
-open-holds zero T = refl
-open-holds (suc n) T = refl
-
-pub clean-open : (area : List ℕ) (limit T : ℕ) → cleanAll (openHolds limit T) (levelsFrom area mostLevels 1) ≡ soundOpen limit T (levelsFrom area mostLevels 1)
-clean-open area limit T =
-    ap (λ (hs : List Hold). cleanAll hs (levelsFrom area mostLevels 1)) (open-holds limit T) ∙ clean-open-of area (mostLevels - 1) limit T 1
+pub clean-open : (area : List ℕ) (m limit T k : ℕ) → cleanAll (openHolds m limit T) (levelsFrom area m k) ≡ soundOpen limit T (levelsFrom area m k)
+clean-open area zero limit T k = refl
+clean-open area (suc m) zero T k = rw (clean-empty area m (suc k), clean-sequential) refl
+clean-open area (suc m) (suc n) T k = rw (clean-above area m n (doneBlocks blockBits T) (suc k), clean-parallel) refl
 
 -- which holds an area has goes by its phase
-pub holds-ended : (phase limit T : ℕ) → phase ≡ 2 → holdsFor phase limit T ≡ replicate mostLevels (parallelHold 0)
-holds-ended phase limit T h = by (eqb phase 2) (eq-eqb phase 2 h)
-  where
-    by : (b : Bool) → b ≡ true → elim b as (λ x. List Hold) [ true ↦ replicate mostLevels (parallelHold 0) | false ↦ openHolds limit T ] ≡ replicate mostLevels (parallelHold 0)
-    by true e = refl
-    by false e = let z : _≡_ {A = ℕ} 0 1 = cc in absurd (omega arith)
+pub holds-ended : (k phase limit T : ℕ) → phase ≡ 2 → holdsFor k phase limit T ≡ replicate k (parallelHold 0)
+holds-ended k phase limit T h = rw (eq-eqb phase 2 h, holdsFor)
 
-pub holds-open : (phase limit T : ℕ) → (phase ≡ 2 → ⊥) → holdsFor phase limit T ≡ openHolds limit T
-holds-open phase limit T h = by (eqb phase 2) (ne-eqb phase 2 h)
-  where
-    by : (b : Bool) → b ≡ false → elim b as (λ x. List Hold) [ true ↦ replicate mostLevels (parallelHold 0) | false ↦ openHolds limit T ] ≡ openHolds limit T
-    by true e = let z : _≡_ {A = ℕ} 0 1 = cc in absurd (omega arith)
-    by false e = refl
+pub holds-open : (k phase limit T : ℕ) → (phase ≡ 2 → ⊥) → holdsFor k phase limit T ≡ openHolds k limit T
+holds-open k phase limit T h = rw (ne-eqb phase 2 h, holdsFor)

@@ -3,7 +3,8 @@ ghost use mathlib.Core.Bool.{_&&_};
 ghost use mathlib.Core.Path.{_≡_};
 ghost use Prim.Native.Nat.{_+_, _-_, _≤_};
 ghost use lib.ListN.{length};
-ghost use Rattle.area.specs.Area.{areaWords, levelWords, levelsFrom, levelsOf, soundLevels};
+ghost use Rattle.tree.specs.Tree.{sequentialBits};
+ghost use Rattle.area.specs.Area.{areaLevels, Long, levelWords, levelsUp, levelsOf, soundLevels};
 ghost use Rattle.sound.specs.LevelTests.{allEmpty, soundSequential, soundAbove, soundOpen};
 use super::Area;
 use super::count;
@@ -19,7 +20,7 @@ const OUTPUT: usize = Block::OUTPUT_BITS as usize;
 
 // Whether a sequential level is sound, with so many compressions done and so many bits held.
 fn sequential_sound(part: &[u64], done: u64, held: usize) -> bool
-    requires { ⌜ (16 ≤ length (now part)) × (held ≤ 3072) ⌝ }
+    requires { ⌜ (16 ≤ length (now part)) × (held ≤ sequentialBits) ⌝ }
     ensures { λ r. ⌜ r ≡ soundSequential done held (now (part .entry)) ⌝ }
 {
     if done != 0 {
@@ -33,8 +34,8 @@ fn sequential_sound(part: &[u64], done: u64, held: usize) -> bool
 
 // Whether the levels from this one on hold nothing.
 fn levels_empty(area: &[u64], level: usize) -> bool
-    requires { ⌜ (areaWords ≤ length (now area)) × (1 ≤ level) × (level ≤ 28) ⌝ }
-    ensures { λ r. ⌜ r ≡ allEmpty (levelsFrom (now (area .entry)) (28 - level) level) ⌝ }
+    requires { ⌜ Long (now area) × (1 ≤ level) × (level ≤ areaLevels + 1) ⌝ }
+    ensures { λ r. ⌜ r ≡ allEmpty (levelsUp (now (area .entry)) level) ⌝ }
 {
     let a = Area::HEAD + Area::LEVEL * (level - 1);
     empty_from(&area[a..Area::WORDS], 0)
@@ -42,8 +43,8 @@ fn levels_empty(area: &[u64], level: usize) -> bool
 
 // Whether the sequential level is sound, and those above it hold nothing.
 fn last_sound(area: &[u64], level: usize, done: u64, held: usize) -> bool
-    requires { ⌜ (areaWords ≤ length (now area)) × (1 ≤ level) × (level ≤ 27) × (held ≤ 3072) ⌝ }
-    ensures { λ r. ⌜ r ≡ (soundSequential done held (levelWords (now (area .entry)) level) && allEmpty (levelsFrom (now (area .entry)) (28 - (level + 1)) (level + 1))) ⌝ }
+    requires { ⌜ Long (now area) × (1 ≤ level) × (level ≤ areaLevels) × (held ≤ sequentialBits) ⌝ }
+    ensures { λ r. ⌜ r ≡ (soundSequential done held (levelWords (now (area .entry)) level) && allEmpty (levelsUp (now (area .entry)) (level + 1))) ⌝ }
 {
     let a = Area::HEAD + Area::LEVEL * (level - 1);
     let e = a + Area::LEVEL;
@@ -56,8 +57,8 @@ fn last_sound(area: &[u64], level: usize, done: u64, held: usize) -> bool
 // Whether the levels above level 1 are sound, when so many outputs came to level 2 and so many levels from it up may be
 // parallel.
 fn above_sound(area: &[u64], levels: u64, outputs: u64) -> bool
-    requires { ⌜ areaWords ≤ length (now area) ⌝ }
-    ensures { λ r. ⌜ r ≡ soundAbove levels outputs (levelsFrom (now (area .entry)) 26 2) ⌝ }
+    requires { ⌜ Long (now area) ⌝ }
+    ensures { λ r. ⌜ r ≡ soundAbove levels outputs (levelsUp (now (area .entry)) 2) ⌝ }
 {
     let mut n = levels;
     let mut i = outputs;
@@ -80,7 +81,7 @@ fn above_sound(area: &[u64], levels: u64, outputs: u64) -> bool
 
 // Whether the levels of an open area are sound.
 fn open_sound(area: &[u64], limit: u64, total: u64) -> bool
-    requires { ⌜ areaWords ≤ length (now area) ⌝ }
+    requires { ⌜ Long (now area) ⌝ }
     ensures { λ r. ⌜ r ≡ soundOpen limit total (levelsOf (now (area .entry))) ⌝ }
 {
     if limit < 1 {
@@ -98,11 +99,11 @@ fn open_sound(area: &[u64], limit: u64, total: u64) -> bool
 
 // Whether the levels are sound.
 pub fn levels_sound(area: &[u64]) -> bool
-    requires { ⌜ areaWords ≤ length (now area) ⌝ }
+    requires { ⌜ Long (now area) ⌝ }
     ensures { λ r. ⌜ r ≡ soundLevels (now (area .entry)) ⌝ }
 {
-    if area[0] == 2 {
+    if area[Area::PHASE] == 2 {
         return levels_empty(area, 1);
     }
-    open_sound(area, area[4], area[1])
+    open_sound(area, area[Area::LIMIT], area[Area::TOTAL])
 }

@@ -5,7 +5,7 @@ ghost use mathlib.Core.Bool.{_||_, _&&_};
 ghost use Prim.Native.Nat.{_≤_};
 ghost use lib.Dec.{eqb};
 ghost use lib.ListN.{length, getD};
-ghost use Rattle.area.specs.Area.{areaWords, countFor, soundKey, soundCount, soundLast, sound};
+ghost use Rattle.area.specs.Area.{areaWords, countFor, soundKey, soundCount, soundLast, sound, Long};
 ghost use Rattle.sound.specs.SoundLaws.{soundHead};
 use node::Block;
 use node::Params;
@@ -20,6 +20,28 @@ pub struct Area {
 }
 
 impl Area {
+    // The words before the levels, by their places: 1 if open and 2 if ended, the total bits, the key's bytes, d, L, r, K, the
+    // compressions done, and 0.
+    pub const PHASE: usize = 0;
+
+    pub const TOTAL: usize = 1;
+
+    pub const KEY_BYTES: usize = 2;
+
+    pub const D: usize = 3;
+
+    pub const LIMIT: usize = 4;
+
+    pub const ROUNDS: usize = 5;
+
+    pub const KEY: usize = 6;
+
+    pub const KEY_END: usize = 14;
+
+    pub const DONE: usize = 14;
+
+    pub const LAST: usize = 15;
+
     // The words before the levels.
     pub const HEAD: usize = 16;
 
@@ -40,6 +62,19 @@ impl Area {
         ensures { λ r. ⌜ r .words ≡ areaWords ⌝ }
     {
         Self { words: Area::WORDS }
+    }
+
+    // The parameters that an area has.
+    pub fn params(area: &[u64]) -> Params
+        requires { ⌜ areaWords ≤ length (now area) ⌝ }
+        ensures { λ r. ⌜ r ≡ record { key = getD (now (area .entry)) 2 0; d = getD (now (area .entry)) 3 0; limit = getD (now (area .entry)) 4 0; rounds = getD (now (area .entry)) 5 0 } ⌝ }
+    {
+        Params::new(
+            area[Area::KEY_BYTES],
+            area[Area::D],
+            area[Area::LIMIT],
+            area[Area::ROUNDS],
+        )
     }
 }
 
@@ -66,29 +101,29 @@ fn count_for(phase: u64, limit: u64, total: u64) -> u64
 
 // Whether unused key bytes are zero, word 14 is right and word 15 is 0.
 fn rest_sound(area: &[u64]) -> bool
-    requires { ⌜ (areaWords ≤ length (now area)) × (getD (now area) 2 0 ≤ 64) × (getD (now area) 4 0 ≤ 64) ⌝ }
+    requires { ⌜ Long (now area) × (getD (now area) 2 0 ≤ 64) × (getD (now area) 4 0 ≤ 64) ⌝ }
     ensures { λ r. ⌜ r ≡ (soundKey (now (area .entry)) && (soundCount (now (area .entry)) && soundLast (now (area .entry)))) ⌝ }
 {
-    let from = 8 * area[2] as usize;
-    if !empty::empty_from(&area[6..14], from) {
+    let from = 8 * area[Area::KEY_BYTES] as usize;
+    if !empty::empty_from(&area[Area::KEY..Area::KEY_END], from) {
         return false;
     }
-    let count = count_for(area[0], area[4], area[1]);
-    if area[14] != count {
+    let count = count_for(area[Area::PHASE], area[Area::LIMIT], area[Area::TOTAL]);
+    if area[Area::DONE] != count {
         return false;
     }
-    area[15] == 0
+    area[Area::LAST] == 0
 }
 
 // Whether the words before the levels are sound.
 fn head_sound(area: &[u64]) -> bool
-    requires { ⌜ areaWords ≤ length (now area) ⌝ }
+    requires { ⌜ Long (now area) ⌝ }
     ensures { λ r. ⌜ r ≡ soundHead (now (area .entry)) ⌝ }
 {
-    if !is_phase(area[0]) {
+    if !is_phase(area[Area::PHASE]) {
         return false;
     }
-    let params = Params::new(area[2], area[3], area[4], area[5]);
+    let params = Area::params(area);
     let number = node::number::params_number(params);
     if number != 0 {
         return false;
@@ -98,7 +133,7 @@ fn head_sound(area: &[u64]) -> bool
 
 // Whether an area that is long enough is sound.
 pub fn is_sound(area: &[u64]) -> bool
-    requires { ⌜ areaWords ≤ length (now area) ⌝ }
+    requires { ⌜ Long (now area) ⌝ }
     ensures { λ r. ⌜ r ≡ sound (now (area .entry)) ⌝ }
 {
     if !head_sound(area) {

@@ -1,4 +1,4 @@
--- Laws: of the end in Calls: the root's words and the digest, the wipe, and `endOf` refused and accepted.
+-- Laws: of the end in Calls: the root's words and the digest, and the wipe.
 use mathlib.Core.Path.{_≡_, refl, sym, ap, _∙_}
 use mathlib.Core.Bool.{Bool, true, false}
 use mathlib.Core.List.{List, _∷_, _++_}
@@ -10,98 +10,97 @@ use lib.Seq.{drop-drop, take-all}
 use Rattle.lists.specs.Part.{put}
 use Rattle.bits.specs.Bits.{bitsOf, numbers}
 use Rattle.bits.specs.BitsLaws.{bitsOf-numbers}
-use Rattle.tree.specs.Tree.{Params, Node, node, output, lastOr, noNode, digestBytes}
+use Rattle.tree.specs.Tree.{Params, Node, node, output, lastOr, noNode, digestBytes, blockBits, sequentialBits, outputBits}
 use Rattle.tree.specs.TreeLaws.{length-output-node}
 use Rattle.tree.specs.Count.{treeNodes-bound}
-use Rattle.area.specs.Area.{areaWords, totalOf, compressionsOf, paramsOf, levelWords, levelsFrom, levelsOf, withLevels, emptyLevel, emptyLevels, doneBlocks, heldBits}
-use Rattle.area.specs.Calls.{outWords, joinParallel, joinSequential, closeAbove, closing, closedBy, logged, endNumber, endedArea, digestOut, endOf}
-use Rattle.area.specs.CallLaws.{EndPassed, end-refused, end-accepted}
+use Rattle.area.specs.Area.{areaWords, totalOf, compressionsOf, paramsOf, levelWords, levelsFrom, levelsOf, withLevels, emptyLevel, emptyLevels, doneBlocks, heldBits, areaLevels, headWords, levelsUp, Long}
+use Rattle.area.specs.Calls.{outWords, joinParallel, joinSequential, closeAbove, closing, closedBy, endedArea, digestOut}
+use Rattle.area.specs.CallLaws.{EndPassed}
 use Rattle.area.specs.Machine
 use Rattle.area.specs.Close
-use Rattle.climb.specs.Levels.{length-level, length-joined}
+use Rattle.area.specs.AreaLaws.{length-levelWords}
+use Rattle.area.specs.Widths.{length-joined}
 use Rattle.climb.specs.ReceiveLaws.{length-outWords}
 use Rattle.climb.specs.OpenArea.{OpenArea, size-read}
-use Rattle.stream.specs.Answers.{ended}
 use Rattle.stream.specs.NumberLaws.{count-left}
 
 -- ---- the root's output has 1,024 bits, so that its words are these bits
 
-sized-above : (P : Params) (area : List ℕ) → areaWords ≤ length area → (m n level k i : ℕ) (out : List ℕ) (x : Node) → 1 ≤ k → k + m ≤ 28
-    → length out ≡ 16 → length (output (P .rounds) x) ≡ 1024
-    → length (output (P .rounds) (lastOr x (closeAbove P n level i out (levelsFrom area m k)))) ≡ 1024
-sized-above P area long zero n level k i out x low high w h = rw (Close.close-none P n level i out) h
-sized-above P area long (suc m) zero level k i out x low high w h =
+sized-above : (P : Params) (area : List ℕ) → Long area → (m n level k i : ℕ) (out : List ℕ) (x : Node) → k + m ≤ areaLevels + 1
+    → length out ≡ 16 → length (output (P .rounds) x) ≡ outputBits
+    → length (output (P .rounds) (lastOr x (closeAbove P n level i out (levelsFrom area m k)))) ≡ outputBits
+sized-above P area long zero n level k i out x high w h = rw (Close.close-none P n level i out) h
+sized-above P area long (suc m) zero level k i out x high w h =
     rw (Close.close-seq P level i out (levelWords area k) (levelsFrom area m (suc k)))
-    (length-output-node P (P .rounds) level (i / 3) 1 (1024 * (2 - i % 3)) (joinSequential i out (levelWords area k))
-    (length-joined (16 + 16 * (i % 3)) (levelWords area k) out (length-level area k long low (omega arith)) w (omega arith)))
-sized-above P area long (suc m) (suc n) level k i out x low high w h =
-    go (eqb (i / 4) 0) refl (λ y g. sized-above P area long m n (suc level) (suc k) (i / 4) (outWords P y) y (omega arith) (omega arith) (length-outWords P y) g)
+    (length-output-node P (P .rounds) level (i / 3) 1 (outputBits * (2 - i % 3)) (joinSequential i out (levelWords area k))
+    (length-joined (16 + 16 * (i % 3)) (levelWords area k) out (length-levelWords area k long (omega arith)) w (omega arith)))
+sized-above P area long (suc m) (suc n) level k i out x high w h =
+    go (eqb (i / 4) 0) refl (λ y g. sized-above P area long m n (suc level) (suc k) (i / 4) (outWords P y) y (omega arith) (length-outWords P y) g)
   where
     block : List ℕ
     block = joinParallel i out (levelWords area k)
 
     size : length block ≡ 64
-    size = length-joined (16 * (i % 4)) (levelWords area k) out (length-level area k long low (omega arith)) w (omega arith)
+    size = length-joined (16 * (i % 4)) (levelWords area k) out (length-levelWords area k long (omega arith)) w (omega arith)
 
     go : (b : Bool) → eqb (i / 4) 0 ≡ b
-        → ((y : Node) → length (output (P .rounds) y) ≡ 1024
-        → length (output (P .rounds) (lastOr y (closeAbove P n (suc level) (i / 4) (outWords P y) (levelsFrom area m (suc k))))) ≡ 1024)
-        → length (output (P .rounds) (lastOr x (closeAbove P (suc n) level i out (levelWords area k ∷ levelsFrom area m (suc k))))) ≡ 1024
-    go true e up = rw (Close.close-one P n level i out (levelWords area k) (levelsFrom area m (suc k)) e) (length-output-node P (P .rounds) level 0 1 (1024 * (3 - i % 4)) block size)
+        → ((y : Node) → length (output (P .rounds) y) ≡ outputBits
+        → length (output (P .rounds) (lastOr y (closeAbove P n (suc level) (i / 4) (outWords P y) (levelsFrom area m (suc k))))) ≡ outputBits)
+        → length (output (P .rounds) (lastOr x (closeAbove P (suc n) level i out (levelWords area k ∷ levelsFrom area m (suc k))))) ≡ outputBits
+    go true e up = rw (Close.close-one P n level i out (levelWords area k) (levelsFrom area m (suc k)) e) (length-output-node P (P .rounds) level 0 1 (outputBits * (3 - i % 4)) block size)
     go false e up =
         rw (Close.close-many P n level i out (levelWords area k) (levelsFrom area m (suc k)) e)
-        (up (node P level (i / 4) 0 (1024 * (3 - i % 4)) block) (length-output-node P (P .rounds) level (i / 4) 0 (1024 * (3 - i % 4)) block size))
+        (up (node P level (i / 4) 0 (outputBits * (3 - i % 4)) block) (length-output-node P (P .rounds) level (i / 4) 0 (outputBits * (3 - i % 4)) block size))
 
-sized-root : (P : Params) (limit T : ℕ) (area : List ℕ) → areaWords ≤ length area
-    → length (output (P .rounds) (lastOr noNode (closing P limit T (levelsOf area)))) ≡ 1024
+sized-root : (P : Params) (limit T : ℕ) (area : List ℕ) → Long area
+    → length (output (P .rounds) (lastOr noNode (closing P limit T (levelsOf area)))) ≡ outputBits
 unfolding levelsOf
 sized-root P zero T area long =
-    rw (Machine.closing-seq P T (levelWords area 1) (levelsFrom area 26 2))
-    (length-output-node P (P .rounds) 1 (doneBlocks 3072 T) 1 (3072 - heldBits 3072 T) (levelWords area 1) (length-level area 1 long (omega arith) (omega arith)))
-sized-root P (suc n) T area long = go (eqb (doneBlocks 4096 T) 0) refl
+    rw (Machine.closing-seq P T (levelWords area 1) (levelsUp area 2))
+    (length-output-node P (P .rounds) 1 (doneBlocks sequentialBits T) 1 (sequentialBits - heldBits sequentialBits T) (levelWords area 1) (length-levelWords area 1 long (omega arith)))
+sized-root P (suc n) T area long = go (eqb (doneBlocks blockBits T) 0) refl
   where
     ws : List ℕ
     ws = levelWords area 1
 
     size : length ws ≡ 64
-    size = length-level area 1 long (omega arith) (omega arith)
+    size = length-levelWords area 1 long (omega arith)
 
-    go : (b : Bool) → eqb (doneBlocks 4096 T) 0 ≡ b → length (output (P .rounds) (lastOr noNode (closing P (suc n) T (ws ∷ levelsFrom area 26 2)))) ≡ 1024
-    go true e = rw (Machine.closing-one P n T ws (levelsFrom area 26 2) e) (length-output-node P (P .rounds) 1 0 1 (4096 - heldBits 4096 T) ws size)
+    go : (b : Bool) → eqb (doneBlocks blockBits T) 0 ≡ b → length (output (P .rounds) (lastOr noNode (closing P (suc n) T (ws ∷ levelsUp area 2)))) ≡ outputBits
+    go true e = rw (Machine.closing-one P n T ws (levelsUp area 2) e) (length-output-node P (P .rounds) 1 0 1 (blockBits - heldBits blockBits T) ws size)
     go false e =
-        let y : Node = node P 1 (doneBlocks 4096 T) 0 (4096 - heldBits 4096 T) ws in
-        rw (Machine.closing-many P n T ws (levelsFrom area 26 2) e)
-        (sized-above P area long 26 n 2 2 (doneBlocks 4096 T) (outWords P y) y (omega arith) (omega arith) (length-outWords P y)
-        (length-output-node P (P .rounds) 1 (doneBlocks 4096 T) 0 (4096 - heldBits 4096 T) ws size))
+        let y : Node = node P 1 (doneBlocks blockBits T) 0 (blockBits - heldBits blockBits T) ws in
+        rw (Machine.closing-many P n T ws (levelsUp area 2) e)
+        (sized-above P area long (areaLevels - 1) n 2 2 (doneBlocks blockBits T) (outWords P y) y (omega arith) (length-outWords P y)
+        (length-output-node P (P .rounds) 1 (doneBlocks blockBits T) 0 (blockBits - heldBits blockBits T) ws size))
 
-words-bits : (P : Params) (m : Node) → length (output (P .rounds) m) ≡ 1024 → bitsOf 64 (outWords P m) ≡ output (P .rounds) m
+words-bits : (P : Params) (m : Node) → length (output (P .rounds) m) ≡ outputBits → bitsOf 64 (outWords P m) ≡ output (P .rounds) m
 unfolding outWords
 words-bits P m h =
-    bitsOf-numbers 64 16 (output (P .rounds) m) (omega arith) ∙ take-all 1024 (output (P .rounds) m) (omega arith)
+    bitsOf-numbers 64 16 (output (P .rounds) m) (omega arith) ∙ take-all outputBits (output (P .rounds) m) (omega arith)
 
 -- ---- the digest
 
-pub digest-written : (area out root : List ℕ) (d : ℕ) → areaWords ≤ length area → d ≡ getD area 3 0 → root ≡ outWords (paramsOf area) (lastOr noNode (closedBy area))
-    → numbers 8 (digestBytes d) (drop (1024 - d) (bitsOf 64 root) ++ replicate 7 false) ++ drop (digestBytes d) out ≡ digestOut area (closedBy area) out
+pub digest-written : (area out root : List ℕ) (d : ℕ) → Long area → d ≡ getD area 3 0 → root ≡ outWords (paramsOf area) (lastOr noNode (closedBy area))
+    → numbers 8 (digestBytes d) (drop (outputBits - d) (bitsOf 64 root) ++ replicate 7 false) ++ drop (digestBytes d) out ≡ digestOut area (closedBy area) out
 unfolding digestOut closedBy
 digest-written area out root d long ed e =
     let P : Params = paramsOf area in
     let m : Node = lastOr noNode (closing P (P .limit) (totalOf area) (levelsOf area)) in
     let b : bitsOf 64 root ≡ output (P .rounds) m = ap (bitsOf 64) e ∙ words-bits P m (sized-root P (P .limit) (totalOf area) area long) in
     let s : d ≡ P .d = ed ∙ sym (size-read area) in
-    ap (λ (x : List Bool). numbers 8 (digestBytes d) (drop (1024 - d) x ++ replicate 7 false) ++ drop (digestBytes d) out) b
-    ∙ ap (λ (k : ℕ). numbers 8 (digestBytes k) (drop (1024 - k) (output (P .rounds) m) ++ replicate 7 false) ++ drop (digestBytes k) out) s
+    ap (λ (x : List Bool). numbers 8 (digestBytes d) (drop (outputBits - d) x ++ replicate 7 false) ++ drop (digestBytes d) out) b
+    ∙ ap (λ (k : ℕ). numbers 8 (digestBytes k) (drop (outputBits - k) (output (P .rounds) m) ++ replicate 7 false) ++ drop (digestBytes k) out) s
 
 -- ---- the wipe
 
-pub wiped : (area : List ℕ) → put 16 1728 area (replicate 1728 0) ≡ withLevels area emptyLevels
+pub wiped : (area : List ℕ) → (let n : ℕ = areaWords - headWords in put headWords n area (replicate n 0) ≡ withLevels area (emptyLevels areaLevels))
 unfolding withLevels emptyLevel emptyLevels mathlib.Core.List.flatten
-wiped area = ap (λ (x : List ℕ). take 16 area ++ (replicate 1728 0 ++ x)) (drop-drop 1728 16 area)
+wiped area =
+    let n : ℕ = areaWords - headWords in
+    ap (λ (x : List ℕ). take headWords area ++ (replicate n 0 ++ x)) (drop-drop n headWords area)
 
 -- what an accepted end shows
-pub passed-open : {area out log : List ℕ} → EndPassed area out log → OpenArea area
-passed-open p = record { long = p .long; sound = p .sound; phase = p .notEnded }
-
 pub digest-room : {area out log : List ℕ} → EndPassed area out log → digestBytes (getD area 3 0) ≤ length out
 digest-room {area} p = rw (size-read area) at (p .output)
 
@@ -111,17 +110,6 @@ count-fits {area} o h = omega (arith, count-left o h, treeNodes-bound (getD area
 
 -- what the wipe leaves
 pub wiped-area : (area : List ℕ) (nodes : ℕ) → nodes ≡ length (closedBy area)
-    → withLevels (set (set area 0 2) 14 (compressionsOf area + nodes)) emptyLevels ≡ endedArea area (closedBy area)
+    → withLevels (set (set area 0 2) 14 (compressionsOf area + nodes)) (emptyLevels areaLevels) ≡ endedArea area (closedBy area)
 unfolding endedArea
-wiped-area area nodes e = ap (λ (x : ℕ). withLevels (set (set area 0 2) 14 (compressionsOf area + x)) emptyLevels) e
-
--- ---- the answer
-
-pub answer-refused : (area out log : List ℕ) (n : ℕ) → n ≡ endNumber area out log → (n ≡ 0 → ⊥) → ended n 0 area out log ≡ endOf area out log
-answer-refused area out log zero e h = absurd (h refl)
-answer-refused area out log (suc k) e h = sym (end-refused area out log k (sym e))
-
-pub answer-accepted : (area out log : List ℕ) (count : ℕ) (area′ out′ log′ : List ℕ) → endNumber area out log ≡ 0 → count ≡ length (closedBy area)
-    → area′ ≡ endedArea area (closedBy area) → out′ ≡ digestOut area (closedBy area) out → log′ ≡ logged (closedBy area) log
-    → ended 0 count area′ out′ log′ ≡ endOf area out log
-answer-accepted area out log count area′ out′ log′ e ec ea eo el = rw (ea, ec, eo, el) (sym (end-accepted area out log e))
+wiped-area area nodes e = ap (λ (x : ℕ). withLevels (set (set area 0 2) 14 (compressionsOf area + x)) (emptyLevels areaLevels)) e

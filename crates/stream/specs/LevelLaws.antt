@@ -7,8 +7,7 @@ use lib.Dec.{leb}
 use lib.ListN.{length}
 use borrow.Author.Tests.{lt-leb, le-leb, leb-true}
 use Rattle.lists.specs.And.{and-parts}
-use Rattle.tree.specs.Tree.{mostLevels}
-use Rattle.area.specs.Area.{areaWords, levelWords, sound}
+use Rattle.area.specs.Area.{areaWords, levelWords, sound, areaLevels, Long}
 use Rattle.area.specs.Calls.{shown, levelOf}
 
 module _ (area : List ℕ) (level : ℕ) where
@@ -16,26 +15,26 @@ module _ (area : List ℕ) (level : ℕ) where
   unfolding shown
   shown-short h = rw (lt-leb areaWords (length area) h)
 
-  pub shown-unsound : areaWords ≤ length area → sound area ≡ false → false ≡ shown area level
+  pub shown-unsound : Long area → sound area ≡ false → false ≡ shown area level
   unfolding shown
   shown-unsound h s = rw (le-leb areaWords (length area) h, s)
 
-  pub shown-low : areaWords ≤ length area → sound area ≡ true → level < 1 → false ≡ shown area level
+  pub shown-low : Long area → sound area ≡ true → level < 1 → false ≡ shown area level
   unfolding shown
   shown-low h s l = rw (le-leb areaWords (length area) h, s, lt-leb 1 level l)
 
-  pub shown-high : areaWords ≤ length area → sound area ≡ true → 1 ≤ level → leb level mostLevels ≡ shown area level
+  pub shown-high : Long area → sound area ≡ true → 1 ≤ level → leb level areaLevels ≡ shown area level
   unfolding shown
   shown-high h s l = rw (le-leb areaWords (length area) h, s, le-leb 1 level l)
 
   -- what is shown is there
-  pub shown-there : shown area level ≡ true → (areaWords ≤ length area) × (1 ≤ level) × (level ≤ mostLevels)
+  pub shown-there : shown area level ≡ true → (Long area) × (1 ≤ level) × (level ≤ areaLevels)
   unfolding shown
   shown-there e =
-      let a = and-parts (leb areaWords (length area)) (sound area && (leb 1 level && leb level mostLevels)) e in
-      let b = and-parts (sound area) (leb 1 level && leb level mostLevels) (a .1) in
-      let c = and-parts (leb 1 level) (leb level mostLevels) (b .1) in
-      (leb-true areaWords (length area) (a .0), leb-true 1 level (c .0), leb-true level mostLevels (c .1))
+      let a = and-parts (leb areaWords (length area)) (sound area && (leb 1 level && leb level areaLevels)) e in
+      let b = and-parts (sound area) (leb 1 level && leb level areaLevels) (a .1) in
+      let c = and-parts (leb 1 level) (leb level areaLevels) (b .1) in
+      (leb-true areaWords (length area) (a .0), leb-true 1 level (c .0), leb-true level areaLevels (c .1))
 
   pub level-hidden : shown area level ≡ false → [] ≡ levelOf area level
   unfolding levelOf

@@ -1,8 +1,7 @@
 // The end of a stream: a closing, which makes the last nodes and only reads the area, and then a wipe.
 ghost use mathlib.Core.Path.{_≡_};
-ghost use Prim.Native.Nat.{_≤_};
 ghost use lib.ListN.{length, set};
-ghost use Rattle.area.specs.Area.{areaWords, withLevels, emptyLevels};
+ghost use Rattle.area.specs.Area.{areaLevels, Long, withLevels, emptyLevels};
 ghost use Rattle.area.specs.Calls.{logged, closedBy, endedArea, digestOut, endOf};
 ghost use Rattle.area.specs.CallLaws.{EndPassed};
 use super::number;
@@ -11,12 +10,12 @@ use sound::Area;
 
 // The second half: word 0 says that the stream has ended, word 14 counts all nodes of its tree, and the levels hold nothing.
 fn wipe(area: &mut [u64], nodes: u64)
-    requires { ⌜ areaWords ≤ length (now area) ⌝ }
-    ensures { λ _. ⌜ now (area .exit) ≡ withLevels (set (set (now (area .entry)) 0 2) 14 nodes) emptyLevels ⌝ }
+    requires { ⌜ Long (now area) ⌝ }
+    ensures { λ _. ⌜ now (area .exit) ≡ withLevels (set (set (now (area .entry)) 0 2) 14 nodes) (emptyLevels areaLevels) ⌝ }
 {
-    area[0] = 2;
-    area[14] = nodes;
-    climb::clear(&mut area[Area::HEAD..Area::WORDS]);
+    area[Area::PHASE] = 2;
+    area[Area::DONE] = nodes;
+    words::clear(&mut area[Area::HEAD..Area::WORDS]);
 }
 
 // Makes the nodes that are left, writes the digest, and wipes the area; answers how many nodes were made.
@@ -29,8 +28,8 @@ fn finish(area: &mut [u64], digest: &mut [u8], log: &mut [u64]) -> u64
 {
     let nodes = number::nodes_left(area);
     let root = closing::closing(area, log);
-    node::digest::write_digest(&root, area[3], digest);
-    let all = area[14] + nodes;
+    node::digest::write_digest(&root, area[Area::D], digest);
+    let all = area[Area::DONE] + nodes;
     wipe(area, all);
     nodes
 }

@@ -3,7 +3,7 @@
 ghost use mathlib.Core.Path.{_≡_};
 ghost use Prim.Native.Nat.{_≤_};
 ghost use lib.ListN.{length};
-ghost use Rattle.area.specs.Area.{areaWords};
+ghost use Rattle.area.specs.Area.{Long};
 ghost use Rattle.area.specs.Calls.{openedArea, openOf, feedOf, shown, levelOf, logWordsOf};
 use node::Answer;
 use node::Block;
@@ -31,17 +31,24 @@ pub fn log_words(bits: u64) -> Answer
 
 // Writes the words of an open area with no bits.
 fn write_open(area: &mut [u64], key: &[u8], d: u64, limit: u64, rounds: u64)
-    requires { ⌜ (areaWords ≤ length (now area)) × (length (now key) ≤ 64) ⌝ }
+    requires { ⌜ Long (now area) × (length (now key) ≤ 64) ⌝ }
     ensures { λ _. ⌜ now (area .exit) ≡ openedArea (now (area .entry)) (record { key = now (key .entry); d = d; limit = limit; rounds = rounds }) ⌝ }
 {
-    area[0] = 1;
-    area[1] = 0;
-    area[2] = key.len() as u64;
-    area[3] = d;
-    area[4] = limit;
-    area[5] = rounds;
-    climb::clear(&mut area[6..Area::WORDS]);
-    bits::fill(&mut area[6..14], 0, key, 0, 0, 8 * key.len());
+    area[Area::PHASE] = 1;
+    area[Area::TOTAL] = 0;
+    area[Area::KEY_BYTES] = key.len() as u64;
+    area[Area::D] = d;
+    area[Area::LIMIT] = limit;
+    area[Area::ROUNDS] = rounds;
+    words::clear(&mut area[Area::KEY..Area::WORDS]);
+    bits::fill(
+        &mut area[Area::KEY..Area::KEY_END],
+        0,
+        key,
+        0,
+        0,
+        8 * key.len(),
+    );
 }
 
 // Opens a stream in an area, whatever it held.

@@ -8,8 +8,8 @@ use borrow.Author.Tests.{ne-eqb, eqb-true, eqb-false, ltb-true, ltb-false}
 use lib.Dec.{eqb, ltb}
 use lib.Pow.{shr-shr}
 use lib.ListN.{getD, replicate}
-use Rattle.tree.specs.Tree.{blockBits, mostLevels}
-use Rattle.area.specs.Area.{phaseOf, totalOf, doneBlocks, heldBits, parallelHold, holdsAbove, openHolds}
+use Rattle.tree.specs.Tree.{blockBits, sequentialBits, outputBits}
+use Rattle.area.specs.Area.{phaseOf, totalOf, doneBlocks, heldBits, parallelHold, holdsAbove, openHolds, areaLevels}
 use Rattle.text.specs.Text.{hasLine, heldLevels}
 use Rattle.text.specs.Lines.{hasLineAt}
 
@@ -57,7 +57,7 @@ unfolding above
 above-parallel zero n i j h g = absurd (omega arith)
 above-parallel (suc k) zero i j h g = absurd (omega arith)
 above-parallel (suc k) (suc n) i zero h g =
-    none-held (1024 * (i % 4)) (i % 4) (λ e. omega arith) (λ f e. f (omega arith)) ∙ ap (λ (x : ℕ). not (eqb (x % 4) 0)) (sym (shift-none i))
+    none-held (outputBits * (i % 4)) (i % 4) (λ e. omega arith) (λ f e. f (omega arith)) ∙ ap (λ (x : ℕ). not (eqb (x % 4) 0)) (sym (shift-none i))
 above-parallel (suc k) (suc n) i (suc j) h g =
     above-parallel k n (i / 4) j (omega arith) (omega arith) ∙ ap (λ (x : ℕ). not (eqb (x % 4) 0)) (shift-next i j)
 
@@ -65,7 +65,7 @@ above-sequential : (k n i : ℕ) → n < k → above k n i n ≡ not (eqb (i / 2
 unfolding above
 above-sequential zero n i h = absurd (omega arith)
 above-sequential (suc k) zero i h =
-    some-held (i / 3) (1024 * (i % 3)) i (λ e. (omega arith, omega arith)) (λ f p. f (omega (arith, p .0, p .1)))
+    some-held (i / 3) (outputBits * (i % 3)) i (λ e. (omega arith, omega arith)) (λ f p. f (omega (arith, p .0, p .1)))
     ∙ ap (λ (x : ℕ). not (eqb x 0)) (sym (shift-none i))
 above-sequential (suc k) (suc n) i h = above-sequential k n (i / 4) (omega arith) ∙ ap (λ (x : ℕ). not (eqb x 0)) (shift-next i n)
 
@@ -79,30 +79,30 @@ above-none (suc k) (suc n) i (suc j) g = above-none k n (i / 4) j (omega arith)
 -- ---- an open area
 
 lineOpen : ℕ → ℕ → ℕ → Bool
-lineOpen limit T j = getD (map hasLine (openHolds limit T)) j false
+lineOpen limit T j = getD (map hasLine (openHolds areaLevels limit T)) j false
 
 open-first : (limit T : ℕ) → lineOpen limit T 0 ≡ not (eqb T 0)
 unfolding lineOpen
-open-first zero T = some-held (doneBlocks 3072 T) (heldBits 3072 T) T (λ e. (omega arith, omega arith)) (λ f p. f (omega (arith, p .0, p .1)))
-open-first (suc n) T = none-held (heldBits 4096 T) T (λ e. omega arith) (λ f e. f (omega arith))
+open-first zero T = some-held (doneBlocks sequentialBits T) (heldBits sequentialBits T) T (λ e. (omega arith, omega arith)) (λ f p. f (omega (arith, p .0, p .1)))
+open-first (suc n) T = none-held (heldBits blockBits T) T (λ e. omega arith) (λ f e. f (omega arith))
 
 -- the levels above level 1, of which j stand below
-open-sequential : (limit T j : ℕ) → suc j ≤ limit → limit < suc (suc j) → j < 26 → lineOpen limit T (suc j) ≡ not (eqb (doneBlocks blockBits T / 2 ^ (2 * j)) 0)
+open-sequential : (limit T j : ℕ) → suc j ≤ limit → limit < suc (suc j) → j < areaLevels - 1 → lineOpen limit T (suc j) ≡ not (eqb (doneBlocks blockBits T / 2 ^ (2 * j)) 0)
 unfolding lineOpen above
 open-sequential zero T j g h k = absurd (omega arith)
 open-sequential (suc n) T j g h k =
     let e : j ≡ n = omega arith in
-    rw e (above-sequential 26 n (doneBlocks blockBits T) (omega arith))
+    rw e (above-sequential (areaLevels - 1) n (doneBlocks blockBits T) (omega arith))
 
-open-parallel : (limit T j : ℕ) → suc (suc j) ≤ limit → j < 26 → lineOpen limit T (suc j) ≡ not (eqb (doneBlocks blockBits T / 2 ^ (2 * j) % 4) 0)
+open-parallel : (limit T j : ℕ) → suc (suc j) ≤ limit → j < areaLevels - 1 → lineOpen limit T (suc j) ≡ not (eqb (doneBlocks blockBits T / 2 ^ (2 * j) % 4) 0)
 unfolding lineOpen above
 open-parallel zero T j g k = absurd (omega arith)
-open-parallel (suc n) T j g k = above-parallel 26 n (doneBlocks blockBits T) j k (omega arith)
+open-parallel (suc n) T j g k = above-parallel (areaLevels - 1) n (doneBlocks blockBits T) j k (omega arith)
 
 open-none : (limit T j : ℕ) → limit < suc j → lineOpen limit T (suc j) ≡ false
 unfolding lineOpen above
-open-none zero T j g = bare 26 j
-open-none (suc n) T j g = above-none 26 n (doneBlocks blockBits T) j (omega arith)
+open-none zero T j g = bare (areaLevels - 1) j
+open-none (suc n) T j g = above-none (areaLevels - 1) n (doneBlocks blockBits T) j (omega arith)
 
 -- ---- as the code asks
 
@@ -110,12 +110,12 @@ module _ (area : List ℕ) (level : ℕ) where
   held-open : (phaseOf area ≡ 2 → ⊥) → hasLineAt area level ≡ lineOpen (getD area 4 0) (totalOf area) (level - 1)
   unfolding hasLineAt lineOpen
   held-open p =
-      ap (λ (b : Bool). getD (map hasLine (elim b [ true ↦ replicate mostLevels (parallelHold 0) | false ↦ openHolds (getD area 4 0) (totalOf area) ])) (level - 1) false)
+      ap (λ (b : Bool). getD (map hasLine (elim b [ true ↦ replicate areaLevels (parallelHold 0) | false ↦ openHolds areaLevels (getD area 4 0) (totalOf area) ])) (level - 1) false)
       (ne-eqb (phaseOf area) 2 p)
 
   pub held-ended : phaseOf area ≡ 2 → false ≡ hasLineAt area level
   unfolding hasLineAt
-  held-ended e = sym (ap (λ (p : ℕ). getD (heldLevels p (getD area 4 0) (totalOf area)) (level - 1) false) e ∙ bare 27 (level - 1))
+  held-ended e = sym (ap (λ (p : ℕ). getD (heldLevels p (getD area 4 0) (totalOf area)) (level - 1) false) e ∙ bare areaLevels (level - 1))
 
   -- level 1 holds bits once there are some
   pub held-first : (phaseOf area ≡ 2 → ⊥) → level ≡ 1 → not (eqb (totalOf area) 0) ≡ hasLineAt area level
@@ -123,7 +123,7 @@ module _ (area : List ℕ) (level : ℕ) where
       let k : level - 1 ≡ 0 = omega arith in
       sym (held-open p ∙ ap (lineOpen (getD area 4 0) (totalOf area)) k ∙ open-first (getD area 4 0) (totalOf area))
 
-  module _ (p : phaseOf area ≡ 2 → ⊥) (lo : 2 ≤ level) (hi : level ≤ 27) where
+  module _ (p : phaseOf area ≡ 2 → ⊥) (lo : 2 ≤ level) (hi : level ≤ areaLevels) where
     at-level : hasLineAt area level ≡ lineOpen (getD area 4 0) (totalOf area) (suc (level - 2))
     at-level =
         let k : level - 1 ≡ suc (level - 2) = omega arith in

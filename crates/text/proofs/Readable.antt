@@ -5,13 +5,14 @@ use mathlib.Core.List.{List, _++_, map}
 use mathlib.Core.Option.{Option, none, some, Option·some-injective}
 use Prim.Native.Nat.{ℕ, _+_, _-_, _*_, _<_}
 use native.Mathlib.Omega.{arith}
-use lib.ListN.{length, take, drop, length-append, length-drop, length-replicate}
-use lib.Seq.{take-all, drop-at}
-use Rattle.area.specs.Area.{headWords, areaWords, sound}
+use borrow.Rule.Slice.PartMut.{putMid}
+use lib.ListN.{length, take, drop, replicate, length-append, length-drop, length-replicate}
+use lib.Seq.{take-all, take-at, drop-at}
+use Rattle.area.specs.Area.{headWords, areaWords, sound, areaLevels, blockWords}
 use Rattle.digits.specs.Digits.{allSpelt}
-use Rattle.text.specs.Text.{heldOf, textOf, speltLevels, speltBelow, speltArea, same, textIs, readable}
+use Rattle.text.specs.Text.{line1Fields, heldOf, textOf, levelBytes, headBytes, speltHead, speltLevels, speltArea, same, textIs, readable}
 use Rattle.text.specs.LengthLaws.{lines, text-length}
-use Rattle.text.specs.Lines.{zeroLevels, linesAbove, HeadSpelt, Spelt, length-text}
+use Rattle.text.specs.Lines.{zeroLevels, linesAbove, Spelt, length-text}
 use Rattle.text.specs.TextLaws.{held-front, length-speltHead, headed, headed-front, length-speltArea}
 use Rattle.text.proofs.SameLaws.{same-other-length}
 
@@ -37,56 +38,68 @@ absurd-bool e = let z : _≡_ {A = ℕ} 0 1 = cc in absurd (omega arith)
 refused : (text area : List ℕ) → readable text ≡ false → Spelt false text area
 refused text area e = record { yes = λ f. absurd-bool f; no = λ f. e }
 
-pub short-text : (text area : List ℕ) → length text < 174 → Spelt false text area
+pub short-text : (text area : List ℕ) → length text < headBytes → Spelt false text area
 short-text text area h =
     refused text area (other-length text (λ a s e. omega (arith, length-text a (omega (arith, length-speltArea text a s)), e, h)))
 
--- ---- after the head, s1
+-- ---- after the head, whose words are ys, in an area whose levels are empty
 
-length-zeros : length zeroLevels ≡ 1728
+length-zeros : length zeroLevels ≡ areaLevels * blockWords
 unfolding zeroLevels
-length-zeros = length-replicate {A = ℕ} 1728 0
+length-zeros = length-replicate {A = ℕ} (areaLevels * blockWords) 0
 
-module _ (text s1 : List ℕ) (r : Bool) (s : HeadSpelt r text s1) where
+module _ (text ys : List ℕ) (r : Bool) {area : List ℕ} (z : area ≡ replicate areaWords 0) (s : cond r (some ys) none ≡ speltHead line1Fields text) where
+  abbrev s1 : List ℕ
+  s1 = putMid 0 headWords area ys
+
   pub head-refused : r ≡ false → Spelt false text s1
   unfolding speltArea
-  head-refused e = refused text s1 (no-digits text (ap (speltBelow text) (s .no e)))
+  head-refused e = refused text s1 (no-digits text (rw (← s, e)))
 
   module _ (e : r ≡ true) where
-    pub head-size : length s1 ≡ areaWords
-    head-size = ap length (s .yes e .1) ∙ rw (length-append (take headWords s1) zeroLevels, length-speltHead text (take headWords s1) (s .yes e .0), length-zeros)
+    head-known : speltHead line1Fields text ≡ some ys
+    head-known = sym s ∙ ap (λ (b : Bool). cond b (some ys) none) e
 
-    pub head-empty : drop headWords s1 ≡ zeroLevels
-    head-empty = ap (drop headWords) (s .yes e .1) ∙ drop-at (take headWords s1) zeroLevels headWords (length-speltHead text (take headWords s1) (s .yes e .0))
+    s1-is : s1 ≡ ys ++ zeroLevels
+    unfolding zeroLevels
+    s1-is = ap (λ (l : List ℕ). ys ++ drop headWords l) z
+
+    front : take headWords s1 ≡ ys
+    front = take-at ys (drop headWords area) headWords (length-speltHead text ys head-known)
+
+    pub head-size : length s1 ≡ areaWords
+    head-size = ap length s1-is ∙ rw (length-append ys zeroLevels, length-speltHead text ys head-known, length-zeros)
 
     -- the text of s1 is as long as that of the whole area
     as-long : (area : List ℕ) → speltArea text ≡ some area → length (textOf s1) ≡ length (textOf area)
     as-long area f =
         let w = headed text area f in
-        let q = s .yes e .0 in
-        let g : take headWords s1 ≡ w .head = Option·some-injective (take headWords s1) (w .head) (sym q ∙ w .spelt) in
-        let h : heldOf s1 ≡ heldOf area = sym (held-front s1) ∙ ap heldOf (g ∙ sym (headed-front text area w)) ∙ held-front area in
-        text-length s1 (omega (arith, head-size)) ∙ ap (λ (hs : List Bool). 174 + 1027 * lines hs) h
+        let g : ys ≡ w .head = Option·some-injective ys (w .head) (sym head-known ∙ w .spelt) in
+        let h : heldOf s1 ≡ heldOf area = sym (held-front s1) ∙ ap heldOf (front ∙ g ∙ sym (headed-front text area w)) ∙ held-front area in
+        text-length s1 (omega (arith, head-size)) ∙ ap (λ (hs : List Bool). headBytes + levelBytes * lines hs) h
         ∙ sym (text-length area (omega (arith, length-speltArea text area f)))
 
     pub wrong-length : (n : ℕ) → n ≡ length (textOf s1) → (length text ≡ n → ⊥) → Spelt false text s1
     wrong-length n f h = refused text s1 (other-length text (λ a q g. h (g ∙ sym (f ∙ as-long a q))))
 
-    rest-is : take (length text - 174) (drop 174 text) ≡ drop 174 text
-    rest-is = take-all (length text - 174) (drop 174 text) (rw length-drop (omega arith))
+    rest-is : take (length text - headBytes) (drop headBytes text) ≡ drop headBytes text
+    rest-is = take-all (length text - headBytes) (drop headBytes text) (rw length-drop (omega arith))
 
-    pub rest-length : (n : ℕ) → n ≡ length (textOf s1) → length text ≡ n → length (take (length text - 174) (drop 174 text)) ≡ length (linesAbove s1 0)
-    rest-length n f h = ap length rest-is ∙ rw length-drop (omega (arith, length-text s1 (omega (arith, head-size))))
+    pub levels-ready : (n : ℕ) → n ≡ length (textOf s1) → length text ≡ n
+        → (length s1 ≡ areaWords) × (drop headWords s1 ≡ zeroLevels) × (length (take (length text - headBytes) (drop headBytes text)) ≡ length (linesAbove s1 0))
+    levels-ready n f h = (
+      head-size,
+      ap (drop headWords) s1-is ∙ drop-at ys zeroLevels headWords (length-speltHead text ys head-known),
+      ap length rest-is ∙ rw length-drop (omega (arith, length-text s1 (omega (arith, head-size)))),
+    )
 
     -- after the levels, s2
     pub spelt-whole : (s2 : List ℕ) (q : Bool) (n : ℕ) → n ≡ length (textOf s1) → length text ≡ n
-        → cond q (some s2) none ≡ allSpelt (map some (take headWords s1) ++ speltLevels (heldOf s1) (take (length text - 174) (drop 174 text))) → Spelt q text s2
+        → cond q (some s2) none ≡ allSpelt (map some (take headWords s1) ++ speltLevels (heldOf s1) (take (length text - headBytes) (drop headBytes text))) → Spelt q text s2
     unfolding speltArea
     spelt-whole s2 q n f h g =
         let d : speltArea text ≡ cond q (some s2) none =
-        ap (speltBelow text) (s .yes e .0)
-        ∙ ap (λ (hs : List Bool). allSpelt (map some (take headWords s1) ++ speltLevels hs (drop 174 text))) (held-front s1)
-        ∙ ap (λ (x : List ℕ). allSpelt (map some (take headWords s1) ++ speltLevels (heldOf s1) x)) (sym rest-is) ∙ sym g in
+        rw (head-known, ← front, held-front s1, ← rest-is) (sym g) in
         record {
           yes = λ t. let a : speltArea text ≡ some s2 = d ∙ ap (λ (b : Bool). cond b (some s2) none) t in (a, h ∙ f ∙ as-long s2 a);
           no = λ t. no-digits text (d ∙ ap (λ (b : Bool). cond b (some s2) none) t);

@@ -1,98 +1,147 @@
--- Laws: the fields of line 1 as a table: the area's word that each tells, and where its digits stand.
-use mathlib.Core.Path.{_≡_, refl, ap, _∙_}
-use mathlib.Core.List.{List, [], _∷_, _++_, append-assoc, append-nil}
-use mathlib.Core.Option.{some}
+-- Laws: the fields of line 1, over any list of them: how many digits they have, what is written is read back, and one field more.
+use mathlib.Core.Path.{_≡_, refl, sym, ap, _∙_}
+use mathlib.Core.List.{List, [], _∷_, _++_, map, flatten, append-assoc, append-nil}
+use mathlib.Core.Option.{Option, none, some, Option·none-ne-some}
 use Prim.Native.Nat.{ℕ, zero, suc, _+_, _-_, _^_, _≤_, _<_}
 use native.Mathlib.Numerals.{add-one}
+use native.Mathlib.Nat.{le-of-suc-le-suc}
 use native.Mathlib.Omega.{arith}
-use lib.ListN.{length, take, drop, getD}
-use lib.Seq.{drop-append-add}
-use Rattle.area.specs.Area.{phaseOf, totalOf, keyBytesOf, compressionsOf}
-use Rattle.digits.specs.Digits.{hexDigits, spelt, numberAt, line}
-use Rattle.text.specs.Text.{line1}
-use Rattle.digits.specs.DigitLaws.{length-digits, digits-back, take-digits}
+use lib.Dec.{T, ltb, ltb→lt}
+use lib.ListN.{length, take, drop, getD, set, length-append, length-take, length-set, List·getD-map}
+use lib.Seq.{take-suc, drop-cons, drop-drop}
+use Rattle.lists.specs.Below.{Below, none, more}
+use Rattle.lists.specs.BelowLaws.{below-at, below-all}
+use Rattle.lists.specs.Table.{every, at}
+use Rattle.lists.specs.Flatten.{flatten-append, map-append}
+use Rattle.area.specs.Area.{headWords}
+use Rattle.area.specs.Block.{below-set}
+use Rattle.digits.specs.Digits.{hexDigits, spelt}
+use Rattle.digits.specs.DigitLaws.{length-digits, digits-back, take-digits, drop-digits, spelt-lt}
+use Rattle.text.specs.Text.{Field, fieldOf, line1Fields, digitsOf, fieldDigits, digitsIn, withSpelt, speltFields}
 
-abbrev pub fieldWord : List ℕ
-fieldWord = 0 ∷ 5 ∷ 4 ∷ 2 ∷ 3 ∷ 1 ∷ 14 ∷ []
+-- the words and the digits of fields, as the code has them in two tables
+abbrev pub fieldWords : List Field → List ℕ
+fieldWords fs = map (λ (f : Field). f .word) fs
 
-abbrev pub fieldEnd : List ℕ
-fieldEnd = 2 ∷ 4 ∷ 6 ∷ 8 ∷ 12 ∷ 28 ∷ 44 ∷ []
+abbrev pub fieldSizes : List Field → List ℕ
+fieldSizes fs = map digitsOf fs
 
--- the word of field i, the place of its first digit, and that after its last
-abbrev pub wordOf : ℕ → ℕ
-wordOf i = getD fieldWord i 0
+-- line 1 tells words before the levels, each in at most 16 digits: one computed test each
+tested : (b : ℕ) (xs : List ℕ) → T (every (λ (k x : ℕ). ltb x b) 0 xs) → Below b xs
+tested b xs t = below-all xs (λ i h. ltb→lt (getD xs i 0) b (at (λ (k x : ℕ). ltb x b) xs t i h))
 
-abbrev pub startOf : ℕ → ℕ
-startOf i = getD (0 ∷ fieldEnd) i 0
+pub words-head : Below headWords (fieldWords line1Fields)
+words-head = tested headWords (fieldWords line1Fields) tt
 
-abbrev pub endOf : ℕ → ℕ
-endOf i = getD fieldEnd i 0
+pub sizes-word : Below 17 (fieldSizes line1Fields)
+sizes-word = tested 17 (fieldSizes line1Fields) tt
 
-pub next-start : (i : ℕ) → endOf i ≡ startOf (i + 1)
-next-start i = rw (add-one i)
+-- ---- the digits
 
-pub record InLine (i : ℕ) : Type 0 where
-  pub word : wordOf i ≤ 14
-  pub order : startOf i ≤ endOf i
-  pub short : endOf i - startOf i ≤ 16
-  pub fits : endOf i ≤ 44
+pub length-fields : (fs : List Field) (area : List ℕ) → length (fieldDigits fs area) ≡ digitsIn fs
+unfolding flatten
+length-fields [] area = refl
+length-fields (f ∷ fs) area = rw (length-append, length-digits (digitsOf f) (getD area (f .word) 0), length-fields fs area)
 
-pub in-line : (i : ℕ) → i < 7 → InLine i
-in-line zero h = record { word = omega arith; order = omega arith; short = omega arith; fits = omega arith }
-in-line (suc zero) h = record { word = omega arith; order = omega arith; short = omega arith; fits = omega arith }
-in-line (suc (suc zero)) h = record { word = omega arith; order = omega arith; short = omega arith; fits = omega arith }
-in-line (suc (suc (suc zero))) h = record { word = omega arith; order = omega arith; short = omega arith; fits = omega arith }
-in-line (suc (suc (suc (suc zero)))) h = record { word = omega arith; order = omega arith; short = omega arith; fits = omega arith }
-in-line (suc (suc (suc (suc (suc zero))))) h = record { word = omega arith; order = omega arith; short = omega arith; fits = omega arith }
-in-line (suc (suc (suc (suc (suc (suc zero)))))) h = record { word = omega arith; order = omega arith; short = omega arith; fits = omega arith }
-in-line (suc (suc (suc (suc (suc (suc (suc i))))))) h = absurd (omega arith)
+-- they go by the words that are told
+pub fields-same : (fs : List Field) (a b : List ℕ) → Below headWords (fieldWords fs) → ((i : ℕ) → i < headWords → getD a i 0 ≡ getD b i 0)
+    → fieldDigits fs a ≡ fieldDigits fs b
+unfolding flatten
+fields-same [] a b w e = refl
+fields-same (f ∷ fs) a b (more h w) e = rw (e (f .word) h, fields-same fs a b w e)
 
--- ---- the 44 digits of line 1, and what follows them
+-- ---- writing, then reading
 
-unfoldable pub fieldDigits : List ℕ → List ℕ → List ℕ
-fieldDigits area rest =
-    hexDigits 2 (phaseOf area)
-    ++ (hexDigits 2 (getD area 5 0)
-    ++ (hexDigits 2 (getD area 4 0)
-    ++ (hexDigits 2 (keyBytesOf area) ++ (hexDigits 4 (getD area 3 0) ++ (hexDigits 16 (totalOf area) ++ (hexDigits 16 (compressionsOf area) ++ rest))))))
+-- each number fits the digits of its field
+abbrev pub FieldsFit : List Field → List ℕ → Type 0
+FieldsFit [] area = Unit {0}
+FieldsFit (f ∷ fs) area = (getD area (f .word) 0 < 16 ^ digitsOf f) × FieldsFit fs area
 
-pub line1-fields : (area rest : List ℕ) → line1 area ++ rest ≡ fieldDigits area (10 ∷ rest)
-unfolding fieldDigits
-line1-fields area rest = simp append-assoc
+-- words with those of an area where the fields tell them
+abbrev pub told : List Field → List ℕ → List ℕ → List ℕ
+told [] area ws = ws
+told (f ∷ fs) area ws = told fs area (set ws (f .word) (getD area (f .word) 0))
 
-pub fields-line : (area : List ℕ) → line (fieldDigits area []) ≡ line1 area
-unfolding fieldDigits
-fields-line area = simp (append-assoc, append-nil)
+pub fields-back : (fs : List Field) (area ws rest : List ℕ) → FieldsFit fs area → speltFields fs (fieldDigits fs area ++ rest) ws ≡ some (told fs area ws)
+unfolding flatten
+fields-back [] area ws rest g = refl
+fields-back (f ∷ fs) area ws rest g =
+    let n : ℕ = digitsOf f in
+    let x : ℕ = getD area (f .word) 0 in
+    let l : List ℕ = fieldDigits fs area ++ rest in
+    rw (append-assoc (hexDigits n x) (fieldDigits fs area) rest, take-digits n x l, drop-digits n x l, digits-back n x (g .0)) (fields-back fs area (set ws (f .word) x) rest (g .1))
 
--- the digits of a field are those of its word
-skip : (n k y at : ℕ) (rest : List ℕ) → take n (drop (k + at) (hexDigits k y ++ rest)) ≡ take n (drop at rest)
-skip n k y at rest =
-    let e : length (hexDigits k y) + at ≡ k + at = rw (length-digits k y) refl in
-    ap (take n) (rw (← e) (drop-append-add (hexDigits k y) rest at))
+-- ---- what is spelt: as many words as before, below 2 ^ 64
 
-module _ (area rest : List ℕ) where
-  pub field-digits : (i : ℕ) → i < 7
-      → take (endOf i - startOf i) (drop (startOf i) (fieldDigits area rest)) ≡ hexDigits (endOf i - startOf i) (getD area (wordOf i) 0)
-  unfolding fieldDigits
-  field-digits zero h = take-digits 2 (getD area 0 0) _
-  field-digits (suc zero) h = skip 2 2 (getD area 0 0) 0 _ ∙ take-digits 2 (getD area 5 0) _
-  field-digits (suc (suc zero)) h = skip 2 2 (getD area 0 0) 2 _ ∙ skip 2 2 (getD area 5 0) 0 _ ∙ take-digits 2 (getD area 4 0) _
-  field-digits (suc (suc (suc zero))) h =
-      skip 2 2 (getD area 0 0) 4 _ ∙ skip 2 2 (getD area 5 0) 2 _ ∙ skip 2 2 (getD area 4 0) 0 _ ∙ take-digits 2 (getD area 2 0) _
-  field-digits (suc (suc (suc (suc zero)))) h =
-      skip 4 2 (getD area 0 0) 6 _ ∙ skip 4 2 (getD area 5 0) 4 _ ∙ skip 4 2 (getD area 4 0) 2 _ ∙ skip 4 2 (getD area 2 0) 0 _
-      ∙ take-digits 4 (getD area 3 0) _
-  field-digits (suc (suc (suc (suc (suc zero))))) h =
-      skip 16 2 (getD area 0 0) 10 _ ∙ skip 16 2 (getD area 5 0) 8 _ ∙ skip 16 2 (getD area 4 0) 6 _ ∙ skip 16 2 (getD area 2 0) 4 _
-      ∙ skip 16 4 (getD area 3 0) 0 _ ∙ take-digits 16 (getD area 1 0) _
-  field-digits (suc (suc (suc (suc (suc (suc zero)))))) h =
-      skip 16 2 (getD area 0 0) 26 _ ∙ skip 16 2 (getD area 5 0) 24 _ ∙ skip 16 2 (getD area 4 0) 22 _ ∙ skip 16 2 (getD area 2 0) 20 _
-      ∙ skip 16 4 (getD area 3 0) 16 _ ∙ skip 16 16 (getD area 1 0) 0 _ ∙ take-digits 16 (getD area 14 0) _
-  field-digits (suc (suc (suc (suc (suc (suc (suc i))))))) h = absurd (omega arith)
+pub spelt-parts : {A : Type 0} (o : Option A) (go : A → Option (List ℕ)) (vs : List ℕ) → withSpelt o go ≡ some vs → (x : A) × (o ≡ some x) × (go x ≡ some vs)
+spelt-parts none go vs e = absurd (Option·none-ne-some vs e)
+spelt-parts (some x) go vs e = (x, refl, e)
 
--- a number that fits the digits of its field is read back
-pub field-back : (area rest : List ℕ) (i : ℕ) → i < 7 → getD area (wordOf i) 0 < 16 ^ (endOf i - startOf i)
-    → numberAt (line1 area ++ rest) (startOf i) (endOf i - startOf i) ≡ some (getD area (wordOf i) 0)
-field-back area rest i h g =
-    ap (λ (l : List ℕ). numberAt l (startOf i) (endOf i - startOf i)) (line1-fields area rest) ∙ ap (spelt 0) (field-digits area (10 ∷ rest) i h)
-    ∙ digits-back (endOf i - startOf i) (getD area (wordOf i) 0) g
+pub record Spells (ws vs : List ℕ) : Type 0 where
+  pub size : length vs ≡ length ws
+  pub words : Below (2 ^ 64) ws → Below (2 ^ 64) vs
+
+pub fields-spelt : (fs : List Field) (text ws vs : List ℕ) → Below 17 (fieldSizes fs) → speltFields fs text ws ≡ some vs → Spells ws vs
+fields-spelt [] text ws vs b e = let k : ws ≡ vs = cc in rw k (record { size = refl; words = λ b. b })
+fields-spelt (f ∷ fs) text ws vs (more h b) e =
+    let n : ℕ = digitsOf f in
+    let s = spelt-parts (spelt 0 (take n text)) (λ (x : ℕ). speltFields fs (drop n text) (set ws (f .word) x)) vs e in
+    let r = fields-spelt fs (drop n text) (set ws (f .word) (s .0)) vs b (s .2) in
+    let l : s .0 < 2 ^ 64 = spelt-lt 16 (s .0) (take n text) (rw length-take (omega arith)) (s .1) in
+    record { size = r .size ∙ length-set ws (f .word) (s .0); words = λ c. r .words (below-set (f .word) (s .0) c l) }
+
+-- ---- field i, after those before it
+
+pub digits-some : (fs : List Field) (i : ℕ) → digitsIn (take i fs) ≤ digitsIn fs
+digits-some fs zero = omega arith
+digits-some [] (suc i) = omega arith
+digits-some (f ∷ fs) (suc i) = omega (arith, digits-some fs i)
+
+module _ (fs : List Field) (i : ℕ) (h : i < length fs) where
+  abbrev f : Field
+  f = getD fs i (fieldOf 0 0)
+
+  abbrev n : ℕ
+  n = getD (fieldSizes fs) i 0
+
+  abbrev w : ℕ
+  w = getD (fieldWords fs) i 0
+
+  n-is : n ≡ digitsOf f
+  n-is = List·getD-map digitsOf fs i (fieldOf 0 0)
+
+  w-is : w ≡ f .word
+  w-is = List·getD-map (λ (g : Field). g .word) fs i (fieldOf 0 0)
+
+  pub field-more : (area : List ℕ) → fieldDigits (take (i + 1) fs) area ≡ fieldDigits (take i fs) area ++ hexDigits n (getD area w 0)
+  unfolding flatten
+  field-more area = rw (add-one i, take-suc fs i (fieldOf 0 0) h, n-is, w-is, map-append, flatten-append, append-nil)
+
+  pub digits-more : digitsIn (take (i + 1) fs) ≡ digitsIn (take i fs) + n
+  digits-more =
+      sym (length-fields (take (i + 1) fs) []) ∙ ap length (field-more []) ∙ rw (length-append, length-fields (take i fs) [], length-digits n (getD {A = ℕ} [] w 0))
+
+  -- its word is one before the levels, it has at most 16 digits, and they end within the line's
+  pub record InLine : Type 0 where
+    pub word : w < headWords
+    pub size : n ≤ 16
+    pub ends : digitsIn (take i fs) + n ≤ digitsIn fs
+
+  -- its digits, from a on, are read or refused
+  module _ (text ws : List ℕ) (a : ℕ) where
+    lent : spelt 0 (take (a + n - a) (drop a text)) ≡ spelt 0 (take (digitsOf f) (drop a text))
+    lent = let e : a + n - a ≡ digitsOf f = omega (arith, n-is) in rw e
+
+    pub field-read : (x : ℕ) → spelt 0 (take (a + n - a) (drop a text)) ≡ some x
+        → speltFields (drop i fs) (drop a text) ws ≡ speltFields (drop (i + 1) fs) (drop (a + n) text) (set ws w x)
+    field-read x e = rw (add-one i, drop-cons fs i (fieldOf 0 0) h, sym lent ∙ e, w-is, ← n-is, drop-drop n a text)
+
+    pub field-refused : spelt 0 (take (a + n - a) (drop a text)) ≡ none → speltFields (drop i fs) (drop a text) ws ≡ none
+    field-refused e = rw (drop-cons fs i (fieldOf 0 0) h, sym lent ∙ e)
+
+pub in-line : (i : ℕ) (h : i < length line1Fields) → InLine line1Fields i h
+in-line i h = record {
+  word = below-at words-head i h;
+  size = le-of-suc-le-suc (below-at sizes-word i h);
+  ends = omega (arith, digits-more line1Fields i h, digits-some line1Fields (i + 1));
+}

@@ -1,35 +1,33 @@
 -- Laws: what soundness says of an area, as far as its text needs it: words 0 to 5 fit their digits, and a level without a line holds
 -- nothing.
 use mathlib.Core.Path.{_≡_, refl, sym, _∙_}
-use mathlib.Core.Bool.{Bool, true, false, not, _||_, cond}
+use mathlib.Core.Bool.{Bool, true, false, not, _||_}
 use mathlib.Core.List.{List, [], _∷_, map}
 use Prim.Native.Nat.{ℕ, zero, suc, _+_, _^_, _≤_}
 use native.Mathlib.Omega.{arith}
-use borrow.Author.Tests.{eqb-true, ltb-false}
-use lib.Dec.{eqb, ltb}
+use borrow.Author.Tests.{eqb-true}
+use lib.Dec.{eqb}
 use lib.ListN.{length, take, drop, getD, length-replicate}
 use Rattle.lists.specs.Below.{Below}
 use Rattle.lists.specs.BelowLaws.{below-zeros}
 use Rattle.bits.specs.Bits.{bitsOf}
-use Rattle.bits.specs.BitsLaws.{length-numbers, length-bitsOf, bitsOf-zeros, bitsOf-inj}
-use Rattle.tree.specs.Tree.{Params}
-use Rattle.tree.specs.Refusals.{refusedParams}
-use Rattle.area.specs.Area.{Hold, blockWords, phaseOf, totalOf, keyBytesOf, kOf, levelsOf, paramsOf, emptyLevel, holdsFor, allFalse, clean, cleanAll, sound, soundLevels}
+use Rattle.bits.specs.BitsLaws.{length-bitsOf, bitsOf-zeros, bitsOf-inj}
+use Rattle.tree.specs.Tree.{mostKeyBytes, mostDigestBits, mostLimit, mostRounds}
+use Rattle.area.specs.Area.{Hold, blockWords, phaseOf, totalOf, keyBytesOf, levelsOf, paramsOf, emptyLevel, holdsFor, allFalse, clean, cleanAll, sound, soundLevels, areaLevels}
 use Rattle.area.specs.AreaLaws.{allFalse-is}
-use Rattle.tree.specs.RefusalLaws.{test-passed}
 use Rattle.lists.specs.And.{and-parts}
-use Rattle.area.specs.Moved.{sound-tests}
+use Rattle.area.specs.Rows.{AllLen}
+use Rattle.area.specs.Moved.{sound-tests, sound-valid, length-key, Words, cons}
 use Rattle.text.specs.Text.{hasLine}
-use Rattle.text.specs.LayoutLaws.{Levels}
 
 -- ---- words 0 to 5 and word 15
 
 pub record Ranges (area : List ℕ) : Type 0 where
   pub phase : phaseOf area ≤ 2
-  pub keyBytes : keyBytesOf area ≤ 64
-  pub d : getD area 3 0 ≤ 512
-  pub limit : getD area 4 0 ≤ 64
-  pub rounds : getD area 5 0 ≤ 255
+  pub keyBytes : keyBytesOf area ≤ mostKeyBytes
+  pub d : getD area 3 0 ≤ mostDigestBits
+  pub limit : getD area 4 0 ≤ mostLimit
+  pub rounds : getD area 5 0 ≤ mostRounds
   pub last : getD area 15 0 ≡ 0
   pub levels : soundLevels area ≡ true
 
@@ -44,19 +42,14 @@ phase-range p e = by (eqb p 1) (eqb p 2) refl refl e
 pub ranges : (area : List ℕ) → sound area ≡ true → Ranges area
 unfolding paramsOf
 ranges area e =
-    let P : Params = paramsOf area in
     let t = sound-tests area e in
-    let p1 = test-passed (ltb (P .d) 1) 0 _ (eqb-true (refusedParams P 0) 0 (t .params)) in
-    let p2 = test-passed (ltb 512 (P .d)) 0 _ (p1 .1) in
-    let p3 = test-passed (ltb 64 (length (P .key))) 1 _ (p2 .1) in
-    let p4 = test-passed (ltb 64 (P .limit)) 2 _ (p3 .1) in
-    let p5 = test-passed (ltb 255 (P .rounds)) 3 0 (p4 .1) in
+    let v = sound-valid area e in
     record {
       phase = phase-range (phaseOf area) (t .phase);
-      keyBytes = rw (length-numbers 8 (keyBytesOf area) (bitsOf 64 (kOf area))) at (ltb-false 64 (length (P .key)) (p3 .0));
-      d = ltb-false 512 (P .d) (p2 .0);
-      limit = ltb-false 64 (P .limit) (p4 .0);
-      rounds = ltb-false 255 (P .rounds) (p5 .0);
+      keyBytes = rw (length-key area) at (v .keyBytes);
+      d = v .dHigh;
+      limit = v .limitHigh;
+      rounds = v .roundsHigh;
       last = eqb-true (getD area 15 0) 0 (t .last);
       levels = t .levels;
     }
@@ -98,16 +91,16 @@ fit-one h ws {hs} {ls} l b e f =
         let z : h .reserved + h .bits ≡ h .reserved = omega (arith, eqb-true (h .bits) 0 g) in
         bare (empty-level ws l b (all-parts (h .reserved) (bitsOf 64 ws) (p .0) (rw z at (p .1)))) f
 
-fit-all : (holds : List Hold) (ls : List (List ℕ)) → length holds ≡ length ls → Levels ls → cleanAll holds ls ≡ true → Fit (map hasLine holds) ls
-fit-all [] [] n w e = none
-fit-all [] (ws ∷ ls) n w e = absurd (omega arith)
-fit-all (h ∷ hs) [] n w e = absurd (omega arith)
-fit-all (h ∷ hs) (ws ∷ ls) n w e =
+fit-all : (holds : List Hold) (ls : List (List ℕ)) → length holds ≡ length ls → AllLen blockWords ls → Words ls → cleanAll holds ls ≡ true → Fit (map hasLine holds) ls
+fit-all [] [] n a w e = none
+fit-all [] (ws ∷ ls) n a w e = absurd (omega arith)
+fit-all (h ∷ hs) [] n a w e = absurd (omega arith)
+fit-all (h ∷ hs) (ws ∷ ls) n a (cons b w) e =
     let p = and-parts (clean h ws) (cleanAll hs ls) e in
-    fit-one h ws (w .0) (w .1) (p .0) (fit-all hs ls (omega arith) (w .2) (p .1))
+    fit-one h ws (a .0) b (p .0) (fit-all hs ls (omega arith) (a .1) w (p .1))
 
 -- the levels of a sound area
-pub fit-levels : (area : List ℕ) → length (holdsFor (phaseOf area) (getD area 4 0) (totalOf area)) ≡ length (levelsOf area) → Levels (levelsOf area)
-    → soundLevels area ≡ true → Fit (map hasLine (holdsFor (phaseOf area) (getD area 4 0) (totalOf area))) (levelsOf area)
+pub fit-levels : (area : List ℕ) → length (holdsFor areaLevels (phaseOf area) (getD area 4 0) (totalOf area)) ≡ length (levelsOf area) → AllLen blockWords (levelsOf area)
+    → Words (levelsOf area) → soundLevels area ≡ true → Fit (map hasLine (holdsFor areaLevels (phaseOf area) (getD area 4 0) (totalOf area))) (levelsOf area)
 unfolding paramsOf
-fit-levels area n w e = fit-all (holdsFor (phaseOf area) (getD area 4 0) (totalOf area)) (levelsOf area) n w e
+fit-levels area n a w e = fit-all (holdsFor areaLevels (phaseOf area) (getD area 4 0) (totalOf area)) (levelsOf area) n a w e

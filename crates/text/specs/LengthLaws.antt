@@ -1,4 +1,4 @@
--- Laws: the length of a text: 45 and 129 bytes for the first two lines and 1,027 for each level that has one, at most 27,903.
+-- Laws: the length of a text: the bytes of the first two lines, and of a line for each level that has one.
 use mathlib.Core.Path.{_≡_, refl, ap, _∙_}
 use mathlib.Core.Bool.{Bool, true, false}
 use mathlib.Core.List.{List, [], _∷_, _++_}
@@ -6,15 +6,17 @@ use Prim.Native.Nat.{ℕ, zero, suc, _+_, _*_, _/_, _≤_}
 use native.Mathlib.Omega.{arith}
 use lib.Dec.{eqb}
 use lib.ListN.{length, getD, replicate, length-append, length-map, length-replicate}
-use Rattle.tree.specs.Tree.{mostLevels, blockBits}
-use Rattle.area.specs.Area.{Hold, headWords, blockWords, areaWords, phaseOf, totalOf, kOf, doneBlocks, parallelHold, holdsAbove, openHolds, holdsFor, levelWords, levelsFrom, levelsOf}
+use Rattle.tree.specs.Tree.{blockBits, mostLevels}
+use Rattle.area.specs.Area.{Hold, headWords, blockWords, Long, phaseOf, totalOf, kOf, doneBlocks, parallelHold, holdsAbove, openHolds, holdsFor, levelWords, levelsFrom, levelsOf, areaLevels, areaWords}
 use Rattle.digits.specs.Digits.{hexDigits, wordDigits}
-use Rattle.text.specs.Text.{line1, line2, levelLine, hasLine, heldLevels, heldOf, levelLines, textOf, line1Bytes, line2Bytes, levelBytes}
+use Rattle.text.specs.Text.{Field, line1Fields, fieldDigits, line1, line2, levelLine, hasLine, heldLevels, heldOf, levelLines, textOf, line1Bytes, line2Bytes, levelBytes, headBytes}
 use Rattle.digits.specs.DigitLaws.{length-digits, length-wordDigits}
-use Rattle.text.specs.LayoutLaws.{length-keyOf, length-levelWords}
+use Rattle.text.specs.FieldLaws.{length-fields}
+use Rattle.text.specs.LayoutLaws.{length-keyOf}
+use Rattle.area.specs.AreaLaws.{length-levelWords}
 
-pub length-line1 : (area : List ℕ) → length (line1 area) ≡ line1Bytes
-length-line1 area = simp (length-append, length-digits)
+pub length-line1 : (fs : List Field) (area : List ℕ) → length (line1 fs area) ≡ line1Bytes fs
+length-line1 fs area = rw (length-append (fieldDigits fs area) (10 ∷ []), length-fields fs area)
 
 pub length-line2 : (area : List ℕ) → headWords ≤ length area → length (line2 area) ≡ line2Bytes
 length-line2 area h = rw (length-append (wordDigits (kOf area)) (10 ∷ []), length-wordDigits (kOf area), length-keyOf area h)
@@ -46,23 +48,24 @@ length-holdsAbove zero n i = refl
 length-holdsAbove (suc k) zero i = ap suc (length-replicate k (parallelHold 0))
 length-holdsAbove (suc k) (suc n) i = ap suc (length-holdsAbove k n (i / 4))
 
-length-openHolds : (limit T : ℕ) → length (openHolds limit T) ≡ mostLevels
-length-openHolds zero T = refl
-length-openHolds (suc n) T = ap suc (length-holdsAbove 26 n (doneBlocks blockBits T))
+length-openHolds : (k limit T : ℕ) → length (openHolds k limit T) ≡ k
+length-openHolds zero limit T = refl
+length-openHolds (suc k) zero T = ap suc (length-replicate k (parallelHold 0))
+length-openHolds (suc k) (suc n) T = ap suc (length-holdsAbove k n (doneBlocks blockBits T))
 
-pub length-holdsFor : (phase limit T : ℕ) → length (holdsFor phase limit T) ≡ mostLevels
-length-holdsFor phase limit T = by (eqb phase 2)
+pub length-holdsFor : (k phase limit T : ℕ) → length (holdsFor k phase limit T) ≡ k
+length-holdsFor k phase limit T = by (eqb phase 2)
   where
-    by : (t : Bool) → length {A = Hold} (elim t [ true ↦ replicate mostLevels (parallelHold 0) | false ↦ openHolds limit T ]) ≡ mostLevels
-    by true = refl
-    by false = length-openHolds limit T
+    by : (t : Bool) → length {A = Hold} (elim t [ true ↦ replicate k (parallelHold 0) | false ↦ openHolds k limit T ]) ≡ k
+    by true = length-replicate k (parallelHold 0)
+    by false = length-openHolds k limit T
 
-pub length-heldLevels : (phase limit T : ℕ) → length (heldLevels phase limit T) ≡ mostLevels
-length-heldLevels phase limit T = length-map (holdsFor phase limit T) hasLine ∙ length-holdsFor phase limit T
+pub length-heldLevels : (phase limit T : ℕ) → length (heldLevels phase limit T) ≡ areaLevels
+length-heldLevels phase limit T = length-map (holdsFor areaLevels phase limit T) hasLine ∙ length-holdsFor areaLevels phase limit T
 
 -- ---- the length of a text
 
-length-levelLines : (area : List ℕ) (hs : List Bool) (n k level : ℕ) → areaWords ≤ length area → length hs ≡ n → n + k ≤ 28
+length-levelLines : (area : List ℕ) (hs : List Bool) (n k level : ℕ) → Long area → length hs ≡ n → n + k ≤ areaLevels + 1
     → length (levelLines level hs (levelsFrom area n k)) ≡ levelBytes * lines hs
 length-levelLines area [] zero k level h e g = refl
 length-levelLines area [] (suc n) k level h e g = refl
@@ -76,18 +79,21 @@ length-levelLines area (true ∷ hs) (suc n) k level h e g =
     (omega arith)
 length-levelLines area (false ∷ hs) (suc n) k level h e g = length-levelLines area hs n (suc k) (suc level) h (omega arith) (omega arith)
 
-pub text-length : (area : List ℕ) → areaWords ≤ length area → length (textOf area) ≡ line1Bytes + line2Bytes + levelBytes * lines (heldOf area)
+pub text-length : (area : List ℕ) → areaWords ≤ length area → length (textOf area) ≡ headBytes + levelBytes * lines (heldOf area)
 unfolding textOf levelsOf
 text-length area h =
     rw (
-      length-append (line1 area) (line2 area ++ levelLines 1 (heldOf area) (levelsFrom area 27 1)),
+      length-append (line1 line1Fields area) (line2 area ++ levelLines 1 (heldOf area) (levelsFrom area 27 1)),
       length-append (line2 area) (levelLines 1 (heldOf area) (levelsFrom area 27 1)),
-      length-line1 area,
+      length-line1 line1Fields area,
       length-line2 area (omega arith),
-      length-levelLines area (heldOf area) 27 1 1 h (length-heldLevels (phaseOf area) (getD area 4 0) (totalOf area)) (omega arith),
+      length-levelLines area (heldOf area) areaLevels 1 1 h (length-heldLevels (phaseOf area) (getD area 4 0) (totalOf area)) (omega arith),
     )
     (omega arith)
 
-pub text-most : (area : List ℕ) → areaWords ≤ length area → length (textOf area) ≤ 27903
+abbrev pub mostText : ℕ
+mostText = headBytes + mostLevels * levelBytes
+
+pub text-most : (area : List ℕ) → areaWords ≤ length area → length (textOf area) ≤ mostText
 text-most area h =
     omega (arith, text-length area h, lines-le (heldOf area), length-heldLevels (phaseOf area) (getD area 4 0) (totalOf area))

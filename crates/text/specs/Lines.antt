@@ -6,14 +6,13 @@ use mathlib.Core.Option.{Option, none, some, Option·getD}
 use Prim.Native.Nat.{ℕ, suc, _+_, _-_, _*_, _≤_, _<_}
 use native.Mathlib.Numerals.{add-one}
 use native.Mathlib.Omega.{arith}
-use lib.ListN.{length, take, drop, getD, replicate, length-append, drop-of-length-le}
+use lib.ListN.{length, drop, getD, replicate, length-append, drop-of-length-le}
 use lib.Seq.{drop-cons}
 use Rattle.lists.specs.Part.{put}
-use Rattle.tree.specs.Tree.{mostLevels}
-use Rattle.area.specs.Area.{headWords, blockWords, areaWords, phaseOf, totalOf, levelWords, levelsFrom, levelsOf}
+use Rattle.area.specs.Area.{headWords, blockWords, Long, phaseOf, totalOf, levelWords, levelsFrom, levelsOf, areaLevels}
 use Rattle.digits.specs.Digits.{speltWords, allSpelt}
-use Rattle.text.specs.Text.{line1, line2, levelLine, heldOf, levelLines, textOf, line1Bytes, line2Bytes, levelBytes, speltHead, speltArea, readable}
-use Rattle.text.specs.LayoutLaws.{length-levelWords}
+use Rattle.text.specs.Text.{line1Fields, line1, line2, levelLine, heldOf, levelLines, textOf, levelBytes, headBytes, speltArea, readable}
+use Rattle.area.specs.AreaLaws.{length-levelWords}
 use Rattle.text.specs.LengthLaws.{length-line1, length-line2, length-levelLine, length-heldLevels, text-most}
 
 -- whether a level of an area has a line
@@ -22,20 +21,15 @@ hasLineAt area level = getD (heldOf area) (level - 1) false
 
 -- the lines of the levels above the first k
 unfoldable pub linesAbove : List ℕ → ℕ → List ℕ
-linesAbove area k = levelLines (suc k) (drop k (heldOf area)) (levelsFrom area (mostLevels - k) (suc k))
+linesAbove area k = levelLines (suc k) (drop k (heldOf area)) (levelsFrom area (areaLevels - k) (suc k))
 
 -- the words of levels that hold nothing
 unfoldable pub zeroLevels : List ℕ
-zeroLevels = replicate (mostLevels * blockWords) 0
+zeroLevels = replicate (areaLevels * blockWords) 0
 
 -- the words, where each is spelt
 abbrev pub values : List (Option ℕ) → List ℕ
 values ws = Option·getD (allSpelt ws) []
-
--- whether the first two lines of a text spell words 0 to 15; if so, they are at hand, in an area whose levels are empty
-pub record HeadSpelt (r : Bool) (text area : List ℕ) : Type 0 where
-  pub yes : r ≡ true → (allSpelt (speltHead text) ≡ some (take headWords area)) × (area ≡ take headWords area ++ zeroLevels)
-  pub no : r ≡ false → allSpelt (speltHead text) ≡ none
 
 -- the words that a level's line spells
 abbrev pub levelSpelt : List ℕ → List (Option ℕ)
@@ -53,7 +47,7 @@ pub record Spelt (r : Bool) (text area : List ℕ) : Type 0 where
 
 -- ---- one level more
 
-length-held : (area : List ℕ) → length (heldOf area) ≡ mostLevels
+length-held : (area : List ℕ) → length (heldOf area) ≡ areaLevels
 length-held area = length-heldLevels (phaseOf area) (getD area 4 0) (totalOf area)
 
 -- the line of a level, if it has one
@@ -61,15 +55,15 @@ lineOf : Bool → ℕ → List ℕ → List ℕ
 lineOf true level ws = levelLine level ws
 lineOf false level ws = []
 
-above-next : (area : List ℕ) (k : ℕ) → k < mostLevels
+above-next : (area : List ℕ) (k : ℕ) → k < areaLevels
     → linesAbove area k ≡ lineOf (getD (heldOf area) k false) (suc k) (levelWords area (suc k)) ++ linesAbove area (suc k)
 unfolding linesAbove lineOf
 above-next area k h =
-    let e : mostLevels - k ≡ suc (mostLevels - suc k) = omega arith in
+    let e : areaLevels - k ≡ suc (areaLevels - suc k) = omega arith in
     rw (e, drop-cons (heldOf area) k false (omega (arith, length-held area))) (by (getD (heldOf area) k false))
   where
-    by : (b : Bool) → levelLines (suc k) (b ∷ drop (suc k) (heldOf area)) (levelWords area (suc k) ∷ levelsFrom area (mostLevels - suc k) (suc (suc k)))
-        ≡ lineOf b (suc k) (levelWords area (suc k)) ++ levelLines (suc (suc k)) (drop (suc k) (heldOf area)) (levelsFrom area (mostLevels - suc k) (suc (suc k)))
+    by : (b : Bool) → levelLines (suc k) (b ∷ drop (suc k) (heldOf area)) (levelWords area (suc k) ∷ levelsFrom area (areaLevels - suc k) (suc (suc k)))
+        ≡ lineOf b (suc k) (levelWords area (suc k)) ++ levelLines (suc (suc k)) (drop (suc k) (heldOf area)) (levelsFrom area (areaLevels - suc k) (suc (suc k)))
     by true = refl
     by false = refl
 
@@ -77,7 +71,7 @@ pub held-at : (area : List ℕ) (k : ℕ) → hasLineAt area (k + 1) ≡ getD (h
 unfolding hasLineAt
 held-at area k = let e : k + 1 - 1 ≡ k = omega arith in ap (λ (i : ℕ). getD (heldOf area) i false) e
 
-module _ (area : List ℕ) (k : ℕ) (h : k < mostLevels) where
+module _ (area : List ℕ) (k : ℕ) (h : k < areaLevels) where
   above-by : (b : Bool) → hasLineAt area (k + 1) ≡ b → linesAbove area k ≡ lineOf b (k + 1) (levelWords area (k + 1)) ++ linesAbove area (k + 1)
   above-by b e =
       above-next area k h ∙ ap (λ (t : Bool). lineOf t (suc k) (levelWords area (suc k)) ++ linesAbove area (suc k)) (sym (held-at area k) ∙ e)
@@ -91,26 +85,26 @@ module _ (area : List ℕ) (k : ℕ) (h : k < mostLevels) where
   unfolding lineOf
   above-no e = above-by false e
 
-  pub length-yes : areaWords ≤ length area → hasLineAt area (k + 1) ≡ true → length (linesAbove area k) ≡ levelBytes + length (linesAbove area (k + 1))
+  pub length-yes : Long area → hasLineAt area (k + 1) ≡ true → length (linesAbove area k) ≡ levelBytes + length (linesAbove area (k + 1))
   length-yes l e =
       ap length (above-yes e)
       ∙ rw (length-append, length-levelLine (k + 1) (levelWords area (k + 1)) (length-levelWords area (k + 1) l (omega arith)))
 
-pub above-all : (area : List ℕ) (k : ℕ) → mostLevels ≤ k → linesAbove area k ≡ []
+pub above-all : (area : List ℕ) (k : ℕ) → areaLevels ≤ k → linesAbove area k ≡ []
 unfolding linesAbove
 above-all area k h = rw (drop-of-length-le (heldOf area) {i = k} (omega (arith, length-held area)))
 
 -- ---- the whole text
 
-pub text-lines : (area : List ℕ) → textOf area ≡ (line1 area ++ line2 area) ++ linesAbove area 0
+pub text-lines : (area : List ℕ) → textOf area ≡ (line1 line1Fields area ++ line2 area) ++ linesAbove area 0
 unfolding textOf linesAbove levelsOf
-text-lines area = sym (append-assoc (line1 area) (line2 area) (levelLines 1 (heldOf area) (levelsOf area)))
+text-lines area = sym (append-assoc (line1 line1Fields area) (line2 area) (levelLines 1 (heldOf area) (levelsOf area)))
 
-pub length-head : (area : List ℕ) → headWords ≤ length area → length (line1 area ++ line2 area) ≡ line1Bytes + line2Bytes
-length-head area h = rw (length-append (line1 area) (line2 area), length-line1 area, length-line2 area h)
+pub length-head : (area : List ℕ) → headWords ≤ length area → length (line1 line1Fields area ++ line2 area) ≡ headBytes
+length-head area h = rw (length-append (line1 line1Fields area) (line2 area), length-line1 line1Fields area, length-line2 area h)
 
-pub length-text : (area : List ℕ) → headWords ≤ length area → length (textOf area) ≡ line1Bytes + line2Bytes + length (linesAbove area 0)
-length-text area h = ap length (text-lines area) ∙ rw (length-append (line1 area ++ line2 area) (linesAbove area 0), length-head area h)
+pub length-text : (area : List ℕ) → headWords ≤ length area → length (textOf area) ≡ headBytes + length (linesAbove area 0)
+length-text area h = ap length (text-lines area) ∙ rw (length-append (line1 line1Fields area ++ line2 area) (linesAbove area 0), length-head area h)
 
-pub above-most : (area : List ℕ) → areaWords ≤ length area → length (linesAbove area 0) ≤ mostLevels * levelBytes
+pub above-most : (area : List ℕ) → Long area → length (linesAbove area 0) ≤ areaLevels * levelBytes
 above-most area h = omega (arith, length-text area (omega arith), text-most area h)

@@ -1,24 +1,25 @@
 -- Laws: demand 2 for suspended text: reading what was written gives the same area; one text stands for one area; a text that is read
 -- writes back as itself; and a text is read exactly if some sound area writes it.
 use mathlib.Core.Path.{_≡_, refl, sym, ap, _∙_}
-use mathlib.Core.Bool.{true, not, cond}
+use mathlib.Core.Bool.{true, not}
 use mathlib.Core.List.{List, [], _∷_, _++_}
 use mathlib.Core.Logic.{_↔_}
 use mathlib.Core.Option.{Option, none, some, Option·some-injective}
-use Prim.Native.Nat.{ℕ, zero, suc, _^_, _≤_}
+use Prim.Native.Nat.{ℕ, _^_, _≤_}
 use native.Mathlib.Omega.{arith}
 use borrow.Author.Tests.{eqb-true, eq-eqb, ltb-false, le-ltb, not-false}
-use lib.Dec.{eqb, ltb}
+use lib.Dec.{eqb}
 use lib.ListN.{length, take, drop, length-append}
 use lib.Seq.{take-at}
 use Rattle.lists.specs.Append.{cons-eq}
 use Rattle.lists.specs.Below.{Below}
 use Rattle.lists.specs.BelowLaws.{below-append, below-drop}
-use Rattle.tree.specs.Refusals.{refusedOutput}
-use Rattle.area.specs.Area.{areaWords, sound}
+use Rattle.tree.specs.Refusals.{outputTest}
+use Rattle.area.specs.Area.{areaWords, sound, Long}
 use Rattle.lists.specs.And.{and-intro, and-parts}
-use Rattle.tree.specs.RefusalLaws.{test-passed}
-use Rattle.text.specs.Text.{textOf, speltArea, same, textIs, readable, writeNumber, writeAnswer, writeOf, Taken, readNumber, readAnswer, readOf}
+use Rattle.tree.specs.RefusalLaws.{passed, answer-number, answer-refused}
+use Rattle.area.specs.Calls.{shortTest, areaTests}
+use Rattle.text.specs.Text.{textOf, speltArea, same, textIs, readable, Written, writeNumber, writeOf, Taken, readNumber, readOf}
 use Rattle.text.specs.LayoutLaws.{sound-front, text-front}
 use Rattle.text.specs.TextLaws.{spells-back, length-speltArea, speltArea-below}
 use Rattle.text.specs.Terms.{SoundArea, WrittenBy}
@@ -39,60 +40,44 @@ same-eq (x ∷ xs) (y ∷ ys) e =
 
 -- ---- what is accepted
 
-pub read-accepted : (area text new : List ℕ) → areaWords ≤ length area → speltArea text ≡ some new → readable text ≡ true
+pub read-accepted : (area text new : List ℕ) → Long area → speltArea text ≡ some new → readable text ≡ true
     → readOf area text ≡ record { number = 0; count = 0; area = new ++ drop areaWords area }
 unfolding readOf readNumber
 read-accepted area text new h s e = rw (le-ltb (length area) areaWords h, e, s)
 
 pub read-number : (area text : List ℕ) → readOf area text .number ≡ readNumber area text
 unfolding readOf
-read-number area text = by (readNumber area text)
-  where
-    by : (n : ℕ) → readAnswer n area text .number ≡ n
-    by zero = refl
-    by (suc n) = refl
+read-number area text = answer-number (λ (x : Taken). x .number) (readNumber area text) _ _ refl (λ k. refl)
 
-pub read-refused : (area text : List ℕ) (k : ℕ) → readNumber area text ≡ suc k → readOf area text ≡ record { number = suc k; count = 0; area = area }
+pub read-refused : (area text : List ℕ) (k : ℕ) → k ≡ readNumber area text → (k ≡ 0 → ⊥) → record { number = k; count = 0; area = area } ≡ readOf area text
 unfolding readOf
-read-refused area text k e = rw e
+read-refused area text k = answer-refused k (readNumber area text) _ (λ k. record { number = k; count = 0; area = area })
 
-pub read-passed : (area text : List ℕ) → readNumber area text ≡ 0 → (areaWords ≤ length area) × (readable text ≡ true)
+pub read-passed : (area text : List ℕ) → readNumber area text ≡ 0 → (Long area) × (readable text ≡ true)
 unfolding readNumber
 read-passed area text e =
-    let a = test-passed (ltb (length area) areaWords) 6 (cond (not (readable text)) 11 0) e in
-    let b = test-passed (not (readable text)) 10 0 (a .1) in
-    (ltb-false (length area) areaWords (a .0), not-false (readable text) (b .0))
+    let p = passed (shortTest area ∷ (not (readable text), 11) ∷ []) refl e in (ltb-false _ _ (p 0), not-false _ (p 1))
 
 pub write-number : (area out : List ℕ) → writeOf area out .number ≡ writeNumber area out
 unfolding writeOf
-write-number area out = by (writeNumber area out)
-  where
-    by : (n : ℕ) → writeAnswer n area out .number ≡ n
-    by zero = refl
-    by (suc n) = refl
+write-number area out = answer-number (λ (x : Written). x .number) (writeNumber area out) _ _ refl (λ k. refl)
 
-pub write-refused : (area out : List ℕ) (k : ℕ) → writeNumber area out ≡ suc k → writeOf area out ≡ record { number = suc k; count = 0; text = out }
+pub write-refused : (area out : List ℕ) (k : ℕ) → k ≡ writeNumber area out → (k ≡ 0 → ⊥) → record { number = k; count = 0; text = out } ≡ writeOf area out
 unfolding writeOf
-write-refused area out k e = rw e
+write-refused area out k = answer-refused k (writeNumber area out) _ (λ k. record { number = k; count = 0; text = out })
 
 pub record WritePassed (area out : List ℕ) : Type 0 where
-  pub long : areaWords ≤ length area
+  pub long : Long area
   pub is-sound : sound area ≡ true
   pub room : length (textOf area) ≤ length out
 
 pub write-passed : (area out : List ℕ) → writeNumber area out ≡ 0 → WritePassed area out
 unfolding writeNumber
 write-passed area out e =
-    let a = test-passed (ltb (length area) areaWords) 6 (cond (not (sound area)) 7 (refusedOutput (length (textOf area)) out 0)) e in
-    let b = test-passed (not (sound area)) 6 (refusedOutput (length (textOf area)) out 0) (a .1) in
-    let c = test-passed (ltb (length out) (length (textOf area))) 8 0 (b .1) in
-    record {
-      long = ltb-false (length area) areaWords (a .0);
-      is-sound = not-false (sound area) (b .0);
-      room = ltb-false (length out) (length (textOf area)) (c .0);
-    }
+    let p = passed (areaTests area ++ (outputTest (length (textOf area)) out ∷ [])) refl e in
+    record { long = ltb-false _ _ (p 0); is-sound = not-false _ (p 1); room = ltb-false _ _ (p 2) }
 
-pub write-accepted : (area out : List ℕ) → areaWords ≤ length area → sound area ≡ true → length (textOf area) ≤ length out
+pub write-accepted : (area out : List ℕ) → Long area → sound area ≡ true → length (textOf area) ≤ length out
     → writeOf area out ≡ record { number = 0; count = length (textOf area); text = textOf area ++ drop (length (textOf area)) out }
 unfolding writeOf writeNumber
 write-accepted area out h s l = rw (le-ltb (length area) areaWords h, s, le-ltb (length out) (length (textOf area)) l)
@@ -114,7 +99,7 @@ text-readable area s =
     (rw (text-front area (s .long)) (same-refl (textOf area))))
 
 -- reading what was written is accepted and gives the same area in its first 1,744 words; the tail of the area read into stays
-pub read-back : (area out other : List ℕ) → Below (2 ^ 64) area → writeNumber area out ≡ 0 → areaWords ≤ length other
+pub read-back : (area out other : List ℕ) → Below (2 ^ 64) area → writeNumber area out ≡ 0 → Long other
     → readOf other (take (writeOf area out .count) (writeOf area out .text)) ≡ record { number = 0; count = 0; area = take areaWords area ++ drop areaWords other }
 read-back area out other b e h =
     let p = write-passed area out e in
@@ -164,7 +149,7 @@ module _ (area text : List ℕ) (e : readNumber area text ≡ 0) where
   unfolding last
   front = take-at (accepted .new) (drop areaWords area) areaWords (length-speltArea text (accepted .new) (accepted .spelt))
 
-  front-long : areaWords ≤ length last
+  front-long : Long last
   unfolding last
   front-long = rw (length-append (accepted .new) (drop areaWords area)) (omega (arith, accepted .is .long))
 
@@ -188,7 +173,7 @@ writes-back area text e =
     (sym (text-front (last area text e) (front-long area text e)) ∙ ap textOf (front area text e) ∙ accepted area text e .writes)
 
 -- "11, 0: text is not what writing some sound area gives"
-pub readable-iff : (area text : List ℕ) → areaWords ≤ length area → (readOf area text .number ≡ 0) ↔ WrittenBy text
+pub readable-iff : (area text : List ℕ) → Long area → (readOf area text .number ≡ 0) ↔ WrittenBy text
 readable-iff area text h = (there, back)
   where
     there : readOf area text .number ≡ 0 → WrittenBy text

@@ -2,11 +2,11 @@
 -- area of the length that it had. The laws of open, feed and end: Tails and Leaves of `area`.
 use mathlib.Core.Path.{_≡_, refl, sym, ap, _∙_}
 use mathlib.Core.List.{List, _++_}
-use Prim.Native.Nat.{ℕ, zero, suc, _≤_}
+use Prim.Native.Nat.{ℕ, zero, suc}
 use native.Mathlib.Omega.{arith}
 use lib.ListN.{length, drop, length-append, length-drop}
 use lib.Seq.{take-at, drop-at}
-use Rattle.area.specs.Area.{areaWords, sound}
+use Rattle.area.specs.Area.{areaWords, sound, Long}
 use Rattle.area.specs.Terms.{LeavesSound}
 use Rattle.text.specs.Text.{readNumber, readOf}
 use Rattle.text.specs.LayoutLaws.{sound-front}
@@ -22,7 +22,7 @@ read-tail area text = by (readNumber area text) refl
         let r = readable-sound text (p .1) in
         rw (read-accepted area text (r .new) (p .0) (r .spelt) (p .1))
         (drop-at (r .new) (drop areaWords area) areaWords (length-speltArea text (r .new) (r .spelt)))
-    by (suc k) e = rw (read-refused area text k e) refl
+    by (suc k) e = rw (← read-refused area text (suc k) (sym e) (omega arith)) refl
 
 -- of any area, whatever it held
 pub read-leaves-sound : (area text : List ℕ) → readOf area text .number ≡ 0 → LeavesSound area (readOf area text .area)
@@ -32,7 +32,7 @@ read-leaves-sound area text e =
     let to : List ℕ = r .new ++ drop areaWords area in
     let n : length (r .new) ≡ areaWords = length-speltArea text (r .new) (r .spelt) in
     let s : length to ≡ length area = rw (length-append (r .new) (drop areaWords area), n, length-drop areaWords area) (omega (arith, p .0)) in
-    let l : areaWords ≤ length to = rw s (p .0) in
+    let l : Long to = rw s (p .0) in
     rw (read-accepted area text (r .new) (p .0) (r .spelt) (p .1)) (record {
       size = s;
       long = l;

@@ -1,25 +1,38 @@
 -- Definitions: a suspended stream as text. Document 01, "Suspended text", and the calls write and read. A text is a list of bytes.
-use mathlib.Core.Bool.{Bool, true, false, not, _||_, _&&_, cond}
-use mathlib.Core.List.{List, [], _∷_, _++_, map}
+use mathlib.Core.Bool.{Bool, true, false, not, _||_, _&&_}
+use mathlib.Core.List.{List, [], _∷_, _++_, map, flatten}
 use mathlib.Core.Option.{Option, none, some, Option·getD}
-use Prim.Native.Nat.{ℕ, zero, suc, _+_}
+use Prim.Native.Nat.{ℕ, suc, _+_, _*_}
 use lib.Dec.{eqb}
-use lib.ListN.{length, drop, getD}
-use Rattle.digits.specs.Digits.{hexDigits, line, wordDigits, numberAt, speltWords, allSpelt}
-use Rattle.tree.specs.Refusals.{refusedOutput}
-use Rattle.area.specs.Area.{Hold, blockWords, areaWords, phaseOf, totalOf, keyBytesOf, kOf, compressionsOf, levelsOf, emptyLevel, holdsFor, sound}
-use Rattle.area.specs.Calls.{refusedShort, refusedArea}
+use lib.ListN.{length, take, drop, getD, set, replicate}
+use Rattle.lists.specs.Part.{put}
+use Rattle.digits.specs.Digits.{hexDigits, line, wordDigits, spelt, speltWords, allSpelt}
+use Rattle.tree.specs.Refusals.{firstRefusal, answerOf, outputTest}
+use Rattle.area.specs.Area.{Hold, headWords, blockWords, areaWords, phaseOf, totalOf, kOf, levelsOf, emptyLevel, holdsFor, sound, areaLevels}
+use Rattle.area.specs.Calls.{shortTest, areaTests}
 
 -- ---- the text of an area
 
+-- a field of line 1: the word of the area that it tells, and its bytes, of two digits each
+pub record Field : Type 0 where
+  pub word : ℕ
+  pub bytes : ℕ
+
+abbrev pub fieldOf : ℕ → ℕ → Field
+fieldOf word bytes = record { word = word; bytes = bytes }
+
 -- "Line 1: phase (1 byte), r (1), L (1), key bytes (1), d (2), total (8), compressions (8): 44 digits."
-abbrev pub line1 : List ℕ → List ℕ
-line1 area =
-    line
-    (hexDigits 2 (phaseOf area)
-    ++ (hexDigits 2 (getD area 5 0)
-    ++ (hexDigits 2 (getD area 4 0)
-    ++ (hexDigits 2 (keyBytesOf area) ++ (hexDigits 4 (getD area 3 0) ++ (hexDigits 16 (totalOf area) ++ hexDigits 16 (compressionsOf area)))))))
+abbrev pub line1Fields : List Field
+line1Fields = fieldOf 0 1 ∷ fieldOf 5 1 ∷ fieldOf 4 1 ∷ fieldOf 2 1 ∷ fieldOf 3 2 ∷ fieldOf 1 8 ∷ fieldOf 14 8 ∷ []
+
+abbrev pub digitsOf : Field → ℕ
+digitsOf f = 2 * f .bytes
+
+abbrev pub fieldDigits : List Field → List ℕ → List ℕ
+fieldDigits fs area = flatten (map (λ (f : Field). hexDigits (digitsOf f) (getD area (f .word) 0)) fs)
+
+abbrev pub line1 : List Field → List ℕ → List ℕ
+line1 fs area = line (fieldDigits fs area)
 
 -- "Line 2: K, 128 digits."
 abbrev pub line2 : List ℕ → List ℕ
@@ -35,7 +48,7 @@ hasLine h = h .output || not (eqb (h .bits) 0)
 
 -- the same for each level, level 1 first, by the phase, the limit and the total
 abbrev pub heldLevels : ℕ → ℕ → ℕ → List Bool
-heldLevels phase limit T = map hasLine (holdsFor phase limit T)
+heldLevels phase limit T = map hasLine (holdsFor areaLevels phase limit T)
 
 -- and for an area
 abbrev pub heldOf : List ℕ → List Bool
@@ -49,19 +62,44 @@ levelLines level (true ∷ hs) (ws ∷ up) = levelLine level ws ++ levelLines (s
 levelLines level (false ∷ hs) (ws ∷ up) = levelLines (suc level) hs up
 
 unfoldable pub textOf : List ℕ → List ℕ
-textOf area = line1 area ++ (line2 area ++ levelLines 1 (heldOf area) (levelsOf area))
+textOf area = line1 line1Fields area ++ (line2 area ++ levelLines 1 (heldOf area) (levelsOf area))
 
 -- ---- the area that a text's digits spell
 
+-- the digits of fields
+abbrev pub digitsIn : List Field → ℕ
+digitsIn [] = 0
+digitsIn (f ∷ fs) = digitsOf f + digitsIn fs
+
 -- the bytes of line 1, of line 2 and of a level's line, with their ends
-abbrev pub line1Bytes : ℕ
-line1Bytes = 45
+abbrev pub line1Bytes : List Field → ℕ
+line1Bytes fs = digitsIn fs + 1
 
 abbrev pub line2Bytes : ℕ
-line2Bytes = 129
+line2Bytes = 16 * 8 + 1
 
 abbrev pub levelBytes : ℕ
-levelBytes = 1027
+levelBytes = 2 + 16 * blockWords + 1
+
+abbrev pub headBytes : ℕ
+headBytes = line1Bytes line1Fields + line2Bytes
+
+-- what follows goes on with what is spelt, and a refused digit refuses
+abbrev pub withSpelt : {A : Type 0} → Option A → (A → Option (List ℕ)) → Option (List ℕ)
+withSpelt none go = none
+withSpelt (some x) go = go x
+
+-- words with each field of line 1 in its word
+abbrev pub speltFields : List Field → List ℕ → List ℕ → Option (List ℕ)
+speltFields [] text ws = some ws
+speltFields (f ∷ fs) text ws =
+    withSpelt (spelt 0 (take (digitsOf f) text)) (λ (x : ℕ). speltFields fs (drop (digitsOf f) text) (set ws (f .word) x))
+
+-- words 0 to 15: the fields of line 1, and K from line 2, in words that are zero
+unfoldable pub speltHead : List Field → List ℕ → Option (List ℕ)
+speltHead fs text =
+    withSpelt (speltFields fs text (replicate headWords 0))
+    (λ (ws : List ℕ). withSpelt (allSpelt (speltWords 8 (drop (line1Bytes fs) text))) (λ (key : List ℕ). some (put 6 8 ws key)))
 
 -- the words of the levels, from the lines of those that have one, in their order. A level's number and the ends of lines are not
 -- spelt here: `readable` compares them with those of the area's text
@@ -70,24 +108,10 @@ speltLevels [] text = []
 speltLevels (true ∷ hs) text = speltWords blockWords (drop 2 text) ++ speltLevels hs (drop levelBytes text)
 speltLevels (false ∷ hs) text = map some emptyLevel ++ speltLevels hs text
 
--- words 0 to 15, in the order of the area: phase, total, key bytes, d, L, r, K, compressions, 0
-unfoldable pub speltHead : List ℕ → List (Option ℕ)
-speltHead text =
-    numberAt text 0 2
-    ∷ numberAt text 12 16
-    ∷ numberAt text 6 2
-    ∷ numberAt text 8 4
-    ∷ numberAt text 4 2
-    ∷ numberAt text 2 2
-    ∷ (speltWords 8 (drop line1Bytes text) ++ (numberAt text 28 16 ∷ some 0 ∷ []))
-
 -- the 1,744 words, or none if a digit is refused; which levels have a line goes by the phase, L and total of line 1
-abbrev pub speltBelow : List ℕ → Option (List ℕ) → Option (List ℕ)
-speltBelow text none = none
-speltBelow text (some head) = allSpelt (map some head ++ speltLevels (heldOf head) (drop (line1Bytes + line2Bytes) text))
-
 unfoldable pub speltArea : List ℕ → Option (List ℕ)
-speltArea text = speltBelow text (allSpelt (speltHead text))
+speltArea text =
+    withSpelt (speltHead line1Fields text) (λ (head : List ℕ). allSpelt (map some head ++ speltLevels (heldOf head) (drop headBytes text)))
 
 -- ---- write text
 
@@ -98,15 +122,14 @@ pub record Written : Type 0 where
 
 -- "Write 7, 9"
 unfoldable pub writeNumber : List ℕ → List ℕ → ℕ
-writeNumber area out = refusedArea area (refusedOutput (length (textOf area)) out 0)
+writeNumber area out = firstRefusal (areaTests area ++ (outputTest (length (textOf area)) out ∷ []))
 
 -- "for writing the text's bytes" as count; "Output bytes past the digest or text stay."
-abbrev pub writeAnswer : ℕ → List ℕ → List ℕ → Written
-writeAnswer zero area out = record { number = 0; count = length (textOf area); text = textOf area ++ drop (length (textOf area)) out }
-writeAnswer (suc k) area out = record { number = suc k; count = 0; text = out }
-
 unfoldable pub writeOf : List ℕ → List ℕ → Written
-writeOf area out = writeAnswer (writeNumber area out) area out
+writeOf area out =
+    answerOf (writeNumber area out)
+    record { number = 0; count = length (textOf area); text = textOf area ++ drop (length (textOf area)) out }
+    (λ k. record { number = k; count = 0; text = out })
 
 -- ---- read text
 
@@ -133,12 +156,11 @@ readable text = textIs text (speltArea text)
 
 -- "Read 7, 11"
 unfoldable pub readNumber : List ℕ → List ℕ → ℕ
-readNumber area text = refusedShort area (cond (not (readable text)) 11 0)
+readNumber area text = firstRefusal (shortTest area ∷ (not (readable text), 11) ∷ [])
 
 -- "words from 1,744 on are never touched"; a text that is read spells an area, so that [] never stands for one
-abbrev pub readAnswer : ℕ → List ℕ → List ℕ → Taken
-readAnswer zero area text = record { number = 0; count = 0; area = Option·getD (speltArea text) [] ++ drop areaWords area }
-readAnswer (suc k) area text = record { number = suc k; count = 0; area = area }
-
 unfoldable pub readOf : List ℕ → List ℕ → Taken
-readOf area text = readAnswer (readNumber area text) area text
+readOf area text =
+    answerOf (readNumber area text)
+    record { number = 0; count = 0; area = Option·getD (speltArea text) [] ++ drop areaWords area }
+    (λ k. record { number = k; count = 0; area = area })

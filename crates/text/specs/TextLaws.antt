@@ -2,52 +2,49 @@
 use mathlib.Core.Path.{_≡_, refl, sym, ap, _∙_}
 use mathlib.Core.Bool.{Bool, true, false}
 use mathlib.Core.List.{List, [], _∷_, _++_, map, append-assoc, append-nil, flatten}
-use mathlib.Core.Option.{Option, some, Option·none-ne-some}
-use mathlib.Core.Option as option
+use mathlib.Core.Option.{Option, some, Option·some-injective}
 use Prim.Native.Nat.{ℕ, suc, _+_, _*_, _^_, _≤_}
 use native.Mathlib.Omega.{arith}
-use lib.ListN.{length, take, drop, getD, length-append, length-map}
+use lib.ListN.{length, take, drop, getD, replicate, length-append, length-map}
 use lib.Seq.{drop-at, drop-drop, getD-take}
-use Rattle.lists.specs.Append.{cons-eq}
+use Rattle.area.specs.Keeps.{levelsOf-words}
+use Rattle.area.specs.WriteLaws.{levelsOf-widths}
 use Rattle.lists.specs.Below.{Below, none, more}
-use Rattle.lists.specs.BelowLaws.{below-zeros, below-at, below-take, below-drop}
+use Rattle.lists.specs.BelowLaws.{below-append, below-zeros, below-at, below-take, below-drop}
+use Rattle.lists.specs.Part.{put}
+use Rattle.lists.specs.PartLaws.{put-length}
 use Rattle.lists.specs.Flatten.{map-append}
-use Rattle.area.specs.Area.{headWords, blockWords, areaWords, phaseOf, totalOf, kOf, levelsOf, emptyLevel, holdsFor}
+use Rattle.area.specs.Area.{headWords, blockWords, areaWords, phaseOf, totalOf, kOf, levelsOf, emptyLevel, holdsFor, areaLevels}
 use Rattle.area.specs.Moved.{area-front}
-use Rattle.digits.specs.Digits.{hexDigits, wordDigits, numberAt, speltWords, allSpelt}
-use Rattle.text.specs.Text.{line1, line2, levelLine, heldLevels, heldOf, levelLines, textOf, line1Bytes, line2Bytes, levelBytes, speltLevels, speltHead, speltBelow, speltArea}
-use Rattle.digits.specs.DigitLaws.{drop-digits, length-speltWords, words-exact, all-known, known-all, known-front, Fits, no-word, one-more, fits-append, fits-below, number-fits, speltWords-fits}
-use Rattle.text.specs.FieldLaws.{field-back}
-use Rattle.text.specs.LayoutLaws.{head-words, length-keyOf, levels-are, length-levelsOf}
+use Rattle.digits.specs.Digits.{hexDigits, wordDigits, speltWords, allSpelt}
+use Rattle.text.specs.Text.{Field, line1Fields, fieldDigits, line1, line2, levelLine, heldLevels, heldOf, levelLines, textOf, line1Bytes, line2Bytes, levelBytes, headBytes, withSpelt, speltFields, speltHead, speltLevels, speltArea}
+use Rattle.digits.specs.DigitLaws.{drop-digits, length-speltWords, words-exact, all-known, known-all, known-front, Fits, no-word, one-more, fits-append, fits-below, speltWords-fits}
+use Rattle.text.specs.FieldLaws.{fieldSizes, sizes-word, FieldsFit, told, fields-back, spelt-parts, Spells, fields-spelt}
+use Rattle.text.specs.LayoutLaws.{head-words, length-keyOf}
+use Rattle.area.specs.AreaLaws.{length-levelsOf}
 use Rattle.text.specs.HeldLaws.{Ranges, ranges, Fit, none, line, bare, fit-levels}
 use Rattle.text.specs.LengthLaws.{length-line1, length-line2, length-levelLine, length-holdsFor, length-heldLevels}
 use Rattle.text.specs.Terms.{SoundArea}
 
 -- ---- the head
 
-head-back : (area rest : List ℕ) → Below (2 ^ 64) area → headWords ≤ length area → Ranges area → allSpelt (speltHead (line1 area ++ (line2 area ++ rest))) ≡ some (take headWords area)
+fields-fit : (area : List ℕ) → Below (2 ^ 64) area → headWords ≤ length area → Ranges area → FieldsFit line1Fields area
+fields-fit area b h g =
+    (omega (arith, g .phase), (omega (arith, g .rounds), (omega (arith, g .limit), (omega (arith, g .keyBytes), (omega (arith, g .d), (below-at b 1 (omega arith), (below-at b 14 (omega arith), tt)))))))
+
+head-back : (area rest : List ℕ) → Below (2 ^ 64) area → headWords ≤ length area → Ranges area
+    → speltHead line1Fields (line1 line1Fields area ++ (line2 area ++ rest)) ≡ some (take headWords area)
 unfolding speltHead
 head-back area rest b h g =
-    let text : List ℕ = line1 area ++ (line2 area ++ rest) in
-    let field = field-back area (line2 area ++ rest) in
-    let w0 = field 0 (omega arith) (omega (arith, g .phase)) in
-    let w1 = field 5 (omega arith) (below-at b 1 (omega arith)) in
-    let w2 = field 3 (omega arith) (omega (arith, g .keyBytes)) in
-    let w3 = field 4 (omega arith) (omega (arith, g .d)) in
-    let w4 = field 2 (omega arith) (omega (arith, g .limit)) in
-    let w5 = field 1 (omega arith) (omega (arith, g .rounds)) in
-    let w14 = field 6 (omega arith) (below-at b 14 (omega arith)) in
-    let a : line2 area ++ rest ≡ wordDigits (kOf area) ++ (10 ∷ rest) = append-assoc (wordDigits (kOf area)) (10 ∷ []) rest in
-    let key : speltWords 8 (drop line1Bytes text) ≡ map some (kOf area) =
-    ap (speltWords 8) (drop-at (line1 area) (line2 area ++ rest) line1Bytes (length-line1 area) ∙ a)
-    ∙ words-exact 8 (10 ∷ rest) (below-take 8 (below-drop 6 b)) (length-keyOf area h) in
-    let w15 : _≡_ {A = Option ℕ} (some 0) (some (getD area 15 0)) = ap {B = Option ℕ} some (sym (g .last)) in
-    let tail : numberAt text 28 16 ∷ some 0 ∷ [] ≡ map some (getD area 14 0 ∷ getD area 15 0 ∷ []) = cons-eq w14 (cons-eq w15 refl) in
-    let k : speltWords 8 (drop line1Bytes text) ++ (numberAt text 28 16 ∷ some 0 ∷ []) ≡ map some (kOf area ++ (getD area 14 0 ∷ getD area 15 0 ∷ [])) =
-    ap (λ (x : List (Option ℕ)). x ++ (numberAt text 28 16 ∷ some 0 ∷ [])) key ∙ ap (λ (x : List (Option ℕ)). map some (kOf area) ++ x) tail
-    ∙ sym (map-append some (kOf area) (getD area 14 0 ∷ getD area 15 0 ∷ [])) in
-    ap allSpelt (cons-eq w0 (cons-eq w1 (cons-eq w2 (cons-eq w3 (cons-eq w4 (cons-eq w5 k))))) ∙ ap (map some) (sym (head-words area h)))
-    ∙ all-known (take headWords area)
+    let up : List ℕ = line2 area ++ rest in
+    let zeros : List ℕ = replicate headWords 0 in
+    let f : speltFields line1Fields (line1 line1Fields area ++ up) zeros ≡ some (told line1Fields area zeros) =
+    ap (λ (l : List ℕ). speltFields line1Fields l zeros) (append-assoc (fieldDigits line1Fields area) (10 ∷ []) up) ∙ fields-back line1Fields area zeros (10 ∷ up) (fields-fit area b h g) in
+    let a : up ≡ wordDigits (kOf area) ++ (10 ∷ rest) = append-assoc (wordDigits (kOf area)) (10 ∷ []) rest in
+    let key : allSpelt (speltWords 8 (drop (line1Bytes line1Fields) (line1 line1Fields area ++ up))) ≡ some (kOf area) =
+    ap (λ (l : List ℕ). allSpelt (speltWords 8 l)) (drop-at (line1 line1Fields area) up (line1Bytes line1Fields) (length-line1 line1Fields area) ∙ a)
+    ∙ ap allSpelt (words-exact 8 (10 ∷ rest) (below-take 8 (below-drop 6 b)) (length-keyOf area h)) ∙ all-known (kOf area) in
+    rw (f, key) (ap {B = Option (List ℕ)} some (sym (rw (g .last) at (head-words area h))))
 
 -- ---- the levels
 
@@ -80,21 +77,21 @@ spells-back area s =
     let ls : List ℕ = levelLines 1 (heldOf area) (levelsOf area) in
     let g = ranges area (s .is-sound) in
     let h : headWords ≤ length area = omega (arith, s .long) in
-    let n : length (holdsFor (phaseOf area) (getD area 4 0) (totalOf area)) ≡ length (levelsOf area) =
-    length-holdsFor (phaseOf area) (getD area 4 0) (totalOf area) ∙ sym (length-levelsOf area) in
-    let fit = fit-levels area n (levels-are area (s .long) (s .words)) (g .levels) in
-    let head : allSpelt (speltHead (line1 area ++ (line2 area ++ ls))) ≡ some (take headWords area) = head-back area ls (s .words) h g in
-    let rest : drop (line1Bytes + line2Bytes) (line1 area ++ (line2 area ++ ls)) ≡ ls =
-    sym (drop-drop line2Bytes line1Bytes (line1 area ++ (line2 area ++ ls)))
-    ∙ ap (drop line2Bytes) (drop-at (line1 area) (line2 area ++ ls) line1Bytes (length-line1 area))
+    let n : length (holdsFor areaLevels (phaseOf area) (getD area 4 0) (totalOf area)) ≡ length (levelsOf area) =
+    length-holdsFor areaLevels (phaseOf area) (getD area 4 0) (totalOf area) ∙ sym (length-levelsOf area) in
+    let fit = fit-levels area n (levelsOf-widths area (s .long)) (levelsOf-words area (s .words)) (g .levels) in
+    let head : speltHead line1Fields (line1 line1Fields area ++ (line2 area ++ ls)) ≡ some (take headWords area) = head-back area ls (s .words) h g in
+    let rest : drop headBytes (line1 line1Fields area ++ (line2 area ++ ls)) ≡ ls =
+    sym (drop-drop line2Bytes (line1Bytes line1Fields) (line1 line1Fields area ++ (line2 area ++ ls)))
+    ∙ ap (drop line2Bytes) (drop-at (line1 line1Fields area) (line2 area ++ ls) (line1Bytes line1Fields) (length-line1 line1Fields area))
     ∙ drop-at (line2 area) ls line2Bytes (length-line2 area h) in
     let up : speltLevels (heldOf area) ls ≡ map some (flatten (levelsOf area)) = ap (speltLevels (heldOf area)) (sym (append-nil ls)) ∙ levels-back 1 [] fit in
-    ap (speltBelow (line1 area ++ (line2 area ++ ls))) head
-    ∙ ap (λ (x : List ℕ). allSpelt (map some (take headWords area) ++ speltLevels (heldOf (take headWords area)) x)) rest
+    rw head
+    (ap (λ (x : List ℕ). allSpelt (map some (take headWords area) ++ speltLevels (heldOf (take headWords area)) x)) rest
     ∙ ap (λ (x : List Bool). allSpelt (map some (take headWords area) ++ speltLevels x ls)) (held-front area)
     ∙ ap (λ (x : List (Option ℕ)). allSpelt (map some (take headWords area) ++ x)) up
     ∙ ap allSpelt (sym (map-append some (take headWords area) (flatten (levelsOf area))) ∙ ap (map some) (sym (area-front area)))
-    ∙ all-known (take areaWords area)
+    ∙ all-known (take areaWords area))
 
 -- ---- what a text spells is an area of 1,744 words
 
@@ -109,20 +106,23 @@ known-fits : {ws : List ℕ} → Below (2 ^ 64) ws → Fits (map some ws)
 known-fits none = no-word
 known-fits (more {w = w} h b) = one-more (λ (v : ℕ) (e : _≡_ {A = Option ℕ} (some w) (some v)). let k : w ≡ v = cc in omega arith) (known-fits b)
 
-pub length-speltHead : (text head : List ℕ) → allSpelt (speltHead text) ≡ some head → length head ≡ headWords
+-- words 0 to 15
+head-spelt : (fs : List Field) (text head : List ℕ) → Below 17 (fieldSizes fs) → speltHead fs text ≡ some head → Spells (replicate headWords 0) head
 unfolding speltHead
-length-speltHead text head e = spelt-length (speltHead text) head e ∙ rw (length-append, length-speltWords 8 (drop line1Bytes text))
+head-spelt fs text head b e =
+    let up : List ℕ = drop (line1Bytes fs) text in
+    let f = spelt-parts (speltFields fs text (replicate headWords 0)) (λ (ws : List ℕ). withSpelt (allSpelt (speltWords 8 up)) (λ (key : List ℕ). some (put 6 8 ws key))) head e in
+    let k = spelt-parts (allSpelt (speltWords 8 up)) (λ (key : List ℕ). some (put 6 8 (f .0) key)) head (f .2) in
+    let r = fields-spelt fs text (replicate headWords 0) (f .0) b (f .1) in
+    let n : length (k .0) ≡ 8 = spelt-length (speltWords 8 up) (k .0) (k .1) ∙ length-speltWords 8 up in
+    let is : put 6 8 (f .0) (k .0) ≡ head = Option·some-injective (put 6 8 (f .0) (k .0)) head (k .2) in
+    rw (← is) (record {
+      size = put-length 6 8 (f .0) (k .0) (omega (arith, r .size)) n ∙ r .size;
+      words = λ c. below-append (below-take 6 (r .words c)) (below-append (spelt-below (speltWords 8 up) (k .0) (speltWords-fits 8 up) (k .1)) (below-drop 8 (below-drop 6 (r .words c))));
+    })
 
-speltHead-fits : (text : List ℕ) → Fits (speltHead text)
-unfolding speltHead
-speltHead-fits text =
-    one-more (λ v. number-fits text 0 2 v (omega arith))
-    (one-more (λ v. number-fits text 12 16 v (omega arith))
-    (one-more (λ v. number-fits text 6 2 v (omega arith))
-    (one-more (λ v. number-fits text 8 4 v (omega arith))
-    (one-more (λ v. number-fits text 4 2 v (omega arith))
-    (one-more (λ v. number-fits text 2 2 v (omega arith))
-    (fits-append (speltWords-fits 8 (drop line1Bytes text)) (one-more (λ v. number-fits text 28 16 v (omega arith)) (known-fits (more {w = 0} (omega arith) none)))))))))
+pub length-speltHead : (text head : List ℕ) → speltHead line1Fields text ≡ some head → length head ≡ headWords
+length-speltHead text head e = head-spelt line1Fields text head sizes-word e .size
 
 length-speltLevels : (hs : List Bool) (text : List ℕ) → length (speltLevels hs text) ≡ length hs * blockWords
 unfolding emptyLevel
@@ -140,40 +140,38 @@ speltLevels-fits (false ∷ hs) text = fits-append (known-fits (below-zeros (2 ^
 -- it comes from a head
 pub record Headed (text area : List ℕ) : Type 0 where
   pub head : List ℕ
-  pub spelt : allSpelt (speltHead text) ≡ some head
-  pub whole : allSpelt (map some head ++ speltLevels (heldOf head) (drop (line1Bytes + line2Bytes) text)) ≡ some area
+  pub spelt : speltHead line1Fields text ≡ some head
+  pub whole : allSpelt (map some head ++ speltLevels (heldOf head) (drop headBytes text)) ≡ some area
 
 pub headed : (text area : List ℕ) → speltArea text ≡ some area → Headed text area
 unfolding speltArea
-headed text area e = by (allSpelt (speltHead text)) refl e
-  where
-    by : (o : Option (List ℕ)) → allSpelt (speltHead text) ≡ o → speltBelow text o ≡ some area → Headed text area
-    by option.none f e = absurd (Option·none-ne-some area e)
-    by (some head) f e = record { head = head; spelt = f; whole = e }
+headed text area e =
+    let s = spelt-parts (speltHead line1Fields text) (λ (head : List ℕ). allSpelt (map some head ++ speltLevels (heldOf head) (drop headBytes text))) area e in
+    record { head = s .0; spelt = s .1; whole = s .2 }
 
 -- and begins with it
 pub headed-front : (text area : List ℕ) (h : Headed text area) → take headWords area ≡ h .head
 headed-front text area h =
     ap (λ (n : ℕ). take n area) (sym (length-speltHead text (h .head) (h .spelt)))
-    ∙ known-front (h .head) area (speltLevels (heldOf (h .head)) (drop (line1Bytes + line2Bytes) text)) (h .whole)
+    ∙ known-front (h .head) area (speltLevels (heldOf (h .head)) (drop headBytes text)) (h .whole)
 
 pub length-speltArea : (text area : List ℕ) → speltArea text ≡ some area → length area ≡ areaWords
 length-speltArea text area e =
     let h = headed text area e in
     let hs : List Bool = heldOf (h .head) in
-    let up : List (Option ℕ) = speltLevels hs (drop (line1Bytes + line2Bytes) text) in
+    let up : List (Option ℕ) = speltLevels hs (drop headBytes text) in
     spelt-length (map some (h .head) ++ up) area (h .whole)
     ∙ length-append (map some (h .head)) up
     ∙ rw (
       length-map (h .head) some,
       length-speltHead text (h .head) (h .spelt),
-      length-speltLevels hs (drop (line1Bytes + line2Bytes) text),
+      length-speltLevels hs (drop headBytes text),
       length-heldLevels (phaseOf (h .head)) (getD (h .head) 4 0) (totalOf (h .head)),
     )
 
 pub speltArea-below : (text area : List ℕ) → speltArea text ≡ some area → Below (2 ^ 64) area
 speltArea-below text area e =
     let h = headed text area e in
-    let up : List (Option ℕ) = speltLevels (heldOf (h .head)) (drop (line1Bytes + line2Bytes) text) in
-    let b : Below (2 ^ 64) (h .head) = spelt-below (speltHead text) (h .head) (speltHead-fits text) (h .spelt) in
-    spelt-below (map some (h .head) ++ up) area (fits-append (known-fits b) (speltLevels-fits (heldOf (h .head)) (drop (line1Bytes + line2Bytes) text))) (h .whole)
+    let up : List (Option ℕ) = speltLevels (heldOf (h .head)) (drop headBytes text) in
+    let b : Below (2 ^ 64) (h .head) = head-spelt line1Fields text (h .head) sizes-word (h .spelt) .words (below-zeros (2 ^ 64) headWords (omega arith)) in
+    spelt-below (map some (h .head) ++ up) area (fits-append (known-fits b) (speltLevels-fits (heldOf (h .head)) (drop headBytes text))) (h .whole)

@@ -2,25 +2,25 @@
 ghost use mathlib.Core.Path.{_≡_};
 ghost use Prim.Native.Nat.{_≤_};
 ghost use lib.ListN.{length};
-ghost use Rattle.tree.specs.Tree.{mostLevels};
-ghost use Rattle.area.specs.Area.{headWords, areaWords};
+ghost use Rattle.area.specs.Area.{headWords, Long, areaLevels};
 ghost use Rattle.text.specs.Text.{textOf};
 ghost use Rattle.text.specs.Lines.{hasLineAt};
 use super::lines;
 use node::Block;
 use node::Params;
+use sound::Area;
 use sound::count;
 
 // Whether a level holds bits or has a sequential output.
 pub fn has_line(area: &[u64], level: u64) -> bool
-    requires { ⌜ (headWords ≤ length (now area)) × (1 ≤ level) × (level ≤ mostLevels) ⌝ }
+    requires { ⌜ (headWords ≤ length (now area)) × (1 ≤ level) × (level ≤ areaLevels) ⌝ }
     ensures { λ r. ⌜ r ≡ hasLineAt (now (area .entry)) level ⌝ }
 {
-    if area[0] == 2 {
+    if area[Area::PHASE] == 2 {
         return false;
     }
-    let limit = area[4];
-    let total = area[1];
+    let limit = area[Area::LIMIT];
+    let total = area[Area::TOTAL];
     if level == 1 {
         return total != 0;
     }
@@ -36,7 +36,7 @@ pub fn has_line(area: &[u64], level: u64) -> bool
 
 // The bytes of an area's text.
 pub fn text_bytes(area: &[u64]) -> usize
-    requires { ⌜ areaWords ≤ length (now area) ⌝ }
+    requires { ⌜ Long (now area) ⌝ }
     ensures { λ r. ⌜ r ≡ length (textOf (now (area .entry))) ⌝ }
 {
     let mut n: usize = lines::HEAD;

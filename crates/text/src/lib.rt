@@ -38,6 +38,6 @@ pub fn read(area: &mut [u64], text: &[u8]) -> Answer
     if !spell::is_readable(&mut spelt, text) {
         return Answer::refused(11);
     }
-    node::put_words(area, 0, &spelt);
+    words::copy(area, 0, &spelt);
     Answer::accepted(0)
 }

@@ -1,28 +1,30 @@
 // The lines of a text, each into a part of its length.
 ghost use mathlib.Core.Path.{_≡_};
 ghost use mathlib.Core.List.{_++_};
-ghost use Prim.Native.Nat.{_+_, _≤_};
+ghost use Prim.Native.Nat.{_≤_};
 ghost use lib.ListN.{length};
-ghost use Rattle.tree.specs.Tree.{mostLevels};
-ghost use Rattle.area.specs.Area.{headWords, areaWords, levelWords};
-ghost use Rattle.text.specs.Text.{line1, line2, levelLine, line1Bytes, line2Bytes, levelBytes};
+ghost use Rattle.area.specs.Area.{headWords, levelWords, Long, areaLevels};
+ghost use Rattle.text.specs.Text.{line1Fields, line1, line2, levelLine, line1Bytes, levelBytes, headBytes};
 use node::Params;
 use sound::Area;
 
 // The byte that ends a line.
 const END: u8 = 10;
 
-// The fields of line 1 in their order: the area's word that each tells, and where its digits end.
+// The fields of line 1 in their order: the area's word that each tells, and its digits.
 pub const FIELDS: usize = 7;
 
-pub const FIELD_WORD: [usize; 7] = [0, 5, 4, 2, 3, 1, 14];
+pub const FIELD_WORD: [usize; 7] = [
+    Area::PHASE,
+    Area::ROUNDS,
+    Area::LIMIT,
+    Area::KEY_BYTES,
+    Area::D,
+    Area::TOTAL,
+    Area::DONE,
+];
 
-pub const FIELD_END: [usize; 7] = [2, 4, 6, 8, 12, 28, 44];
-
-// The area's words that line 2 tells, K.
-pub const KEY: usize = 6;
-
-pub const KEY_END: usize = 14;
+pub const FIELD_DIGITS: [usize; 7] = [2, 2, 2, 2, 4, 16, 16];
 
 // The digits of each line: of line 1, of line 2, of a level's number, and of that and the level's words.
 const LINE1_DIGITS: usize = 44;
@@ -47,34 +49,34 @@ pub const MOST: usize = HEAD + Params::LEVELS as usize * LEVEL;
 
 // Phase, r, L, key bytes, d, total and compressions.
 fn put_line1(part: &mut [u8], area: &[u64])
-    requires { ⌜ (length (now part) ≡ line1Bytes) × (headWords ≤ length (now area)) ⌝ }
-    ensures { λ _. ⌜ now (part .exit) ≡ line1 (now (area .entry)) ⌝ }
+    requires { ⌜ (length (now part) ≡ line1Bytes line1Fields) × (headWords ≤ length (now area)) ⌝ }
+    ensures { λ _. ⌜ now (part .exit) ≡ line1 line1Fields (now (area .entry)) ⌝ }
 {
     let mut a: usize = 0;
     let mut i = 0;
     while i < FIELDS {
         let w = FIELD_WORD[i];
-        let e = FIELD_END[i];
+        let e = a + FIELD_DIGITS[i];
         digits::put_digits(&mut part[a..e], area[w]);
         a = e;
         i += 1;
     }
-    part[LINE1_DIGITS] = END;
+    part[a] = END;
 }
 
 // The first two lines: the fields, and the key.
 pub fn put_head(part: &mut [u8], area: &[u64])
-    requires { ⌜ (length (now part) ≡ line1Bytes + line2Bytes) × (headWords ≤ length (now area)) ⌝ }
-    ensures { λ _. ⌜ now (part .exit) ≡ line1 (now (area .entry)) ++ line2 (now (area .entry)) ⌝ }
+    requires { ⌜ (length (now part) ≡ headBytes) × (headWords ≤ length (now area)) ⌝ }
+    ensures { λ _. ⌜ now (part .exit) ≡ line1 line1Fields (now (area .entry)) ++ line2 (now (area .entry)) ⌝ }
 {
     put_line1(&mut part[0..LINE1], area);
-    digits::put_words(&mut part[LINE1..HEAD_END], &area[KEY..KEY_END]);
+    digits::put_words(&mut part[LINE1..HEAD_END], &area[Area::KEY..Area::KEY_END]);
     part[HEAD_END] = END;
 }
 
 // A level's number and its words.
 pub fn put_level(part: &mut [u8], area: &[u64], level: u64)
-    requires { ⌜ (length (now part) ≡ levelBytes) × (areaWords ≤ length (now area)) × (1 ≤ level) × (level ≤ mostLevels) ⌝ }
+    requires { ⌜ (length (now part) ≡ levelBytes) × Long (now area) × (1 ≤ level) × (level ≤ areaLevels) ⌝ }
     ensures { λ _. ⌜ now (part .exit) ≡ levelLine level (levelWords (now (area .entry)) level) ⌝ }
 {
     let a = Area::HEAD + Area::LEVEL * (level as usize - 1);

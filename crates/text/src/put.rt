@@ -1,8 +1,7 @@
 // An area's text into a part of its length.
 ghost use mathlib.Core.Path.{_≡_};
-ghost use Prim.Native.Nat.{_≤_};
 ghost use lib.ListN.{length};
-ghost use Rattle.area.specs.Area.{areaWords};
+ghost use Rattle.area.specs.Area.{Long};
 ghost use Rattle.text.specs.Text.{textOf};
 ghost use Rattle.text.specs.Lines.{linesAbove};
 use super::held;
@@ -11,7 +10,7 @@ use node::Params;
 
 // The lines of the levels that have one.
 fn put_levels(part: &mut [u8], area: &[u64])
-    requires { ⌜ (areaWords ≤ length (now area)) × (length (now part) ≡ length (linesAbove (now area) 0)) ⌝ }
+    requires { ⌜ Long (now area) × (length (now part) ≡ length (linesAbove (now area) 0)) ⌝ }
     ensures { λ _. ⌜ now (part .exit) ≡ linesAbove (now (area .entry)) 0 ⌝ }
 {
     let mut at: usize = 0;
@@ -28,7 +27,7 @@ fn put_levels(part: &mut [u8], area: &[u64])
 
 // The whole text.
 pub fn put_text(part: &mut [u8], area: &[u64])
-    requires { ⌜ (areaWords ≤ length (now area)) × (length (now part) ≡ length (textOf (now area))) ⌝ }
+    requires { ⌜ Long (now area) × (length (now part) ≡ length (textOf (now area))) ⌝ }
     ensures { λ _. ⌜ now (part .exit) ≡ textOf (now (area .entry)) ⌝ }
 {
     lines::put_head(&mut part[0..lines::HEAD], area);

@@ -3,13 +3,12 @@ ghost use mathlib.Core.Path.{_≡_};
 ghost use mathlib.Core.Bool.{true, cond};
 ghost use mathlib.Core.List.{_++_, map};
 ghost use mathlib.Core.Option.{none, some};
-ghost use Prim.Native.Nat.{_+_, _≤_};
+ghost use Prim.Native.Nat.{_≤_};
 ghost use lib.ListN.{length, take, drop, replicate};
-ghost use Rattle.tree.specs.Tree.{mostLevels};
-ghost use Rattle.area.specs.Area.{headWords, areaWords};
+ghost use Rattle.area.specs.Area.{headWords, areaWords, Long, areaLevels};
 ghost use Rattle.digits.specs.Digits.{allSpelt};
-ghost use Rattle.text.specs.Text.{heldOf, textOf, line1Bytes, line2Bytes, levelBytes, speltLevels, speltArea, same, readable};
-ghost use Rattle.text.specs.Lines.{zeroLevels, linesAbove, HeadSpelt, LevelSpelt, Spelt};
+ghost use Rattle.text.specs.Text.{line1Fields, heldOf, textOf, levelBytes, headBytes, speltHead, speltLevels, speltArea, same, readable};
+ghost use Rattle.text.specs.Lines.{zeroLevels, linesAbove, LevelSpelt, Spelt};
 use super::held;
 use super::lines;
 use super::put;
@@ -18,31 +17,31 @@ use node::Params;
 use sound::Area;
 
 // Words 0 to 15 from the first two lines, into words that are zero. Answers false at the first byte that is no digit.
-fn spell_head(area: &mut [u64], text: &[u8]) -> bool
-    requires { ⌜ (now area ≡ replicate areaWords 0) × (line1Bytes + line2Bytes ≤ length (now text)) ⌝ }
-    ensures { λ r. ⌜ HeadSpelt r (now (text .entry)) (now (area .exit)) ⌝ }
+fn spell_head(head: &mut [u64], text: &[u8]) -> bool
+    requires { ⌜ (now head ≡ replicate headWords 0) × (headBytes ≤ length (now text)) ⌝ }
+    ensures { λ r. ⌜ cond r (some (now (head .exit))) none ≡ speltHead line1Fields (now (text .entry)) ⌝ }
 {
     let mut a: usize = 0;
     let mut i = 0;
     while i < lines::FIELDS {
         let w = lines::FIELD_WORD[i];
-        let e = lines::FIELD_END[i];
+        let e = a + lines::FIELD_DIGITS[i];
         match digits::number(&text[a..e]) {
-            Reading::Number(x) => area[w] = x,
+            Reading::Number(x) => head[w] = x,
             Reading::NoDigit => return false,
         }
         a = e;
         i += 1;
     }
     digits::spell_words(
-        &mut area[lines::KEY..lines::KEY_END],
+        &mut head[Area::KEY..Area::KEY_END],
         &text[lines::LINE1..lines::HEAD_END],
     )
 }
 
 // A level from its line. Answers false at the first byte of its words that is no digit.
 fn spell_level(area: &mut [u64], line: &[u8], level: u64) -> bool
-    requires { ⌜ (areaWords ≤ length (now area)) × (length (now line) ≡ levelBytes) × (1 ≤ level) × (level ≤ mostLevels) ⌝ }
+    requires { ⌜ Long (now area) × (length (now line) ≡ levelBytes) × (1 ≤ level) × (level ≤ areaLevels) ⌝ }
     ensures { λ r. ⌜ LevelSpelt r level (now (line .entry)) (now (area .entry)) (now (area .exit)) ⌝ }
 {
     let a = Area::HEAD + Area::LEVEL * (level as usize - 1);
@@ -83,7 +82,7 @@ fn spell_area(area: &mut [u64], text: &[u8]) -> bool
     if text.len() < lines::HEAD {
         return false;
     }
-    if !spell_head(area, text) {
+    if !spell_head(&mut area[0..Area::HEAD], text) {
         return false;
     }
     if text.len() != held::text_bytes(area) {
@@ -109,7 +108,7 @@ fn same_bytes(x: &[u8], y: &[u8]) -> bool
 
 // Whether an area's text is the given one, which is as long: it is written again and compared.
 fn writes(area: &[u64], text: &[u8]) -> bool
-    requires { ⌜ (areaWords ≤ length (now area)) × (length (now text) ≡ length (textOf (now area))) ⌝ }
+    requires { ⌜ Long (now area) × (length (now text) ≡ length (textOf (now area))) ⌝ }
     ensures { λ r. ⌜ r ≡ same (textOf (now (area .entry))) (now (text .entry)) ⌝ }
 {
     let mut again = [0u8; lines::MOST];

@@ -144,14 +144,6 @@ above-level (parallel-level d a) m k e (suc j) h g =
     let z : suc k + j ≡ k + suc j = omega arith in
     above-level a m (suc k) (omega (arith, levelNodes-some m k, levelNodes-suc m k)) j (omega arith) (omega arith) ∙ ap (λ (i : ℕ). levelNodes m (suc (suc i))) z
 
-above-top : {n c : ℕ} {T : List (List Node)} → Above n c T → (m k : ℕ) → c ≡ levelNodes m (suc k) → length T ≡ suc n
-    → length (getD T n []) ≡ blocks 3 (levelNodes m (suc (k + n)))
-above-top no-level m k e h = absurd (omega arith)
-above-top (sequential-level d) m k e h = rw (add-zero k) (omega (arith, levelNodes-some m k))
-above-top (parallel-level {n} d a) m k e h =
-    let z : suc k + n ≡ k + suc n = omega arith in
-    above-top a m (suc k) (omega (arith, levelNodes-some m k, levelNodes-suc m k)) (omega arith) ∙ ap (λ (i : ℕ). blocks 3 (levelNodes m (suc i))) z
-
 -- a parallel level of a tree
 pub level-nodes : (P : Params) (M : List Bool) (level : ℕ) → 0 < level → level ≤ P .limit → level ≤ length (tree P M)
     → length (levelAt (tree P M) level) ≡ levelNodes (length M) level
@@ -165,18 +157,6 @@ level-nodes P M level h g l = go (tree-levels P M) level h g l
     go (parallel-tree {m = m} e a) (suc (suc k)) h g l =
         let z : 0 + k ≡ k = omega arith in
         rw z at (above-level a m 0 (e ∙ sym (levelNodes-one m)) k (omega arith) (omega arith))
-
--- and its sequential level, if it has one above parallel levels
-pub sequential-nodes : (P : Params) (M : List Bool) → 0 < P .limit → length (tree P M) ≡ suc (P .limit)
-    → length (levelAt (tree P M) (suc (P .limit))) ≡ blocks 3 (levelNodes (length M) (P .limit))
-sequential-nodes P M h g = go (tree-levels P M) h g
-  where
-    go : {limit m : ℕ} {T : List (List Node)} → Levels limit m T → 0 < limit → length T ≡ suc limit
-        → length (levelAt T (suc limit)) ≡ blocks 3 (levelNodes m limit)
-    go (sequential-tree e) h g = absurd (omega arith)
-    go (parallel-tree {n} {m} e a) h g =
-        let z : 0 + n ≡ n = omega arith in
-        rw z at (above-top a m 0 (e ∙ sym (levelNodes-one m)) (omega arith))
 
 -- ---- the number of levels by a formula
 

@@ -1,98 +1,97 @@
--- Laws: of Refusals: how long a piece's bits are, and what parameters that are not refused say.
-use mathlib.Core.Path.{_≡_, refl}
-use mathlib.Core.Bool.{Bool, true, false, cond}
-use mathlib.Core.List.{List}
-use Prim.Native.Nat.{ℕ, suc, _*_, _≤_}
+-- Laws: of Refusals: how long a piece's bits are, orders of refusals, answers, and what parameters that are not refused say.
+use mathlib.Core.Path.{_≡_, refl, ap, _∙_}
+use mathlib.Core.Bool.{Bool, true, false, not, _&&_}
+use mathlib.Core.List.{List, [], _∷_, _++_, append-nil}
+use Prim.Native.Nat.{ℕ, zero, suc, _*_, _≤_}
 use native.Mathlib.Omega.{arith}
-use borrow.Author.Tests.{ltb-false, le-ltb}
-use lib.Dec.{ltb}
+use borrow.Author.Tests.{ltb-false, le-ltb, eqb-false, not-true}
+use lib.Dec.{eqb}
 use lib.ListN.{length, length-take}
 use Rattle.lists.specs.Below.{Below}
+use Rattle.lists.specs.And.{and-parts}
 use Rattle.bits.specs.BitsLaws.{length-bitsOf}
 use Rattle.tree.specs.Tree.{Params, Valid, mostKeyBytes, mostDigestBits, mostLimit, mostRounds}
-use Rattle.tree.specs.Refusals.{pieceBits, refusedSize, refusedParams}
+use Rattle.tree.specs.Refusals.{pieceBits, firstRefusal, answerOf, rangeTests, paramTests}
 
 pub length-pieceBits : (bytes : List ℕ) (bits : ℕ) → bits ≤ 8 * length bytes → length (pieceBits bytes bits) ≡ bits
 length-pieceBits bytes bits h = simp (length-take, length-bitsOf) (omega arith)
 
--- ---- tests in their order
+-- ---- the order of refusals
 
--- accepted: this test and those after it let the call pass
-pub test-passed : (b : Bool) (k later : ℕ) → cond b (suc k) later ≡ 0 → (b ≡ false) × (later ≡ 0)
-test-passed true k later e = absurd (omega arith)
-test-passed false k later e = (refl, e)
+-- the test at a place
+abbrev pub testAt : List (Bool × ℕ) → ℕ → Bool
+testAt [] k = false
+testAt (t ∷ ts) zero = t .0
+testAt (t ∷ ts) (suc k) = testAt ts k
 
--- refused: if the tests of d, the key, L and r have a number, those after them do not matter
-tests-refused : (a b c d e : Bool) (later : ℕ)
-    → (_≡_ {A = ℕ} (cond a 1 (cond b 1 (cond c 2 (cond d 3 (cond e 4 0))))) 0 → ⊥)
-    → cond a 1 (cond b 1 (cond c 2 (cond d 3 (cond e 4 later)))) ≡ cond a 1 (cond b 1 (cond c 2 (cond d 3 (cond e 4 0))))
-tests-refused true b c d e later h = refl
-tests-refused false true c d e later h = refl
-tests-refused false false true d e later h = refl
-tests-refused false false false true e later h = refl
-tests-refused false false false false true later h = refl
-tests-refused false false false false false later h = absurd (h refl)
+-- no test has that number: by computing
+abbrev pub without : ℕ → List (Bool × ℕ) → Bool
+without n [] = true
+without n (t ∷ ts) = not (eqb (t .1) n) && without n ts
 
-pub params-refused : (P : Params) (later : ℕ) → (refusedParams P 0 ≡ 0 → ⊥) → refusedParams P later ≡ refusedParams P 0
-params-refused P later h =
-    tests-refused (ltb (P .d) 1) (ltb 512 (P .d)) (ltb 64 (length (P .key))) (ltb 64 (P .limit)) (ltb 255 (P .rounds)) later h
+-- a number that no test of the first part has comes from the second part, and no test of the first part holds
+pub passed-by : (n : ℕ) (xs ys : List (Bool × ℕ)) → without n xs ≡ true → firstRefusal (xs ++ ys) ≡ n
+    → ((k : ℕ) → testAt xs k ≡ false) × (firstRefusal ys ≡ n)
+passed-by n [] ys w e = ((λ k. refl), e)
+passed-by n ((true, m) ∷ xs) ys w e = absurd (eqb-false m n (not-true (eqb m n) (and-parts (not (eqb m n)) (without n xs) w .0)) e)
+passed-by n ((false, m) ∷ xs) ys w e =
+    let p = passed-by n xs ys (and-parts (not (eqb m n)) (without n xs) w .1) e in
+    ((λ k. elim k [ zero ↦ refl | suc j ↦ p .0 j ]), p .1)
 
-pub size-refused : (d later : ℕ) → (refusedSize d 0 ≡ 0 → ⊥) → refusedSize d later ≡ refusedSize d 0
-size-refused d later h = tests-refused (ltb d 1) (ltb 512 d) false false false later h
+-- number 0: no test holds
+pub passed : (ts : List (Bool × ℕ)) → without 0 ts ≡ true → firstRefusal ts ≡ 0 → (k : ℕ) → testAt ts k ≡ false
+passed ts w e = passed-by 0 ts [] w (ap firstRefusal (append-nil ts) ∙ e) .0
 
-pub size-accepted : (d later : ℕ) → refusedSize d 0 ≡ 0 → refusedSize d later ≡ later
-size-accepted d later h =
-    let a = test-passed (ltb d 1) 0 _ h in
-    let b = test-passed (ltb 512 d) 0 0 (a .1) in
-    rw (a .0, b .0)
+-- in two parts: a refusal of the first part decides, whatever comes later; otherwise the second part does
+pub first-part : (xs ys : List (Bool × ℕ)) → (firstRefusal xs ≡ 0 → ⊥) → firstRefusal xs ≡ firstRefusal (xs ++ ys)
+first-part [] ys h = absurd (h refl)
+first-part ((true, n) ∷ xs) ys h = refl
+first-part ((false, n) ∷ xs) ys h = first-part xs ys h
+
+pub second-part : (xs ys : List (Bool × ℕ)) → ((k : ℕ) → testAt xs k ≡ false) → firstRefusal (xs ++ ys) ≡ firstRefusal ys
+second-part [] ys p = refl
+second-part (t ∷ xs) ys p = rw (p 0) (second-part xs ys (λ k. p (suc k)))
+
+-- ---- the answer
+
+pub answer-number : {A : Type 0} (number : A → ℕ) (n : ℕ) (accepted : A) (refused : ℕ → A) → number accepted ≡ 0 → ((k : ℕ) → number (refused k) ≡ k)
+    → number (answerOf n accepted refused) ≡ n
+answer-number number zero accepted refused a r = a
+answer-number number (suc n) accepted refused a r = r (suc n)
+
+pub answer-refused : {A : Type 0} (k n : ℕ) (accepted : A) (refused : ℕ → A) → k ≡ n → (k ≡ 0 → ⊥) → refused k ≡ answerOf n accepted refused
+answer-refused zero n accepted refused e h = absurd (h refl)
+answer-refused (suc k) n accepted refused e h = rw (← e)
 
 -- ---- the ranges of parameters that are not refused
 
-pub record Ranges (P : Params) : Type 0 where
-  pub dLow : 1 ≤ P .d
-  pub dHigh : P .d ≤ mostDigestBits
-  pub keyBytes : length (P .key) ≤ mostKeyBytes
-  pub limitHigh : P .limit ≤ mostLimit
-  pub roundsHigh : P .rounds ≤ mostRounds
+pub record InRange (keyBytes d limit rounds : ℕ) : Type 0 where
+  pub keyHigh : keyBytes ≤ mostKeyBytes
+  pub dLow : 1 ≤ d
+  pub dHigh : d ≤ mostDigestBits
+  pub limitHigh : limit ≤ mostLimit
+  pub roundsHigh : rounds ≤ mostRounds
 
-pub params-ranges : (P : Params) → refusedParams P 0 ≡ 0 → Ranges P
-params-ranges P e =
-    let a = test-passed (ltb (P .d) 1) 0 _ e in
-    let c = test-passed (ltb 512 (P .d)) 0 _ (a .1) in
-    let k = test-passed (ltb 64 (length (P .key))) 1 _ (c .1) in
-    let l = test-passed (ltb 64 (P .limit)) 2 _ (k .1) in
-    let r = test-passed (ltb 255 (P .rounds)) 3 0 (l .1) in
-    record {
-      dLow = ltb-false (P .d) 1 (a .0);
-      dHigh = ltb-false 512 (P .d) (c .0);
-      keyBytes = ltb-false 64 (length (P .key)) (k .0);
-      limitHigh = ltb-false 64 (P .limit) (l .0);
-      roundsHigh = ltb-false 255 (P .rounds) (r .0);
-    }
-
-pub params-accepted : (P : Params) (later : ℕ) → Ranges P → refusedParams P later ≡ later
-params-accepted P later r =
-    rw (le-ltb (P .d) 1 (r .dLow), le-ltb 512 (P .d) (r .dHigh), le-ltb 64 (length (P .key)) (r .keyBytes), le-ltb 64 (P .limit) (r .limitHigh), le-ltb 255 (P .rounds) (r .roundsHigh))
-
--- they are valid, if the key is bytes
-pub ranges-valid : (P : Params) → Below 256 (P .key) → Ranges P → Valid P
-ranges-valid P b r = record {
-  bytes = b;
-  keyBytes = r .keyBytes;
-  dLow = r .dLow;
-  dHigh = r .dHigh;
-  limitHigh = r .limitHigh;
-  roundsHigh = r .roundsHigh;
+pub ranges-passed : (keyBytes d limit rounds : ℕ) → ((k : ℕ) → testAt (rangeTests keyBytes d limit rounds) k ≡ false) → InRange keyBytes d limit rounds
+ranges-passed keyBytes d limit rounds p = record {
+  keyHigh = ltb-false _ _ (p 2);
+  dLow = ltb-false _ _ (p 0);
+  dHigh = ltb-false _ _ (p 1);
+  limitHigh = ltb-false _ _ (p 3);
+  roundsHigh = ltb-false _ _ (p 4);
 }
 
-pub params-valid : (P : Params) → Below 256 (P .key) → refusedParams P 0 ≡ 0 → Valid P
-params-valid P b e = ranges-valid P b (params-ranges P e)
+pub in-range : (keyBytes d limit rounds : ℕ) → firstRefusal (rangeTests keyBytes d limit rounds) ≡ 0 → InRange keyBytes d limit rounds
+in-range keyBytes d limit rounds e = ranges-passed keyBytes d limit rounds (passed (rangeTests keyBytes d limit rounds) refl e)
 
-pub valid-params : (P : Params) (later : ℕ) → Valid P → refusedParams P later ≡ later
-valid-params P later v = params-accepted P later (record {
-  dLow = v .dLow;
-  dHigh = v .dHigh;
-  keyBytes = v .keyBytes;
-  limitHigh = v .limitHigh;
-  roundsHigh = v .roundsHigh;
-})
+-- they are valid, if the key is bytes
+pub ranges-valid : (P : Params) → Below 256 (P .key) → InRange (length (P .key)) (P .d) (P .limit) (P .rounds) → Valid P
+ranges-valid P b r =
+    record { bytes = b; keyBytes = r .keyHigh; dLow = r .dLow; dHigh = r .dHigh; limitHigh = r .limitHigh; roundsHigh = r .roundsHigh }
+
+pub params-valid : (P : Params) → Below 256 (P .key) → firstRefusal (paramTests P) ≡ 0 → Valid P
+params-valid P b e = ranges-valid P b (in-range (length (P .key)) (P .d) (P .limit) (P .rounds) e)
+
+pub valid-params : (P : Params) → Valid P → firstRefusal (paramTests P) ≡ 0
+valid-params P v =
+    rw (le-ltb (P .d) 1 (v .dLow), le-ltb mostDigestBits (P .d) (v .dHigh), le-ltb mostKeyBytes (length (P .key)) (v .keyBytes), le-ltb mostLimit (P .limit) (v .limitHigh), le-ltb mostRounds (P .rounds) (v .roundsHigh))

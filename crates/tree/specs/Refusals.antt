@@ -1,8 +1,8 @@
--- Definitions: the bits that a piece of bytes gives, and the refusals that several calls share. Document 01, the table of numbers: each test
--- has a number, which `cond` gives if the test holds, and otherwise what the tests after it give.
-use mathlib.Core.Bool.{Bool, true, false, cond}
-use mathlib.Core.List.{List}
-use Prim.Native.Nat.{ℕ, _*_}
+-- Definitions: the bits that a piece of bytes gives, the order of refusals, and the tests that several calls share. Document 01, the
+-- table of numbers: each test stands beside its number.
+use mathlib.Core.Bool.{Bool, cond}
+use mathlib.Core.List.{List, [], _∷_, _++_}
+use Prim.Native.Nat.{ℕ, zero, suc, _*_}
 use lib.Dec.{ltb}
 use lib.ListN.{length, take}
 use Rattle.bits.specs.Bits.{bitsOf}
@@ -12,22 +12,36 @@ use Rattle.tree.specs.Tree.{Params, mostKeyBytes, mostDigestBits, mostLi
 abbrev pub pieceBits : List ℕ → ℕ → List Bool
 pieceBits piece n = take n (bitsOf 8 piece)
 
+-- ---- the order of refusals, and the answer
+
+-- "Orders: .. Feed 7, 10, 5, 6, 8": the number of the first test of a list that holds, and 0 if none does
+abbrev pub firstRefusal : List (Bool × ℕ) → ℕ
+firstRefusal [] = 0
+firstRefusal (test ∷ later) = cond (test .0) (test .1) (firstRefusal later)
+
+-- what a call with that number answers: a refusal has its number, count 0 and everything as it was
+abbrev pub answerOf : {A : Type 0} → ℕ → A → (ℕ → A) → A
+answerOf zero accepted refused = accepted
+answerOf (suc n) accepted refused = refused (suc n)
+
+-- ---- tests that several calls share
+
 -- "5, 0: bit count over 8 times the bytes given"
-abbrev pub refusedBits : List ℕ → ℕ → ℕ → ℕ
-refusedBits piece n later = cond (ltb (8 * length piece) n) 5 later
+abbrev pub bitsTest : List ℕ → ℕ → Bool × ℕ
+bitsTest piece n = (ltb (8 * length piece) n, 5)
 
 -- "1, 0: d not 1 to 512"
-abbrev pub refusedSize : ℕ → ℕ → ℕ
-refusedSize d later = cond (ltb d 1) 1 (cond (ltb mostDigestBits d) 1 later)
+abbrev pub sizeTests : ℕ → List (Bool × ℕ)
+sizeTests d = (ltb d 1, 1) ∷ (ltb mostDigestBits d, 1) ∷ []
 
 -- then "2, 0: key over 64 bytes", "3, 0: L over 64", "4, 0: r over 255", in that order
-abbrev pub refusedParams : Params → ℕ → ℕ
-refusedParams P later =
-    refusedSize (P .d)
-    (cond (ltb mostKeyBytes (length (P .key))) 2
-    (cond (ltb mostLimit (P .limit)) 3
-    (cond (ltb mostRounds (P .rounds)) 4 later)))
+abbrev pub rangeTests : ℕ → ℕ → ℕ → ℕ → List (Bool × ℕ)
+rangeTests keyBytes d limit rounds =
+    sizeTests d ++ ((ltb mostKeyBytes keyBytes, 2) ∷ (ltb mostLimit limit, 3) ∷ (ltb mostRounds rounds, 4) ∷ [])
+
+abbrev pub paramTests : Params → List (Bool × ℕ)
+paramTests P = rangeTests (length (P .key)) (P .d) (P .limit) (P .rounds)
 
 -- "9, 0: output shorter than what is to be written"
-abbrev pub refusedOutput : ℕ → List ℕ → ℕ → ℕ
-refusedOutput size out later = cond (ltb (length out) size) 9 later
+abbrev pub outputTest : ℕ → List ℕ → Bool × ℕ
+outputTest size out = (ltb (length out) size, 9)

@@ -1,6 +1,6 @@
 -- Definitions: the tree of a message. Document 01, "Compression" (K, U, V) and "Tree"; the report, figures 2.4 to 2.6: each level from
 -- the one below. A message is a list of bits, and so are the joined outputs of a level.
-use mathlib.Core.Bool.{Bool, true, false, cond, _||_}
+use mathlib.Core.Bool.{Bool, false, cond, _||_}
 use mathlib.Core.List.{List, [], _∷_, _++_, map, flatten}
 use Prim.Native.Nat.{ℕ, zero, suc, _+_, _-_, _*_, _/_, _^_, _≤_, max}
 use lib.Dec.{eqb}

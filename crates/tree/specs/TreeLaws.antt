@@ -292,14 +292,6 @@ module _ (P : Params) where
   par-sized level z p i (suc (suc n)) X =
       cons (length-output-node (P .rounds) level i z 0 (words 64 X) (length-numbers 64 64 X)) (par-sized level z p (suc i) (suc n) (drop 4096 X))
 
-  pub seq-sized : (level p i : ℕ) (c : List Bool) (n : ℕ) (X : List Bool) → Sized (P .rounds) (seq P level p i c n X)
-  seq-sized level p i c zero X = nil
-  seq-sized level p i c (suc zero) X = cons (length-output-node (P .rounds) level i 1 p (words 16 c ++ words 48 X) (length-seqBlock c X)) nil
-  seq-sized level p i c (suc (suc n)) X =
-      let a : Node = node P level i 0 0 (words 16 c ++ words 48 X) in
-      cons (length-output-node (P .rounds) level i 0 0 (words 16 c ++ words 48 X) (length-seqBlock c X))
-      (seq-sized level p (suc i) (output (P .rounds) a) (suc n) (drop 3072 X))
-
   unfoldable pub parallel-sized : (level : ℕ) (alone : Bool) (M : List Bool) → Sized (P .rounds) (parallel P level alone M)
   parallel-sized level alone M = par-sized level (digit alone) (padding 4096 (length M)) 0 (blocks 4096 (length M)) (padded 4096 M)
 

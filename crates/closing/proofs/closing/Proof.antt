@@ -9,20 +9,8 @@ use native.Mathlib.Omega.{arith}
 use Rattle.closing.proofs.closing.Statement.{statement}
 use Rattle.closing.proofs.closing.Tie as tie
 
-shared-slice-read-new : tie.Need-shared-slice-read-new
-shared-slice-read-new c = omega arith
-
-shared-slice-read-new-2 : tie.Need-shared-slice-read-new-2
-shared-slice-read-new-2 c = omega arith
-
-shared-slice-read-new-3 : tie.Need-shared-slice-read-new-3
-shared-slice-read-new-3 c = omega arith
-
-shared-slice-read-new-4 : tie.Need-shared-slice-read-new-4
-shared-slice-read-new-4 c = omega arith
-
-new-requires : tie.Need-new-requires
-new-requires c κs = omega arith
+params-requires : tie.Need-params-requires
+params-requires c κs = omega arith
 
 round-constants-requires : tie.Need-round-constants-requires
 round-constants-requires c κs = omega arith
@@ -45,13 +33,13 @@ shared-slice-read-close-levels c = omega arith
 close-levels-requires : tie.Need-close-levels-requires
 close-levels-requires c κs =
     let round-constants = c .before .before .before .before in
-    let new = round-constants .before in
-    let known = new .before .before .before .before .before .before in
+    let params = round-constants .before in
+    let known = params .before .before in
     let start = known .before in
     let a = start .args in
     let area = a .area .now in
     let ready = open-ready (start .pre .0) (round-constants .round-constants .result) (words-below area (known .shared-slice-known .given)) (round-constants .round-constants .ensures) (omega (arith, round-constants .round-constants .ok)) in
-    rw (new .new .ensures, closed-read area) (ready, (start .pre .0 .long, start .pre .1))
+    rw (params .params .ensures) record { ready = ready; long = start .pre .0 .long; room = rw (closed-read area) (start .pre .1) }
 
 same-length : tie.Need-same-length
 same-length c = omega arith
@@ -59,23 +47,19 @@ same-length c = omega arith
 returns : tie.Need-returns
 returns c =
     let close-levels = c .before .before in
-    let new = close-levels .before .before .before .before .before .before in
-    let start = new .before .before .before .before .before .before .before in
+    let params = close-levels .before .before .before .before .before .before in
+    let start = params .before .before .before in
     let a = start .args in
     let area = a .area .now in
-    let r = rw (new .new .ensures, closed-read area, params-read area) at (close-levels .close-levels .ensures .0) in
-    let l = rw (new .new .ensures, closed-read area) at (close-levels .close-levels .ensures .1) in
+    let r = rw (params .params .ensures, closed-read area, params-read area) at (close-levels .close-levels .ensures .words) in
+    let l = rw (params .params .ensures, closed-read area) at (close-levels .close-levels .ensures .logged) in
     (r, l ∙ log-written (closedBy area) (a .log .now) (start .pre .1))
 
 pub closing-spec : {M : Type 1} → statement M
 closing-spec =
     tie.close
     (tie.spec
-    shared-slice-read-new
-    shared-slice-read-new-2
-    shared-slice-read-new-3
-    shared-slice-read-new-4
-    new-requires
+    params-requires
     round-constants-requires
     sub-close-levels
     part-close-levels-start

@@ -21,29 +21,29 @@ add-a c = omega arith
 add-e : tie.Need-add-e
 add-e c = omega arith
 
-slice-aggregate-put-words : tie.Need-slice-aggregate-put-words
-slice-aggregate-put-words c = omega arith
+slice-aggregate-copy : tie.Need-slice-aggregate-copy
+slice-aggregate-copy c = omega arith
 
-mul-put-words : tie.Need-mul-put-words
-mul-put-words c = omega arith
+mul-copy : tie.Need-mul-copy
+mul-copy c = omega arith
 
-sub-put-words : tie.Need-sub-put-words
-sub-put-words c = omega arith
+sub-copy : tie.Need-sub-copy
+sub-copy c = omega arith
 
-part-put-words-start : tie.Need-part-put-words-start
-part-put-words-start c = omega arith
+part-copy-start : tie.Need-part-copy-start
+part-copy-start c = omega arith
 
-part-put-words-end : tie.Need-part-put-words-end
-part-put-words-end c = omega arith
+part-copy-end : tie.Need-part-copy-end
+part-copy-end c = omega arith
 
-put-words-requires : tie.Need-put-words-requires
-put-words-requires c κs = omega arith
+copy-requires : tie.Need-copy-requires
+copy-requires c κs = omega arith
 
-slice-aggregate-put-words-2 : tie.Need-slice-aggregate-put-words-2
-slice-aggregate-put-words-2 c = omega arith
+slice-aggregate-copy-2 : tie.Need-slice-aggregate-copy-2
+slice-aggregate-copy-2 c = omega arith
 
-put-words-requires-2 : tie.Need-put-words-requires-2
-put-words-requires-2 c κs = omega arith
+copy-requires-2 : tie.Need-copy-requires-2
+copy-requires-2 c κs = omega arith
 
 returns : tie.Need-returns
 returns c =
@@ -51,10 +51,9 @@ returns c =
     let first = second .before .before .before in
     let start = first .before .before .before .before .before in
     let a = start .args in
-    let n = start .pre in
-    second .put-words2 .ensures
-    ∙ ap (λ (w : List ℕ). paste w (a .place) (a .out .now) (length (a .out .now))) (first .put-words .ensures)
-    ∙ block-made (a .area .now) (a .level) (a .place) (a .out .now) (n .4) (n .0) (n .1) (n .2)
+    second .copy2 .ensures
+    ∙ ap (λ (w : List ℕ). paste w (a .place) (a .out .now) (length (a .out .now))) (first .copy .ensures)
+    ∙ block-made (start .pre .0) (a .place) (a .out .now) (start .pre .2)
 
 pub joined-block-spec : {M : Type 1} → statement M
 joined-block-spec =
@@ -64,12 +63,12 @@ joined-block-spec =
     mul-a
     add-a
     add-e
-    slice-aggregate-put-words
-    mul-put-words
-    sub-put-words
-    part-put-words-start
-    part-put-words-end
-    put-words-requires
-    slice-aggregate-put-words-2
-    put-words-requires-2
+    slice-aggregate-copy
+    mul-copy
+    sub-copy
+    part-copy-start
+    part-copy-end
+    copy-requires
+    slice-aggregate-copy-2
+    copy-requires-2
     returns)

@@ -2,7 +2,7 @@
 use mathlib.Core.Path.{_≡_, refl, ap, _∙_}
 use Prim.Native.Nat.{ℕ, _-_, _+_, _*_, _%_, _≤_, zero-le}
 use lib.ListN.{length, getD, take, replicate}
-use lib.Seq.{take-paste, take-all}
+use lib.Seq.{paste, take-paste, take-all}
 use Rattle.compress.specs.Compress.{S}
 use Rattle.compress.specs.CompressLaws.{grown-zero}
 use Rattle.compress.specs.Buffer.{putRound}
@@ -33,7 +33,7 @@ loop-holds c =
       search needs,
       search needs,
       refl,
-      ap (take 89) (c .before .copy .ensures) ∙ take-paste (replicate 345 0) 0 N 89 zero-le (omega arith) ∙ take-all 89 N (omega arith) ∙ rw grown-zero,
+      ap (take 89) (c .before .copy .ensures ∙ ap (paste (replicate 345 0) 0 N) size) ∙ take-paste (replicate 345 0) 0 N 89 zero-le (omega arith) ∙ take-all 89 N (omega arith) ∙ rw grown-zero,
     )
 
 slice-aggregate-room : tie.Need-slice-aggregate-room Inv-loop μ-loop
@@ -109,7 +109,7 @@ returns c =
     let N = start .args .window .now in
     let past : z .loop .k ≡ start .args .rounds = omega arith in
     c .before .copy2 .ensures
-    ∙ part-out (z .loop .a) (z .loop .at - 16) (345 - (z .loop .at - 16)) (omega arith)
+    ∙ part-out (z .loop .a) (z .loop .at - 16) (z .loop .at - (z .loop .at - 16)) (omega arith) (omega arith)
     ∙ last-words N (z .loop .a) (z .loop .at) (start .args .rounds) (omega arith)
     (z .loop .inv .5 ∙ ap (λ (k : ℕ). after (16 * k) N) past)
 

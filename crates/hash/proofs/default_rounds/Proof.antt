@@ -1,5 +1,6 @@
 -- `hash::default_rounds` meets its contract.
-use Rattle.hash.specs.HashLaws.{told-refused, told-accepted}
+use Rattle.tree.specs.RefusalLaws.{answer-refused}
+use Rattle.hash.specs.Hash.{defaultRoundsOf}
 use mathlib.Core.Path.{sym, _∙_}
 use borrow.Author.Needs.{needs}
 use Rattle.hash.proofs.default_rounds.Statement.{statement}
@@ -12,7 +13,10 @@ refused-requires : tie.Need-refused-requires
 refused-requires c κs = search needs
 
 returns : tie.Need-returns
-returns c = rw (c .refused .ensures .0, c .refused .ensures .1) (told-refused (c .before .before .before .args .d) (c .before .before .size-number .result) (c .before .before .size-number .ensures) (c .before .if1 .taken))
+unfolding defaultRoundsOf
+returns c =
+    let size = c .before .before .size-number in
+    rw (c .refused .ensures .0, c .refused .ensures .1) (answer-refused (size .result) _ _ (λ k. record { number = k; count = 0 }) (size .ensures) (c .before .if1 .taken))
 
 add-accepted : tie.Need-add-accepted
 add-accepted c = search needs
@@ -21,7 +25,8 @@ accepted-requires : tie.Need-accepted-requires
 accepted-requires c κs = search needs
 
 returns-2 : tie.Need-returns-2
-returns-2 c = rw (c .accepted .ensures .0, c .accepted .ensures .1) (told-accepted (c .before .before .before .args .d) (sym (c .before .before .size-number .ensures) ∙ c .before .if1 .left))
+unfolding defaultRoundsOf
+returns-2 c = rw (c .accepted .ensures .0, c .accepted .ensures .1, sym (c .before .before .size-number .ensures) ∙ c .before .if1 .left)
 
 pub default-rounds-spec : {M : Type 1} → statement M
 default-rounds-spec =

@@ -1,16 +1,13 @@
 -- `hash::hash` meets its contract: one equation for every input.
-use Rattle.hash.specs.HashLaws.{Accepted, number-sized, number-accepted, refused-answer, accepted-answer}
-use Rattle.node.specs.declared.Params.{Params}
-use Rattle.hash.specs.Ready.{withKey}
-use Rattle.node.specs.Words.{sized}
-use Rattle.tree.specs.Refusals.{pieceBits}
-use Rattle.hash.specs.Hash.{hashNumber}
-use Rattle.tree.specs.Tree.{digest, digestBytes}
-use Rattle.tree.specs.Tree as Tree
-use lib.ListN.{length, drop, replicate}
-use mathlib.Core.List.{_++_}
-use mathlib.Core.Path.{_≡_, sym, ap, subst, _∙_}
+use mathlib.Core.Path.{sym, ap, _∙_}
 use borrow.Author.Needs.{needs}
+use Rattle.tree.specs.Sizes.{treeNodes}
+use Rattle.node.specs.declared.Params.{Params}
+use Rattle.nodes.specs.Ready.{withKey}
+use Rattle.hash.specs.Hash.{hashOf}
+use Rattle.tree.specs.Tree.{digest}
+use Rattle.tree.specs.Tree as Tree
+use Rattle.hash.specs.HashLaws.{number-accepted, hash-refused, hash-accepted}
 use Rattle.hash.proofs.hash.Statement.{statement}
 use Rattle.hash.proofs.hash.Tie as tie
 
@@ -18,58 +15,46 @@ new-requires : tie.Need-new-requires
 new-requires c κs = search needs
 
 hash-number-requires : tie.Need-hash-number-requires
-hash-number-requires c κs = search needs
+hash-number-requires c κs = ap (λ (p : Params). p .key) (c .before .new .ensures)
 
 refused-requires : tie.Need-refused-requires
 refused-requires c κs = search needs
 
+same-length : tie.Need-same-length
+same-length c = search needs
+
 returns : tie.Need-returns
 returns c =
     let number = c .before .before in
-    let a = number .before .before .before .before .before .args in
-    let m = a .message .now in
-    let out = a .digest .now in
-    let P : Tree.Params = record { key = a .key .now; d = a .d; limit = a .limit; rounds = a .rounds } in
-    let n : number .hash-number .result ≡ hashNumber m (a .bits) P out =
-    number .hash-number .ensures
-    ∙ ap (λ (p : Params). hashNumber (replicate (length m) 0) (a .bits) (sized (p .key) (p .d) (p .limit) (p .rounds)) (replicate (length out) 0)) (number .before .new .ensures)
-    ∙ number-sized m (a .bits) (a .key .now) (a .d) (a .limit) (a .rounds) out in
-    rw (c .refused .ensures .0, c .refused .ensures .1) (refused-answer m (a .bits) P out (number .hash-number .result) n (c .before .if1 .taken))
+    let new = number .before .before in
+    let a = new .before .before .before .before .args in
+    rw (c .refused .ensures .0, c .refused .ensures .1)
+    (hash-refused (a .message .now) (a .bits) (withKey (a .key .now) (new .new .result)) (a .digest .now) (number .hash-number .result) (number .hash-number .ensures) (c .before .if1 .taken)
+    ∙ ap (λ (p : Params). hashOf (a .message .now) (a .bits) (withKey (a .key .now) p) (a .digest .now)) (new .new .ensures))
 
 put-digest-requires : tie.Need-put-digest-requires
 put-digest-requires c κs =
     let number = c .before .before in
-    let a = number .before .before .before .before .before .args in
-    let m = a .message .now in
-    let out = a .digest .now in
-    let P : Tree.Params = record { key = a .key .now; d = a .d; limit = a .limit; rounds = a .rounds } in
-    let n : number .hash-number .result ≡ hashNumber m (a .bits) P out =
-    number .hash-number .ensures
-    ∙ ap (λ (p : Params). hashNumber (replicate (length m) 0) (a .bits) (sized (p .key) (p .d) (p .limit) (p .rounds)) (replicate (length out) 0)) (number .before .new .ensures)
-    ∙ number-sized m (a .bits) (a .key .now) (a .d) (a .limit) (a .rounds) out in
-    let ok = number-accepted m (a .bits) P out (sym n ∙ c .before .if1 .left) in (
-      subst (λ (p : Params). Accepted m (a .bits) (withKey (a .key .now) p) out) (sym (number .before .new .ensures)) ok,
-      ap (λ (p : Params). p .key) (number .before .new .ensures),
+    let new = number .before .before in
+    let a = new .before .before .before .before .args in (
+      number-accepted (a .message .now) (a .bits) (withKey (a .key .now) (new .new .result)) (a .digest .now) (sym (number .hash-number .ensures) ∙ c .before .if1 .left),
+      ap (λ (p : Params). p .key) (new .new .ensures),
     )
 
 tree-nodes-requires : tie.Need-tree-nodes-requires
 tree-nodes-requires c κs =
-    let number = c .before .before .before .before .before in
-    let a = number .before .before .before .before .before .args in
-    let m = a .message .now in
-    let out = a .digest .now in
-    let P : Tree.Params = record { key = a .key .now; d = a .d; limit = a .limit; rounds = a .rounds } in
-    let n : number .hash-number .result ≡ hashNumber m (a .bits) P out =
-    number .hash-number .ensures
-    ∙ ap (λ (p : Params). hashNumber (replicate (length m) 0) (a .bits) (sized (p .key) (p .d) (p .limit) (p .rounds)) (replicate (length out) 0)) (number .before .new .ensures)
-    ∙ number-sized m (a .bits) (a .key .now) (a .d) (a .limit) (a .rounds) out in
-    number-accepted m (a .bits) P out (sym n ∙ c .before .before .before .before .if1 .left) .ranges .limitHigh
+    let test = c .before .before .before .before in
+    let number = test .before in
+    let new = number .before .before in
+    let a = new .before .before .before .before .args in
+    rw (ap (λ (p : Params). p .limit) (new .new .ensures)) at
+    (number-accepted (a .message .now) (a .bits) (withKey (a .key .now) (new .new .result)) (a .digest .now) (sym (number .hash-number .ensures) ∙ test .if1 .left) .ranges .limitHigh)
 
 accepted-requires : tie.Need-accepted-requires
 accepted-requires c κs = search needs
 
-same-length : tie.Need-same-length
-same-length c = search needs
+same-length-2 : tie.Need-same-length-2
+same-length-2 c = search needs
 
 returns-2 : tie.Need-returns-2
 returns-2 c =
@@ -77,20 +62,12 @@ returns-2 c =
     let put = nodes .before .before .before in
     let test = put .before .before in
     let number = test .before in
-    let a = number .before .before .before .before .before .args in
-    let m = a .message .now in
-    let out = a .digest .now in
-    let P : Tree.Params = record { key = a .key .now; d = a .d; limit = a .limit; rounds = a .rounds } in
-    let n : number .hash-number .result ≡ hashNumber m (a .bits) P out =
-    number .hash-number .ensures
-    ∙ ap (λ (p : Params). hashNumber (replicate (length m) 0) (a .bits) (sized (p .key) (p .d) (p .limit) (p .rounds)) (replicate (length out) 0)) (number .before .new .ensures)
-    ∙ number-sized m (a .bits) (a .key .now) (a .d) (a .limit) (a .rounds) out in
-    let z : hashNumber m (a .bits) P out ≡ 0 = sym n ∙ test .if1 .left in
-    let ok = number-accepted m (a .bits) P out z in
+    let new = number .before .before in
+    let a = new .before .before .before .before .args in
     rw (c .accepted .ensures .0, c .accepted .ensures .1)
-    (accepted-answer m (a .bits) P out (nodes .tree-nodes .result) (put .put-digest .last .1 .1 .1 .1 .0) z (ok .enough) (nodes .tree-nodes .ensures)
-    (put .put-digest .ensures
-    ∙ ap (λ (p : Params). digest (withKey (a .key .now) p) (pieceBits m (a .bits)) ++ drop (digestBytes (p .d)) out) (number .before .new .ensures)))
+    (hash-accepted (a .message .now) (a .bits) (withKey (a .key .now) (new .new .result)) (a .digest .now) (nodes .tree-nodes .result) _ (sym (number .hash-number .ensures) ∙ test .if1 .left)
+    (nodes .tree-nodes .ensures ∙ ap (λ (p : Params). treeNodes (p .limit) (a .bits)) (sym (new .new .ensures))) (put .put-digest .ensures)
+    ∙ ap (λ (p : Params). hashOf (a .message .now) (a .bits) (withKey (a .key .now) p) (a .digest .now)) (new .new .ensures))
 
 pub hash-spec : {M : Type 1} → statement M
 hash-spec =
@@ -99,9 +76,10 @@ hash-spec =
     new-requires
     hash-number-requires
     refused-requires
+    same-length
     returns
     put-digest-requires
     tree-nodes-requires
     accepted-requires
-    same-length
+    same-length-2
     returns-2)

@@ -1,14 +1,13 @@
--- `hash::hash_number` meets its contract, one law for each number.
-use Rattle.hash.specs.HashLaws.{number-over, number-params, number-short, number-none}
-use Rattle.tree.specs.RefusalLaws.{params-ranges}
-use Rattle.node.specs.Words.{sized}
-use lib.ListN.{length, replicate, length-replicate}
-use lib.Dec.{ltb}
-use Prim.Native.Nat.{ℕ, _*_}
-use mathlib.Core.List.{List}
-use mathlib.Core.Path.{_≡_, sym, ap, _∙_}
+-- `hash::hash_number` meets its contract.
+use mathlib.Core.List.{[], _∷_}
+use mathlib.Core.Path.{refl, sym, _∙_}
 use native.Mathlib.Omega.{arith}
 use borrow.Author.Needs.{needs}
+use borrow.Author.Tests.{lt-ltb, le-ltb}
+use Rattle.tree.specs.Tree.{digestBytes}
+use Rattle.tree.specs.Refusals.{rangeTests, outputTest}
+use Rattle.tree.specs.RefusalLaws.{first-part, passed, in-range}
+use Rattle.hash.specs.Hash.{hashNumber}
 use Rattle.hash.proofs.hash_number.Statement.{statement}
 use Rattle.hash.proofs.hash_number.Tie as tie
 
@@ -16,22 +15,48 @@ over-requires : tie.Need-over-requires
 over-requires c κs = search needs
 
 returns : tie.Need-returns
-returns c = let a = c .before .before .args in let p = a .params in let m : List ℕ = replicate (a .bytes) 0 in let o : List ℕ = replicate (a .out) 0 in let P = sized (p .key) (p .d) (p .limit) (p .rounds) in let l : length m ≡ a .bytes = length-replicate (a .bytes) 0 in let lo : length o ≡ a .out = length-replicate (a .out) 0 in number-over m (a .bits) P o (ap (λ (k : ℕ). ltb (8 * k) (a .bits)) l ∙ sym (c .before .over .ensures) ∙ c .if1 .taken)
+unfolding hashNumber
+returns c = rw (sym (c .before .over .ensures) ∙ c .if1 .taken)
 
 params-number-requires : tie.Need-params-number-requires
 params-number-requires c κs = search needs
 
 returns-2 : tie.Need-returns-2
-returns-2 c = let a = c .before .before .before .before .args in let p = a .params in let m : List ℕ = replicate (a .bytes) 0 in let o : List ℕ = replicate (a .out) 0 in let P = sized (p .key) (p .d) (p .limit) (p .rounds) in let l : length m ≡ a .bytes = length-replicate (a .bytes) 0 in let lo : length o ≡ a .out = length-replicate (a .out) 0 in c .before .params-number .ensures ∙ number-params m (a .bits) P o (ap (λ (k : ℕ). ltb (8 * k) (a .bits)) l ∙ sym (c .before .before .before .over .ensures) ∙ c .before .before .if1 .left) (λ z. c .if2 .taken (c .before .params-number .ensures ∙ z))
+unfolding hashNumber
+returns-2 c =
+    let params = c .before in
+    let test = params .before in
+    let start = test .before .before .before .before .before in
+    let p = start .args .params in
+    let e = params .params-number .ensures in
+    rw (sym (test .before .over .ensures) ∙ test .if1 .left, ← start .pre)
+    (e ∙ first-part (rangeTests (p .key) (p .d) (p .limit) (p .rounds)) (outputTest (digestBytes (p .d)) (start .args .digest .now) ∷ []) (λ z. c .if2 .taken (e ∙ z)))
 
 add-if3 : tie.Need-add-if3
-add-if3 c = let p = c .before .before .before .before .before .args .params in record { fits = omega (arith, params-ranges (sized (p .key) (p .d) (p .limit) (p .rounds)) (sym (c .before .before .params-number .ensures) ∙ c .before .if2 .left) .dHigh) }
+add-if3 c =
+    let params = c .before .before in
+    let p = params .before .before .before .before .before .before .args .params in
+    record { fits = omega (arith, in-range (p .key) (p .d) (p .limit) (p .rounds) (sym (params .params-number .ensures) ∙ c .before .if2 .left) .dHigh) }
 
 returns-3 : tie.Need-returns-3
-returns-3 c = let a = c .before .before .before .before .before .before .args in let p = a .params in let m : List ℕ = replicate (a .bytes) 0 in let o : List ℕ = replicate (a .out) 0 in let P = sized (p .key) (p .d) (p .limit) (p .rounds) in let l : length m ≡ a .bytes = length-replicate (a .bytes) 0 in let lo : length o ≡ a .out = length-replicate (a .out) 0 in number-short m (a .bits) P o (ap (λ (k : ℕ). ltb (8 * k) (a .bits)) l ∙ sym (c .before .before .before .before .before .over .ensures) ∙ c .before .before .before .before .if1 .left) (sym (c .before .before .before .params-number .ensures) ∙ c .before .before .if2 .left) (omega (arith, lo, c .if3 .taken))
+unfolding hashNumber
+returns-3 c =
+    let params = c .before .before .before in
+    let test = params .before in
+    let start = test .before .before .before .before .before in
+    let p = start .args .params in
+    let q = passed (rangeTests (p .key) (p .d) (p .limit) (p .rounds)) refl (sym (params .params-number .ensures) ∙ c .before .before .if2 .left) in
+    rw (sym (test .before .over .ensures) ∙ test .if1 .left, ← start .pre, q 0, q 1, q 2, q 3, q 4, lt-ltb _ _ (c .if3 .taken))
 
 returns-4 : tie.Need-returns-4
-returns-4 c = let a = c .before .before .before .before .before .before .args in let p = a .params in let m : List ℕ = replicate (a .bytes) 0 in let o : List ℕ = replicate (a .out) 0 in let P = sized (p .key) (p .d) (p .limit) (p .rounds) in let l : length m ≡ a .bytes = length-replicate (a .bytes) 0 in let lo : length o ≡ a .out = length-replicate (a .out) 0 in number-none m (a .bits) P o (ap (λ (k : ℕ). ltb (8 * k) (a .bits)) l ∙ sym (c .before .before .before .before .before .over .ensures) ∙ c .before .before .before .before .if1 .left) (sym (c .before .before .before .params-number .ensures) ∙ c .before .before .if2 .left) (omega (arith, lo, c .if3 .left))
+unfolding hashNumber
+returns-4 c =
+    let params = c .before .before .before in
+    let test = params .before in
+    let start = test .before .before .before .before .before in
+    let p = start .args .params in
+    let q = passed (rangeTests (p .key) (p .d) (p .limit) (p .rounds)) refl (sym (params .params-number .ensures) ∙ c .before .before .if2 .left) in
+    rw (sym (test .before .over .ensures) ∙ test .if1 .left, ← start .pre, q 0, q 1, q 2, q 3, q 4, le-ltb _ _ (c .if3 .left))
 
 pub hash-number-spec : {M : Type 1} → statement M
 hash-number-spec =

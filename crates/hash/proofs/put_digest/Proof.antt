@@ -1,11 +1,11 @@
 -- `hash::put_digest` meets its contract: the root worked out node by node is the root of the levels.
 use Rattle.hash.specs.HashLaws.{digest-root, common-key}
-use Rattle.tree.specs.RefusalLaws.{length-pieceBits}
-use Rattle.hash.specs.Ready.{shared, withKey}
+use Rattle.tree.specs.RefusalLaws.{length-pieceBits, ranges-valid}
+use Rattle.nodes.specs.Ready.{shared, withKey}
 use Rattle.node.specs.Words.{common, commonOf}
 use Rattle.tree.specs.Refusals.{pieceBits}
 use Rattle.tree.specs.TreeLaws.{length-keyWords}
-use Rattle.tree.specs.Tree.{Valid, keyWords, digestBytes}
+use Rattle.tree.specs.Tree.{keyWords, digestBytes}
 use Rattle.lists.specs.Slices.{bytes-below}
 use lib.ListN.{length, drop}
 use Prim.Native.Nat.{ℕ}
@@ -35,7 +35,7 @@ root-requires c κs =
     let s = k .before .before .before .before in
     let r = s .pre .0 .ranges in (
       record {
-        keyHigh = omega (arith, s .pre .1, r .keyBytes);
+        keyHigh = omega (arith, s .pre .1, r .keyHigh);
         dHigh = r .dHigh;
         limitHigh = r .limitHigh;
         roundsHigh = r .roundsHigh;
@@ -63,18 +63,10 @@ returns c =
     let s = k .before .before .before .before in
     let a = s .args in
     let p = a .params in
-    let r = s .pre .0 .ranges in
     let P = withKey (a .key .now) p in
     let M = pieceBits (a .message .now) (a .bits) in
     let C = shared (k .key-words .result) p in
-    let valid : Valid P = record {
-      bytes = bytes-below (a .key .now) (k .before .before .shared-slice-known2 .given);
-      keyBytes = r .keyBytes;
-      dLow = r .dLow;
-      dHigh = r .dHigh;
-      limitHigh = r .limitHigh;
-      roundsHigh = r .roundsHigh;
-    } in
+    let valid = ranges-valid P (bytes-below (a .key .now) (k .before .before .shared-slice-known2 .given)) (s .pre .0 .ranges) in
     let e : C ≡ commonOf P =
     ap (λ (w : List ℕ). common w (p .key) (p .d) (p .limit) (p .rounds)) (k .key-words .ensures)
     ∙ ap (λ (n : ℕ). common (keyWords (a .key .now)) n (p .d) (p .limit) (p .rounds)) (s .pre .1)

@@ -1,5 +1,5 @@
 -- `md6_c::md6_hash` meets its contract: that of `tree::hash`, less the count.
-use Rattle.hash.specs.Hash.{Answer}
+use Rattle.hash.specs.Hash.{Hashed}
 use mathlib.Core.Path.{ap}
 use borrow.Author.Needs.{needs}
 use Rattle.md6_c.proofs.md6_hash.Statement.{statement}
@@ -15,7 +15,7 @@ same-length : tie.Need-same-length
 same-length c = search needs
 
 returns : tie.Need-returns
-returns c = let e = c .before .before .hash .ensures in (ap (λ (x : Answer). x .number) e, ap (λ (x : Answer). x .digest) e)
+returns c = let e = c .before .before .hash .ensures in (ap (λ (x : Hashed). x .number) e, ap (λ (x : Hashed). x .digest) e)
 
 pub md6-hash-spec : {M : Type 1} → statement M
 md6-hash-spec = tie.close (tie.spec hash-requires same-length returns)

@@ -14,20 +14,20 @@ use Rattle.node.proofs.compress_node.Tie as tie
 q-words-requires : tie.Need-q-words-requires
 q-words-requires c κs = search needs
 
-slice-aggregate-put-words : tie.Need-slice-aggregate-put-words
-slice-aggregate-put-words c = search needs
+slice-aggregate-copy : tie.Need-slice-aggregate-copy
+slice-aggregate-copy c = search needs
 
-slice-aggregate-put-words-2 : tie.Need-slice-aggregate-put-words-2
-slice-aggregate-put-words-2 c = search needs
+slice-aggregate-copy-2 : tie.Need-slice-aggregate-copy-2
+slice-aggregate-copy-2 c = search needs
 
-put-words-requires : tie.Need-put-words-requires
-put-words-requires c κs = search needs
+copy-requires : tie.Need-copy-requires
+copy-requires c κs = search needs
 
-slice-aggregate-put-words-3 : tie.Need-slice-aggregate-put-words-3
-slice-aggregate-put-words-3 c = search needs
+slice-aggregate-copy-3 : tie.Need-slice-aggregate-copy-3
+slice-aggregate-copy-3 c = search needs
 
-put-words-requires-2 : tie.Need-put-words-requires-2
-put-words-requires-2 c κs = search needs
+copy-requires-2 : tie.Need-copy-requires-2
+copy-requires-2 c κs = search needs
 
 array-write-window : tie.Need-array-write-window
 array-write-window c = search needs
@@ -35,11 +35,11 @@ array-write-window c = search needs
 array-write-window-2 : tie.Need-array-write-window-2
 array-write-window-2 c = search needs
 
-slice-aggregate-put-words-4 : tie.Need-slice-aggregate-put-words-4
-slice-aggregate-put-words-4 c = search needs
+slice-aggregate-copy-4 : tie.Need-slice-aggregate-copy-4
+slice-aggregate-copy-4 c = search needs
 
-put-words-requires-3 : tie.Need-put-words-requires-3
-put-words-requires-3 c κs = simp length-set (omega arith)
+copy-requires-3 : tie.Need-copy-requires-3
+copy-requires-3 c κs = simp length-set (omega arith)
 
 compress-requires : tie.Need-compress-requires
 compress-requires c κs = search needs
@@ -53,11 +53,11 @@ returns c =
     let a = q .before .before .before .before .args in
     c .compress .ensures
     ∙ ap (compressed (a .rounds))
-    (third .put-words3 .ensures
+    (third .copy3 .ensures
     ∙ ap (λ (w : List ℕ). paste (set (set w 23 (a .u)) 24 (a .v)) 25 (a .block .now) (length (a .block .now)))
-    (second .put-words2 .ensures
+    (second .copy2 .ensures
     ∙ ap (λ (w : List ℕ). paste w 15 (a .k .now) (length (a .k .now)))
-    (first .put-words .ensures ∙ ap (λ (w : List ℕ). paste (replicate 89 0) 0 w (length w)) (q .q-words .ensures)))
+    (first .copy .ensures ∙ ap (λ (w : List ℕ). paste (replicate 89 0) 0 w (length w)) (q .q-words .ensures)))
     ∙ window-made (a .k .now) (a .block .now) (a .u) (a .v) (q .before .before .before .before .pre .0) (q .before .before .before .before .pre .1))
 
 pub compress-node-spec : {M : Type 1} → statement M
@@ -65,14 +65,14 @@ compress-node-spec =
     tie.close
     (tie.spec
     q-words-requires
-    slice-aggregate-put-words
-    slice-aggregate-put-words-2
-    put-words-requires
-    slice-aggregate-put-words-3
-    put-words-requires-2
+    slice-aggregate-copy
+    slice-aggregate-copy-2
+    copy-requires
+    slice-aggregate-copy-3
+    copy-requires-2
     array-write-window
     array-write-window-2
-    slice-aggregate-put-words-4
-    put-words-requires-3
+    slice-aggregate-copy-4
+    copy-requires-3
     compress-requires
     returns)

@@ -1,71 +1,32 @@
 -- `piece::feed_levels` meets its contract.
-use mathlib.Core.Path.{_∙_}
-use Prim.Native.Nat.{_≤_}
-use lib.ListN.{length}
+use mathlib.Core.Path.{refl, sym, _∙_}
+use lib.ListN.{getD}
 use Rattle.lists.specs.Slices.{words-below}
 use Rattle.tree.specs.Refusals.{pieceBits}
+use Rattle.area.specs.Area.{kOf}
 use Rattle.area.specs.Calls.{fedBits}
+use Rattle.climb.specs.MakeLaws.{paramsFrom, limit-from}
 use Rattle.climb.specs.ReceiveLaws.{log-written}
-use Rattle.climb.specs.OpenArea.{open-ready}
-use Rattle.piece.specs.PieceLaws.{passed-open, key-copied, fed-read}
+use Rattle.climb.specs.FlushLaws.{le-at}
+use Rattle.climb.specs.OpenArea.{numbered}
+use Rattle.piece.specs.FeedSteps.{free-le, base-place}
+use Rattle.piece.specs.ChunkLaws.{chunk-free}
+use Rattle.piece.specs.PieceLaws.{fed-read}
 use native.Mathlib.Omega.{arith}
 use Rattle.piece.proofs.feed_levels.Statement.{statement}
 use Rattle.piece.proofs.feed_levels.Tie as tie
 
-slice-read-new : tie.Need-slice-read-new
-slice-read-new c = omega arith
+slice-read-free-of : tie.Need-slice-read-free-of
+slice-read-free-of c = omega (arith, c .before .before .before .before .pre .opened .long)
 
-slice-read-new-2 : tie.Need-slice-read-new-2
-slice-read-new-2 c = omega arith
+slice-read-free-of-2 : tie.Need-slice-read-free-of-2
+slice-read-free-of-2 c = omega (arith, c .before .before .before .before .before .pre .opened .long)
 
-slice-read-new-3 : tie.Need-slice-read-new-3
-slice-read-new-3 c = omega arith
+free-of-requires : tie.Need-free-of-requires
+free-of-requires c κs = omega arith
 
-slice-read-new-4 : tie.Need-slice-read-new-4
-slice-read-new-4 c = omega arith
-
-new-requires : tie.Need-new-requires
-new-requires c κs = omega arith
-
-slice-read-total : tie.Need-slice-read-total
-slice-read-total c = omega arith
-
-slice-aggregate-copy : tie.Need-slice-aggregate-copy
-slice-aggregate-copy c = omega arith
-
-sub-copy : tie.Need-sub-copy
-sub-copy c = omega arith
-
-part-copy-start : tie.Need-part-copy-start
-part-copy-start c = omega arith
-
-part-copy-end : tie.Need-part-copy-end
-part-copy-end c = omega arith
-
-copy-requires : tie.Need-copy-requires
-copy-requires c κs = omega arith
-
-round-constants-requires : tie.Need-round-constants-requires
-round-constants-requires c κs = omega arith
-
-slice-aggregate-feed-bits : tie.Need-slice-aggregate-feed-bits
-slice-aggregate-feed-bits c = omega arith
-
-slice-aggregate-feed-bits-2 : tie.Need-slice-aggregate-feed-bits-2
-slice-aggregate-feed-bits-2 c = omega arith
-
-feed-bits-requires : tie.Need-feed-bits-requires
-feed-bits-requires c κs =
-    let round-constants = c .before .before .before .before in
-    let rc = round-constants in
-    let new = rc .before .before .before .before .before .before .before in
-    let start = new .before .before .before .before .before .before .before .before in
-    let a = start .args in
-    let area = a .area .now in
-    let k = rc .before .before .copy .ensures ∙ key-copied area (start .pre .long) in
-    let rows : 255 ≤ length (rc .round-constants .result) = omega arith in
-    let ready = open-ready (passed-open (start .pre)) (rc .round-constants .result) (words-below area (new .before .before .before .before .before .before .before .slice-known .given)) (rc .round-constants .ensures) rows in
-    rw (k, new .new .ensures, fed-read area (a .piece .now) (a .bits)) (ready, ((start .pre .long, start .pre .bits, start .pre .total), start .pre .room))
+feed-nodes-requires : tie.Need-feed-nodes-requires
+feed-nodes-requires c κs = c .before .before .before .before .before .before .before .before .before .pre
 
 same-length : tie.Need-same-length
 same-length c = omega arith
@@ -75,36 +36,51 @@ same-length-2 c = omega arith
 
 returns : tie.Need-returns
 returns c =
-    let feed-bits = c .before .before .before .before in
-    let fed = feed-bits in
-    let rc = fed .before .before .before .before .before in
-    let new = rc .before .before .before .before .before .before .before in
-    let start = new .before .before .before .before .before .before .before .before in
+    let r = c .before .before .before .before .feed-nodes .ensures in
+    (r .0, (r .1 .0, r .1 .1))
+
+sub-fill-level : tie.Need-sub-fill-level
+sub-fill-level c =
+    let free-of = c .before .before in
+    let area = free-of .before .before .before .before .before .before .args .area .now in
+    le-at (sym (free-of .free-of .ensures)) refl (free-le (getD area 4 0) (getD area 1 0))
+
+fill-level-requires : tie.Need-fill-level-requires
+fill-level-requires c κs =
+    let free-of = c .before .before in
+    let start = free-of .before .before .before .before .before .before in
+    let area = start .args .area .now in
+    (start .pre .opened .long, base-place (le-at (sym (free-of .free-of .ensures)) refl (free-le (getD area 4 0) (getD area 1 0))) (c .before .if1 .left), omega (arith, start .pre .bits))
+
+same-length-3 : tie.Need-same-length-3
+same-length-3 c = omega arith
+
+returns-2 : tie.Need-returns-2
+returns-2 c =
+    let fill-level = c .before .before in
+    let test = fill-level .before .before in
+    let free-of = test .before in
+    let known = free-of .before .before .before .before .before in
+    let start = known .before in
     let a = start .args in
     let area = a .area .now in
-    let k = rc .before .before .copy .ensures ∙ key-copied area (start .pre .long) in
-    let r = rw (k, new .new .ensures, fed-read area (a .piece .now) (a .bits)) at (fed .feed-bits .ensures) in
-    (r .0, (r .1 .0 ∙ log-written (fedBits area (pieceBits (a .piece .now) (a .bits)) .nodes) (a .log .now) (start .pre .room), r .1 .1))
+    let P = paramsFrom (kOf area) (numbered area) in
+    let f = chunk-free P (getD area 4 0) (limit-from (kOf area) (numbered area)) (getD area 1 0) 0 (a .bits) area (a .log .now) (a .piece .now) 0 (start .pre .opened .long) (words-below area (known .slice-known .given)) (omega (arith, start .pre .bits)) _ _ (free-of .free-of .ensures) (test .if1 .left) (fill-level .fill-level .ensures) in
+    let r = rw (fed-read area (a .piece .now) (a .bits)) at f in
+    (r .0, (r .1 ∙ log-written (fedBits area (pieceBits (a .piece .now) (a .bits)) .nodes) (a .log .now) (start .pre .room), omega (arith, r .2)))
 
 pub feed-levels-spec : {M : Type 1} → statement M
 feed-levels-spec =
     tie.close
     (tie.spec
-    slice-read-new
-    slice-read-new-2
-    slice-read-new-3
-    slice-read-new-4
-    new-requires
-    slice-read-total
-    slice-aggregate-copy
-    sub-copy
-    part-copy-start
-    part-copy-end
-    copy-requires
-    round-constants-requires
-    slice-aggregate-feed-bits
-    slice-aggregate-feed-bits-2
-    feed-bits-requires
+    slice-read-free-of
+    slice-read-free-of-2
+    free-of-requires
+    feed-nodes-requires
     same-length
     same-length-2
-    returns)
+    returns
+    sub-fill-level
+    fill-level-requires
+    same-length-3
+    returns-2)

@@ -14,12 +14,12 @@ use Rattle.piece.proofs.feed_piece.Tie as tie
 slice-read-total : tie.Need-slice-read-total
 slice-read-total c =
     let start = c .before .before .before .before in
-    omega (arith, start .pre .long)
+    omega (arith, start .pre .opened .long)
 
 slice-read-before : tie.Need-slice-read-before
 slice-read-before c =
     let start = c .before .before .before .before .before in
-    omega (arith, start .pre .long)
+    omega (arith, start .pre .opened .long)
 
 feed-levels-requires : tie.Need-feed-levels-requires
 feed-levels-requires c κs =
@@ -46,7 +46,7 @@ add-area-2 c =
 slice-write-area-2 : tie.Need-slice-write-area-2
 slice-write-area-2 c =
     let start = c .before .before .before .before .before .before .before .before .before .before .before .before in
-    simp length-set (omega (arith, start .pre .long))
+    simp length-set (omega (arith, start .pre .opened .long))
 
 same-length : tie.Need-same-length
 same-length c = search needs
@@ -65,7 +65,7 @@ returns c =
     let count = fed .feed-levels .result / 2 in
     let m = ap (λ (x : ℕ). x / 2) (fed .feed-levels .ensures .1 .1) ∙ half-double (length (made .nodes)) in (
       ap (λ (x : List ℕ). set (set x 1 (getD area 1 0 + a .bits)) 14 (getD area 14 0 + count)) (fed .feed-levels .ensures .0)
-          ∙ fed-written area (a .bits) count made (start .pre .long) m,
+          ∙ fed-written area (a .bits) count made (start .pre .opened .long) m,
       (fed .feed-levels .ensures .1 .0, m),
     )
 

@@ -1,12 +1,12 @@
 -- `sound::head_sound` meets its contract.
 use native.Mathlib.Omega.{arith}
 use Rattle.node.specs.declared.Params.{Params}
-use Rattle.tree.specs.Refusals.{refusedParams}
-use Rattle.node.specs.Words.{sized}
+use Rattle.tree.specs.Refusals.{firstRefusal, rangeTests}
+use Rattle.tree.specs.RefusalLaws.{in-range}
 use mathlib.Core.Path.{sym, ap, _∙_}
 use lib.ListN.{getD}
 use borrow.Author.Tests.{not-true, not-false, eq-eqb, ne-eqb}
-use Rattle.sound.specs.SoundLaws.{refused-words, in-range-words, head-phase, head-params, head-more}
+use Rattle.sound.specs.SoundLaws.{refused-words, head-phase, head-params, head-more}
 use Rattle.sound.proofs.head_sound.Statement.{statement}
 use Rattle.sound.proofs.head_sound.Tie as tie
 
@@ -23,20 +23,8 @@ returns c =
     let area = start .args .area .now in
     sym (head-phase area (sym (is-phase .is-phase .ensures) ∙ not-true (is-phase .is-phase .result) (c .if1 .taken)))
 
-shared-slice-read-new : tie.Need-shared-slice-read-new
-shared-slice-read-new c = omega arith
-
-shared-slice-read-new-2 : tie.Need-shared-slice-read-new-2
-shared-slice-read-new-2 c = omega arith
-
-shared-slice-read-new-3 : tie.Need-shared-slice-read-new-3
-shared-slice-read-new-3 c = omega arith
-
-shared-slice-read-new-4 : tie.Need-shared-slice-read-new-4
-shared-slice-read-new-4 c = omega arith
-
-new-requires : tie.Need-new-requires
-new-requires c κs = omega arith
+params-requires : tie.Need-params-requires
+params-requires c κs = omega arith
 
 params-number-requires : tie.Need-params-number-requires
 params-number-requires c κs = omega arith
@@ -44,31 +32,31 @@ params-number-requires c κs = omega arith
 returns-2 : tie.Need-returns-2
 returns-2 c =
     let number = c .before in
-    let new = number .before in
-    let phase = new .before .before .before .before .before in
+    let params = number .before in
+    let phase = params .before in
     let area = phase .before .before .before .before .args .area .now in
     let p = sym (phase .before .is-phase .ensures) ∙ not-false (phase .before .is-phase .result) (phase .if1 .left) in
-    let q = refused-words area 0 ∙ ap (λ (x : Params). refusedParams (sized (x .key) (x .d) (x .limit) (x .rounds)) 0) (sym (new .new .ensures)) ∙ sym (number .params-number .ensures) in
+    let q = refused-words area ∙ ap (λ (x : Params). firstRefusal (rangeTests (x .key) (x .d) (x .limit) (x .rounds))) (sym (params .params .ensures)) ∙ sym (number .params-number .ensures) in
     sym (head-params area p (ne-eqb _ 0 (λ z. c .if2 .taken (sym q ∙ z))))
 
 rest-sound-requires : tie.Need-rest-sound-requires
 rest-sound-requires c κs =
     let number = c .before in
-    let new = number .before in
-    let start = new .before .before .before .before .before .before .before .before .before in
+    let params = number .before in
+    let start = params .before .before .before .before .before in
     let area = start .args .area .now in
-    let q = ap (λ (x : Params). refusedParams (sized (x .key) (x .d) (x .limit) (x .rounds)) 0) (sym (new .new .ensures)) ∙ sym (number .params-number .ensures) ∙ c .if2 .left in
-    let r = in-range-words (getD area 2 0) (getD area 3 0) (getD area 4 0) (getD area 5 0) q in
+    let q = ap (λ (x : Params). firstRefusal (rangeTests (x .key) (x .d) (x .limit) (x .rounds))) (sym (params .params .ensures)) ∙ sym (number .params-number .ensures) ∙ c .if2 .left in
+    let r = in-range (getD area 2 0) (getD area 3 0) (getD area 4 0) (getD area 5 0) q in
     (start .pre, r .keyHigh, r .limitHigh)
 
 returns-3 : tie.Need-returns-3
 returns-3 c =
     let number = c .before .before in
-    let new = number .before in
-    let phase = new .before .before .before .before .before in
+    let params = number .before in
+    let phase = params .before in
     let area = phase .before .before .before .before .args .area .now in
     let p = sym (phase .before .is-phase .ensures) ∙ not-false (phase .before .is-phase .result) (phase .if1 .left) in
-    let q = refused-words area 0 ∙ ap (λ (x : Params). refusedParams (sized (x .key) (x .d) (x .limit) (x .rounds)) 0) (sym (new .new .ensures)) ∙ sym (number .params-number .ensures) ∙ c .before .if2 .left in
+    let q = refused-words area ∙ ap (λ (x : Params). firstRefusal (rangeTests (x .key) (x .d) (x .limit) (x .rounds))) (sym (params .params .ensures)) ∙ sym (number .params-number .ensures) ∙ c .before .if2 .left in
     c .rest-sound .ensures ∙ sym (head-more area p (eq-eqb _ 0 q))
 
 pub head-sound-spec : {M : Type 1} → statement M
@@ -78,11 +66,7 @@ head-sound-spec =
     shared-slice-read-is-phase
     is-phase-requires
     returns
-    shared-slice-read-new
-    shared-slice-read-new-2
-    shared-slice-read-new-3
-    shared-slice-read-new-4
-    new-requires
+    params-requires
     params-number-requires
     returns-2
     rest-sound-requires

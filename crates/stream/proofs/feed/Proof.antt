@@ -1,8 +1,7 @@
 -- `stream::feed` meets its contract: one equation for every area, piece and log.
 use native.Mathlib.Omega.{arith}
 use mathlib.Core.Path.{sym, _∙_}
-use Rattle.area.specs.CallLaws.{feed-passed}
-use Rattle.stream.specs.FeedLaws.{answer-refused, answer-accepted}
+use Rattle.area.specs.CallLaws.{feed-passed, feed-refused, feed-accepted}
 use Rattle.stream.proofs.feed.Statement.{statement}
 use Rattle.stream.proofs.feed.Tie as tie
 
@@ -23,7 +22,7 @@ returns c =
     let number = c .before .before in
     let a = number .before .before .before .before .before .before .args in
     rw (c .refused .ensures .0, c .refused .ensures .1)
-    (answer-refused (a .area .now) (a .piece .now) (a .log .now) (a .bits) (number .feed-number .result) (number .feed-number .ensures) (c .before .if1 .taken))
+    (feed-refused (a .area .now) (a .piece .now) (a .bits) (a .log .now) (number .feed-number .result) (number .feed-number .ensures) (c .before .if1 .taken))
 
 feed-piece-requires : tie.Need-feed-piece-requires
 feed-piece-requires c κs =
@@ -49,8 +48,8 @@ returns-2 c =
     let number = fed .before .before .before .before in
     let a = number .before .before .before .before .before .before .args in
     let F = fed .feed-piece .ensures in
-    rw (c .accepted .ensures .0, c .accepted .ensures .1)
-    (answer-accepted (a .area .now) (a .piece .now) (a .log .now) (a .bits) (fed .feed-piece .result) _ _ (sym (number .feed-number .ensures) ∙ fed .before .before .before .if1 .left) (F .1 .1) (F .0) (F .1 .0))
+    rw (c .accepted .ensures .0, c .accepted .ensures .1, F .0, F .1 .0, F .1 .1)
+    (sym (feed-accepted (a .area .now) (a .piece .now) (a .bits) (a .log .now) (sym (number .feed-number .ensures) ∙ fed .before .before .before .if1 .left)))
 
 pub feed-spec : {M : Type 1} → statement M
 feed-spec =

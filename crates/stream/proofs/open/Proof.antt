@@ -1,13 +1,15 @@
 -- `stream::open` meets its contract: one equation for every area, key and parameters.
 use native.Mathlib.Omega.{arith}
 use mathlib.Core.Path.{sym, ap, _∙_}
+use borrow.Author.Tests.{lt-ltb}
 use lib.ListN.{length}
+use Rattle.tree.specs.Tree as Tree
+use Rattle.tree.specs.Refusals.{firstRefusal, rangeTests}
+use Rattle.tree.specs.RefusalLaws.{in-range}
 use Rattle.node.specs.declared.Params.{Params}
-use Rattle.tree.specs.Refusals.{refusedParams}
-use Rattle.node.specs.Words.{sized}
-use Rattle.sound.specs.SoundLaws.{refused-sized, in-range-words}
-use Rattle.stream.specs.Answers.{params}
-use Rattle.stream.specs.OpenLaws.{open-short, answer-refused, answer-accepted}
+use Rattle.area.specs.Calls.{openNumber}
+use Rattle.area.specs.CallLaws.{open-refused, open-accepted}
+use Rattle.stream.specs.OpenLaws.{open-long}
 use Rattle.stream.proofs.open.Statement.{statement}
 use Rattle.stream.proofs.open.Tie as tie
 
@@ -15,10 +17,10 @@ refused-requires : tie.Need-refused-requires
 refused-requires c κs = omega arith
 
 returns : tie.Need-returns
+unfolding openNumber
 returns c =
-    let start = c .before .before .before .before in
-    let a = start .args in
-    rw (c .refused .ensures .0, c .refused .ensures .1) (open-short (a .area .now) (params (a .key .now) (a .d) (a .limit) (a .rounds)) (c .before .if1 .taken))
+    let a = c .before .before .before .before .args in
+    rw (c .refused .ensures .0, c .refused .ensures .1) (open-refused (a .area .now) _ 7 (rw (lt-ltb _ _ (c .before .if1 .taken))) (omega arith))
 
 new-requires : tie.Need-new-requires
 new-requires c κs = omega arith
@@ -34,19 +36,18 @@ returns-2 c =
     let number = c .before .before in
     let new = number .before in
     let a = new .before .before .before .before .args in
-    let P = params (a .key .now) (a .d) (a .limit) (a .rounds) in
-    let e = number .params-number .ensures ∙ ap (λ (x : Params). refusedParams (sized (x .key) (x .d) (x .limit) (x .rounds)) 0) (new .new .ensures) in
+    let P : Tree.Params = record { key = a .key .now; d = a .d; limit = a .limit; rounds = a .rounds } in
+    let e = number .params-number .ensures ∙ ap (λ (x : Params). firstRefusal (rangeTests (x .key) (x .d) (x .limit) (x .rounds))) (new .new .ensures) in
     rw (c .refused2 .ensures .0, c .refused2 .ensures .1)
-    (answer-refused (a .area .now) P (number .params-number .result) (new .before .if1 .left) (e ∙ sym (refused-sized P 0)) (c .before .if2 .taken))
+    (open-refused (a .area .now) P (number .params-number .result) (e ∙ sym (open-long (a .area .now) P (new .before .if1 .left))) (c .before .if2 .taken))
 
 write-open-requires : tie.Need-write-open-requires
 write-open-requires c κs =
     let number = c .before .before in
     let new = number .before in
     let a = new .before .before .before .before .args in
-    let P = params (a .key .now) (a .d) (a .limit) (a .rounds) in
-    let e = number .params-number .ensures ∙ ap (λ (x : Params). refusedParams (sized (x .key) (x .d) (x .limit) (x .rounds)) 0) (new .new .ensures) in
-    (new .before .if1 .left, in-range-words (length (a .key .now)) (a .d) (a .limit) (a .rounds) (sym e ∙ c .before .if2 .left) .keyHigh)
+    let e = number .params-number .ensures ∙ ap (λ (x : Params). firstRefusal (rangeTests (x .key) (x .d) (x .limit) (x .rounds))) (new .new .ensures) in
+    (new .before .if1 .left, in-range (length (a .key .now)) (a .d) (a .limit) (a .rounds) (sym e ∙ c .before .if2 .left) .keyHigh)
 
 accepted-requires : tie.Need-accepted-requires
 accepted-requires c κs = omega arith
@@ -61,10 +62,10 @@ returns-3 c =
     let number = write .before .before .before in
     let new = number .before in
     let a = new .before .before .before .before .args in
-    let P = params (a .key .now) (a .d) (a .limit) (a .rounds) in
-    let e = number .params-number .ensures ∙ ap (λ (x : Params). refusedParams (sized (x .key) (x .d) (x .limit) (x .rounds)) 0) (new .new .ensures) in
-    let z = refused-sized P 0 ∙ sym e ∙ write .before .before .if2 .left in
-    rw (c .accepted .ensures .0, c .accepted .ensures .1, write .write-open .ensures) (answer-accepted (a .area .now) P (new .before .if1 .left) z)
+    let P : Tree.Params = record { key = a .key .now; d = a .d; limit = a .limit; rounds = a .rounds } in
+    let e = number .params-number .ensures ∙ ap (λ (x : Params). firstRefusal (rangeTests (x .key) (x .d) (x .limit) (x .rounds))) (new .new .ensures) in
+    rw (c .accepted .ensures .0, c .accepted .ensures .1, write .write-open .ensures)
+    (sym (open-accepted (a .area .now) P (open-long (a .area .now) P (new .before .if1 .left) ∙ sym e ∙ write .before .before .if2 .left)))
 
 pub open-spec : {M : Type 1} → statement M
 open-spec =

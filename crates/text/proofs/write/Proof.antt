@@ -1,7 +1,10 @@
--- `text::write` meets its contract: each return by the law of CallLaws for it.
-use mathlib.Core.Path.{_∙_}
-use borrow.Author.Tests.{not-true, not-false}
-use Rattle.text.proofs.CallLaws.{written-as, write-short, write-unsound, write-no-room, write-done}
+-- `text::write` meets its contract.
+use mathlib.Core.Path.{sym, _∙_}
+use borrow.Author.Tests.{lt-ltb, le-ltb, not-true, not-false}
+use lib.ListN.{length}
+use Rattle.text.specs.Text.{textOf, writeNumber}
+use Rattle.text.specs.ReadLaws.{write-refused}
+use Rattle.text.proofs.CallLaws.{write-done}
 use native.Mathlib.Omega.{arith}
 use borrow.Author.Needs.{needs}
 use Rattle.text.proofs.write.Statement.{statement}
@@ -18,9 +21,10 @@ refused-requires : tie.Need-refused-requires
 refused-requires c κs = search needs
 
 returns : tie.Need-returns
+unfolding writeNumber
 returns c =
     let a = c .before .before .before .before .args in
-    written-as _ _ 7 0 (a .text .now) (c .refused .ensures) ∙ write-short (a .area .now) (a .text .now) (c .before .if1 .taken)
+    rw (c .refused .ensures .0, c .refused .ensures .1) (write-refused (a .area .now) (a .text .now) 7 (rw (lt-ltb _ _ (c .before .if1 .taken))) (omega arith))
 
 is-sound-requires : tie.Need-is-sound-requires
 is-sound-requires c κs = search needs
@@ -29,11 +33,12 @@ refused-requires-2 : tie.Need-refused-requires-2
 refused-requires-2 c κs = search needs
 
 returns-2 : tie.Need-returns-2
+unfolding writeNumber
 returns-2 c =
-    let a = c .before .before .before .before .before .before .args in
-    let r = c .before .before .is-sound in
-    written-as _ _ 7 0 (a .text .now) (c .refused2 .ensures)
-    ∙ write-unsound (a .area .now) (a .text .now) (r .result) (omega arith) (r .ensures) (not-true (r .result) (c .before .if2 .taken))
+    let sound = c .before .before in
+    let a = sound .before .before .before .before .args in
+    let s = sym (sound .is-sound .ensures) ∙ not-true (sound .is-sound .result) (c .before .if2 .taken) in
+    rw (c .refused2 .ensures .0, c .refused2 .ensures .1) (write-refused (a .area .now) (a .text .now) 7 (rw (le-ltb _ _ (sound .before .if1 .left), s)) (omega arith))
 
 text-bytes-requires : tie.Need-text-bytes-requires
 text-bytes-requires c κs = search needs
@@ -42,12 +47,14 @@ refused-requires-3 : tie.Need-refused-requires-3
 refused-requires-3 c κs = search needs
 
 returns-3 : tie.Need-returns-3
+unfolding writeNumber
 returns-3 c =
-    let a = c .before .before .before .before .before .before .before .before .args in
-    let r = c .before .before .before .before .is-sound in
-    let n = c .before .before .text-bytes in
-    written-as _ _ 9 0 (a .text .now) (c .refused3 .ensures)
-    ∙ write-no-room (a .area .now) (a .text .now) (r .result) (n .result) (omega arith) (r .ensures) (not-false (r .result) (c .before .before .before .if2 .left)) (n .ensures) (c .before .if3 .taken)
+    let bytes = c .before .before in
+    let sound = bytes .before .before in
+    let a = sound .before .before .before .before .args in
+    let s = sym (sound .is-sound .ensures) ∙ not-false (sound .is-sound .result) (bytes .before .if2 .left) in
+    let l = lt-ltb (length (a .text .now)) (length (textOf (a .area .now))) (omega (arith, bytes .text-bytes .ensures, c .before .if3 .taken)) in
+    rw (c .refused3 .ensures .0, c .refused3 .ensures .1) (write-refused (a .area .now) (a .text .now) 9 (rw (le-ltb _ _ (sound .before .if1 .left), s, l)) (omega arith))
 
 sub-put-text : tie.Need-sub-put-text
 sub-put-text c = search needs
@@ -69,13 +76,13 @@ same-length c = search needs
 
 returns-4 : tie.Need-returns-4
 returns-4 c =
-    let a = c .before .before .before .before .before .before .before .before .before .before .before .before .args in
-    let r = c .before .before .before .before .before .before .before .before .is-sound in
-    let n = c .before .before .before .before .before .before .text-bytes in
-    let p = c .before .before .before .put-text in
-    written-as _ _ 0 (n .result) _ (c .accepted .ensures)
-    ∙ write-done (a .area .now) (a .text .now) (r .result) (n .result) (omega arith) (r .ensures) (not-false (r .result) (c .before .before .before .before .before .before .before .if2 .left)) (n .ensures)
-    (p .last .0) (c .before .before .before .before .before .if3 .left) (p .ensures)
+    let put = c .before .before .before in
+    let bytes = put .before .before .before in
+    let sound = bytes .before .before in
+    let a = sound .before .before .before .before .args in
+    let s = sym (sound .is-sound .ensures) ∙ not-false (sound .is-sound .result) (bytes .before .if2 .left) in
+    rw (c .accepted .ensures .0, c .accepted .ensures .1)
+    (write-done (a .area .now) (a .text .now) (bytes .text-bytes .result) (put .put-text .last .0) (sound .before .if1 .left) s (bytes .text-bytes .ensures) (put .before .before .if3 .left) (put .put-text .ensures))
 
 pub write-spec : {M : Type 1} → statement M
 write-spec =

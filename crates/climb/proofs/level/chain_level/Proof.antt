@@ -19,9 +19,7 @@ returns c =
     let join = c .before .before in
     let clear-level = join .before .before .before .before in
     let start = clear-level .before .before .before .before in
-    let a = start .args in
-    let n = start .pre in
-    join .join .ensures ∙ rw (clear-level .clear-level .ensures) (chain-made (a .area .now) (a .level) (a .out .now) (n .0) (n .1) (n .2))
+    join .join .ensures ∙ rw (clear-level .clear-level .ensures) (chain-made (start .pre .0) (start .args .out .now))
 
 pub chain-level-spec : {M : Type 1} → statement M
 chain-level-spec = tie.close (tie.spec clear-level-requires join-requires same-length returns)

@@ -16,32 +16,32 @@ add-a c = omega arith
 add-e : tie.Need-add-e
 add-e c = omega arith
 
-mul-put-words : tie.Need-mul-put-words
-mul-put-words c = omega arith
+mul-copy : tie.Need-mul-copy
+mul-copy c = omega arith
 
-sub-put-words : tie.Need-sub-put-words
-sub-put-words c = omega arith
+sub-copy : tie.Need-sub-copy
+sub-copy c = omega arith
 
-part-put-words-start : tie.Need-part-put-words-start
-part-put-words-start c = omega arith
+part-copy-start : tie.Need-part-copy-start
+part-copy-start c = omega arith
 
-part-put-words-end : tie.Need-part-put-words-end
-part-put-words-end c = omega arith
+part-copy-end : tie.Need-part-copy-end
+part-copy-end c = omega arith
 
-put-words-requires : tie.Need-put-words-requires
-put-words-requires c κs = omega arith
+copy-requires : tie.Need-copy-requires
+copy-requires c κs = omega arith
 
 same-length : tie.Need-same-length
 same-length c = omega arith
 
 returns : tie.Need-returns
 returns c =
-    let put-words = c .before .before in
-    let start = put-words .before .before .before .before in
+    let copy = c .before .before in
+    let start = copy .before .before .before .before in
     let area = start .args .area .now in
     let k = start .args .level in
     let out = start .args .out .now in
-    rw (put-words .put-words .ensures) (lent-join area k (start .args .place) out (start .pre .4))
+    rw (copy .copy .ensures) (lent-join area k (start .args .place) out (start .pre .2))
 
 pub join-spec : {M : Type 1} → statement M
 join-spec =
@@ -51,10 +51,10 @@ join-spec =
     mul-a
     add-a
     add-e
-    mul-put-words
-    sub-put-words
-    part-put-words-start
-    part-put-words-end
-    put-words-requires
+    mul-copy
+    sub-copy
+    part-copy-start
+    part-copy-end
+    copy-requires
     same-length
     returns)

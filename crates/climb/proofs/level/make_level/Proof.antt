@@ -1,13 +1,6 @@
 -- `climb::level::make_level` meets its contract.
 use native.Mathlib.Omega.{arith}
-use mathlib.Core.Path.{ap, _∙_}
-use mathlib.Core.List.{List, [], _∷_}
-use Prim.Native.Nat.{ℕ}
-use lib.Seq.{sets}
-use Rattle.tree.specs.Tree.{node}
-use Rattle.area.specs.Calls.{outWords, nodeLog}
 use Rattle.sound.specs.SoundLaws.{lent-level}
-use Rattle.climb.specs.MakeLaws.{paramsFrom}
 use Rattle.climb.proofs.level.make_level.Statement.{statement}
 use Rattle.climb.proofs.level.make_level.Tie as tie
 
@@ -48,11 +41,7 @@ returns c =
     let make-node = c .before .before in
     let start = make-node .before .before .before .before .before .before .before in
     let a = start .args in
-    let P = paramsFrom (a .key .now) (a .params) in
-    let e = lent-level (a .area .now) (a .level) in (
-      make-node .make-node .ensures .0 ∙ ap (λ (b : List ℕ). outWords P (node P (a .level) (a .index) 0 0 b)) e,
-      make-node .make-node .ensures .1 ∙ ap (λ (b : List ℕ). sets (a .log .now) (a .at) (nodeLog (node P (a .level) (a .index) 0 0 b ∷ []))) e,
-    )
+    rw (← lent-level (a .area .now) (a .level)) record { words = make-node .make-node .ensures .0; logged = make-node .make-node .ensures .1 }
 
 pub make-level-spec : {M : Type 1} → statement M
 make-level-spec =

@@ -1,26 +1,20 @@
 -- `climb::rise::receive` meets its contract.
-use Rattle.climb.specs.ReceiveLaws.{Climb, climb-start, climb-more, climb-part, climb-last, climb-none, climb-room, climb-last-room}
 use Prim.Native.Nat.{_-_}
-use Rattle.climb.specs.MakeLaws.{paramsFrom}
-use Rattle.area.specs.Area.{levelsFrom}
-use Rattle.area.specs.Calls.{receive}
 use native.Mathlib.Omega.{arith}
+use Rattle.climb.specs.MakeLaws.{paramsFrom}
+use Rattle.climb.specs.ReceiveLaws.{received, Climb, climb-start, climb-coming, climb-zero, climb-end, climb-part, climb-room, climb-more, climb-none}
 use Rattle.climb.proofs.rise.receive.Statement.{statement}
 use Rattle.climb.proofs.rise.receive.Tie as tie
 
 abbrev Inv-loop : tie.InvT-loop
 Inv-loop area₀ params key table levels outputs log₀ start n₀ i₀ out₀ at₀ k₀ area log n i out at k =
-    Climb (paramsFrom key params) (receive (paramsFrom key params) levels 2 outputs out₀ (levelsFrom area₀ 26 2)) area₀ log₀ start n k i out area log at
+    Climb (paramsFrom key params) (received (paramsFrom key params) levels 2 outputs out₀ area₀) area₀ log₀ start n k i out area log at
 
 abbrev μ-loop : tie.MeasureT-loop
 μ-loop area₀ params key table levels outputs log₀ start n₀ i₀ out₀ at₀ k₀ area log n i out at k = 28 - k
 
 loop-holds : tie.Need-loop-holds Inv-loop μ-loop
-loop-holds c =
-    let start = c .before .before .before .before in
-    let a = start .args in
-    let n = start .pre .1 .0 in
-    climb-start (paramsFrom (a .key .now) (a .params)) (a .levels) (a .outputs) (a .first) (a .area .now) (a .log .now) (a .start) (n .1) (n .2) (n .0)
+loop-holds c = climb-start (c .before .before .before .before .pre)
 
 slice-aggregate-receive-last : tie.Need-slice-aggregate-receive-last Inv-loop μ-loop
 slice-aggregate-receive-last c = omega arith
@@ -28,10 +22,10 @@ slice-aggregate-receive-last c = omega arith
 receive-last-requires : tie.Need-receive-last-requires Inv-loop μ-loop
 receive-last-requires c κs =
     let test = c .before .before .before in
-    let at = test .before .before in
+    let turn = test .before in
+    let at = turn .before in
     let start = at .before .before .before .before .before in
-    let inv = at .loop .inv in
-    (start .pre .0, ((inv .long, omega (arith, inv .low), omega arith, inv .small, inv .words), climb-last-room inv (start .pre .1 .1) (test .if1 .taken)))
+    climb-coming (start .pre .ready) (at .loop .inv) (test .if1 .taken) (turn .loop-test .taken)
 
 same-length : tie.Need-same-length Inv-loop μ-loop
 same-length c = omega arith
@@ -44,8 +38,7 @@ returns c =
     let receive-last = c .before .before .before .before in
     let test = receive-last .before .before .before .before in
     let at = test .before .before in
-    let r = climb-last (at .loop .inv) _ _ _ (test .if1 .taken) (receive-last .receive-last .ensures .0) (receive-last .receive-last .ensures .1 .0) (receive-last .receive-last .ensures .1 .1) in
-    (r .0, (r .1, r .2))
+    climb-end (climb-zero (at .loop .inv) (test .if1 .taken)) (receive-last .receive-last .ensures)
 
 mul-join : tie.Need-mul-join Inv-loop μ-loop
 mul-join c = omega arith
@@ -64,29 +57,31 @@ same-length-4 c = omega arith
 
 returns-2 : tie.Need-returns-2 Inv-loop μ-loop
 returns-2 c =
-    let join = c .before .before in
-    let test2 = join .before .before .before in
-    let test = test2 .before in
+    let join = c .before .before .before in
+    let test = join .before .before .before in
     let turn = test .before in
-    let at = turn .before in
-    let r = climb-part (at .loop .inv) _ (test .if1 .left) (turn .loop-test .taken) (test2 .if2 .taken) (join .join .ensures) in
-    (r .0, (r .1, r .2))
+    climb-part (turn .before .loop .inv) (test .if1 .left) (turn .loop-test .taken) (join .join .ensures) (c .if2 .taken)
 
-slice-aggregate-pass-up : tie.Need-slice-aggregate-pass-up Inv-loop μ-loop
-slice-aggregate-pass-up c = omega arith
-
-pass-up-requires : tie.Need-pass-up-requires Inv-loop μ-loop
-pass-up-requires c κs =
-    let test2 = c .before .before .before in
-    let test = test2 .before in
+make-level-requires : tie.Need-make-level-requires Inv-loop μ-loop
+make-level-requires c κs =
+    let test2 = c .before .before in
+    let test = test2 .before .before .before .before .before .before in
     let turn = test .before in
     let at = turn .before in
     let start = at .before .before .before .before .before in
-    let inv = at .loop .inv in
-    (start .pre .0, (inv .long, omega (arith, inv .low), omega arith, inv .small, test2 .if2 .left, inv .words, climb-room inv (start .pre .1 .1) (test .if1 .left) (turn .loop-test .taken) (test2 .if2 .left)))
+    (start .pre .ready, omega (arith, climb-room (at .loop .inv) (test .if1 .left) (turn .loop-test .taken) (test2 .if2 .left)))
+
+clear-level-requires : tie.Need-clear-level-requires Inv-loop μ-loop
+clear-level-requires c κs = omega arith
 
 add-at : tie.Need-add-at Inv-loop μ-loop
-add-at c = omega arith
+add-at c =
+    let test2 = c .before .before .before .before .before .before .before .before .before in
+    let test = test2 .before .before .before .before .before .before in
+    let turn = test .before in
+    let at = turn .before in
+    let start = at .before .before .before .before .before in
+    omega (arith, climb-room (at .loop .inv) (test .if1 .left) (turn .loop-test .taken) (test2 .if2 .left), start .good)
 
 add-k : tie.Need-add-k Inv-loop μ-loop
 add-k c = omega arith
@@ -96,12 +91,13 @@ loop-less c = omega arith
 
 loop-again : tie.Need-loop-again Inv-loop μ-loop
 loop-again c =
-    let pass-up = c .before .before .before .before in
-    let test2 = pass-up .before .before .before .before in
-    let test = test2 .before in
+    let clear-level = c .before .before in
+    let make-level = clear-level .before .before .before .before in
+    let test2 = make-level .before .before .before in
+    let join = test2 .before .before .before in
+    let test = join .before .before .before in
     let turn = test .before in
-    let at = turn .before in
-    climb-more (at .loop .inv) _ _ _ (test .if1 .left) (turn .loop-test .taken) (test2 .if2 .left) (pass-up .pass-up .ensures .0) (pass-up .pass-up .ensures .1 .0) (pass-up .pass-up .ensures .1 .1)
+    climb-more (turn .before .loop .inv) (test .if1 .left) (turn .loop-test .taken) (join .join .ensures) (test2 .if2 .left) (make-level .make-level .ensures) (clear-level .clear-level .ensures)
 
 same-length-5 : tie.Need-same-length-5 Inv-loop μ-loop
 same-length-5 c = omega arith
@@ -110,9 +106,7 @@ same-length-6 : tie.Need-same-length-6 Inv-loop μ-loop
 same-length-6 c = omega arith
 
 returns-3 : tie.Need-returns-3 Inv-loop μ-loop
-returns-3 c =
-    let r = climb-none (c .before .loop .inv) (c .loop-test .left) in
-    (r .0, (r .1, r .2))
+returns-3 c = climb-none (c .before .loop .inv) (c .loop-test .left)
 
 pub receive-spec : {M : Type 1} → statement M
 receive-spec =
@@ -132,8 +126,8 @@ receive-spec =
     same-length-3
     same-length-4
     returns-2
-    slice-aggregate-pass-up
-    pass-up-requires
+    make-level-requires
+    clear-level-requires
     add-at
     add-k
     loop-less

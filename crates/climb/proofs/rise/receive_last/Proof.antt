@@ -1,7 +1,5 @@
 -- `climb::rise::receive_last` meets its contract.
 use Rattle.climb.specs.ReceiveLaws.{last-held, last-room, last-chained}
-use lib.ListN.{length}
-use Rattle.climb.specs.MakeLaws.{paramsFrom}
 use native.Mathlib.Omega.{arith}
 use Rattle.climb.proofs.rise.receive_last.Statement.{statement}
 use Rattle.climb.proofs.rise.receive_last.Tie as tie
@@ -22,19 +20,13 @@ returns : tie.Need-returns
 returns c =
     let join = c .before .before .before in
     let start = join .before .before .before .before .before .before .before in
-    let a = start .args in
-    let n = start .pre .1 .0 in
-    let r = last-held (paramsFrom (a .key .now) (a .params)) (a .level) (a .i) (a .out .now) (a .area .now) (a .log .now) (a .at) (n .0) (n .1) (n .2) (n .4) _ (c .if1 .taken) (join .join .ensures) in
-    (r .0, (r .1, r .2))
+    last-held (start .pre) (join .join .ensures) (c .if1 .taken)
 
 make-level-requires : tie.Need-make-level-requires
 make-level-requires c κs =
     let test = c .before .before in
     let start = test .before .before .before .before .before .before .before .before .before .before in
-    let a = start .args in
-    let n = start .pre .1 .0 in
-    let room = last-room (paramsFrom (a .key .now) (a .params)) (a .level) (a .i) (a .out .now) (a .area .now) (a .log .now) (a .at) (n .0) (n .1) (n .2) (n .4) (length (a .log .now)) (test .if1 .left) (start .pre .1 .1) in
-    (start .pre .0, (omega arith, n .1, n .2, omega arith, omega (arith, room)))
+    (start .pre .ready, omega (arith, last-room (start .pre) (test .if1 .left)))
 
 slice-aggregate-chain-level : tie.Need-slice-aggregate-chain-level
 slice-aggregate-chain-level c = omega arith
@@ -46,10 +38,7 @@ add-result : tie.Need-add-result
 add-result c =
     let test = c .before .before .before .before .before .before .before .before .before .before in
     let start = test .before .before .before .before .before .before .before .before .before .before in
-    let a = start .args in
-    let n = start .pre .1 .0 in
-    let room = last-room (paramsFrom (a .key .now) (a .params)) (a .level) (a .i) (a .out .now) (a .area .now) (a .log .now) (a .at) (n .0) (n .1) (n .2) (n .4) (length (a .log .now)) (test .if1 .left) (start .pre .1 .1) in
-    omega (arith, room, start .good)
+    omega (arith, last-room (start .pre) (test .if1 .left), start .good)
 
 same-length-2 : tie.Need-same-length-2
 same-length-2 c = omega arith
@@ -64,10 +53,7 @@ returns-2 c =
     let test = make-level .before .before .before in
     let join = test .before .before .before in
     let start = join .before .before .before .before .before .before .before in
-    let a = start .args in
-    let n = start .pre .1 .0 in
-    let r = last-chained (paramsFrom (a .key .now) (a .params)) (a .level) (a .i) (a .out .now) (a .area .now) (a .log .now) (a .at) (n .0) (n .1) (n .2) (n .4) _ _ _ _ (test .if1 .left) (join .join .ensures) (make-level .make-level .ensures .0) (make-level .make-level .ensures .1) (chain-level .chain-level .ensures) in
-    (r .0, (r .1, r .2))
+    last-chained (start .pre) (join .join .ensures) (test .if1 .left) (make-level .make-level .ensures) (chain-level .chain-level .ensures)
 
 pub receive-last-spec : {M : Type 1} → statement M
 receive-last-spec =

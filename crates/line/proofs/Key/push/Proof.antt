@@ -1,7 +1,16 @@
--- `line::Key::push` meets its contract: each arm is a case of `pushPairs`, and a pair of digits is what `two_digits` ensures.
+-- `line::Key::push` meets its contract: each arm is a case of `pushPairs`, and what two digits spell is a byte.
+use mathlib.Core.Path.{sym, ap, _∙_}
+use mathlib.Core.List.{[], _∷_}
+use Rattle.digits.specs.Digits.{readingNumber}
+use Rattle.digits.specs.DigitLaws.{spelt-lt}
+use native.Mathlib.Omega.{arith}
 use borrow.Author.Needs.{needs}
 use Rattle.line.proofs.Key.push.Statement.{statement}
 use Rattle.line.proofs.Key.push.Tie as tie
+use Rattle.line.proofs.Key.push.Reads as reads
+use Rattle.line.proofs.Key.push.Lts as lts
+use Rattle.digits.proofs.number.Reads as number-reads
+use Rattle.line.proofs.Key.put.Reads as put-reads
 
 enum-known-pairs : tie.Need-enum-known-pairs
 enum-known-pairs c = search needs
@@ -9,11 +18,20 @@ enum-known-pairs c = search needs
 enum-known-pairs-2 : tie.Need-enum-known-pairs-2
 enum-known-pairs-2 c = search needs
 
-two-digits-requires : tie.Need-two-digits-requires
-two-digits-requires c κs = search needs
+slice-aggregate-number : tie.Need-slice-aggregate-number
+slice-aggregate-number c = search needs
+
+number-requires : tie.Need-number-requires
+number-requires c κs = search needs
 
 enum-known-x : tie.Need-enum-known-x
 enum-known-x c = search needs
+
+cast-put : tie.Need-cast-put
+cast-put c =
+    let e = sym (c .before .before .before .number .ensures) ∙ ap readingNumber (c .before .x .given .1) in
+    let l = spelt-lt 2 (c .before .x .given .0 .0) (c .before .before .before .before .before .before .pairs2 .given .0 .1 .0 ∷ c .before .before .before .before .before .before .before .before .before .args .b ∷ []) (omega arith) e in
+    search needs
 
 put-requires : tie.Need-put-requires
 put-requires c κs = search needs
@@ -28,16 +46,10 @@ returns : tie.Need-returns
 returns c = rw (c .before .pairs .given .1)
 
 returns-2 : tie.Need-returns-2
-returns-2 c =
-    rw (
-      c .before .before .before .before .before .before .pairs2 .given .1,
-      ← c .before .before .before .before .two-digits .ensures,
-      c .before .before .x .given .1,
-    )
-    (c .put .ensures)
+returns-2 c = rw (c .before .before .before .before .before .before .before .pairs2 .given .1, ← c .before .before .before .before .number .ensures, c .before .before .x .given .1) (c .put .ensures)
 
 returns-3 : tie.Need-returns-3
-returns-3 c = rw (c .before .before .before .before .pairs2 .given .1, ← c .before .before .two-digits .ensures, c .enum-told .given .1)
+returns-3 c = rw (c .before .before .before .before .before .pairs2 .given .1, ← c .before .before .number .ensures, c .enum-told .given .1)
 
 returns-4 : tie.Need-returns-4
 returns-4 c = rw (c .enum-told2 .given .1)
@@ -48,8 +60,10 @@ push-spec =
     (tie.spec
     enum-known-pairs
     enum-known-pairs-2
-    two-digits-requires
+    slice-aggregate-number
+    number-requires
     enum-known-x
+    cast-put
     put-requires
     enum-told
     enum-told-2

@@ -3,7 +3,6 @@ use mathlib.Core.Path.{sym}
 use lib.Seq.{length-take-le}
 use lib.ListN.{take}
 use borrow.Author.Needs.{needs}
-use Rattle.stream.specs.Answers.{params}
 use Rattle.md6.specs.Accepted.{open-size}
 use Rattle.md6.proofs.first.open_with.Statement.{statement}
 use Rattle.md6.proofs.first.open_with.Tie as tie
@@ -24,7 +23,7 @@ returns-2 : tie.Need-returns-2
 returns-2 c =
     let o = c .before .before in
     let s = o .before .before .before .args in
-    open-size (s .area .now) (params (take (s .n) (s .t2)) (s .d) (s .limit) (s .rounds)) (o .«open» .ensures) (c .if1 .left)
+    open-size (s .area .now) (record { key = take (s .n) (s .t2); d = s .d; limit = s .limit; rounds = s .rounds }) (o .«open» .ensures) (c .if1 .left)
 
 pub open-with-spec : {M : Type 1} → statement M
 open-with-spec =

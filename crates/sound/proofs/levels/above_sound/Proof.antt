@@ -2,19 +2,20 @@
 use mathlib.Core.Path.{_≡_, refl, sym, ap, _∙_}
 use Prim.Native.Nat.{_+_, _-_, _*_, _/_, _%_, _≤_}
 use borrow.Author.Tests.{not-true, not-false}
-use Rattle.area.specs.Area.{levelWords, levelsFrom}
+use Rattle.area.specs.Area.{levelWords, levelsUp, areaLevels}
 use Rattle.sound.specs.LevelTests.{emptyFrom, soundAbove}
 use Rattle.lists.specs.And.{and-first, and-second}
 use Rattle.sound.specs.SoundLaws.{lent-level, above-more, above-last, above-none}
 use native.Mathlib.Omega.{arith}
+use Rattle.tree.specs.Tree.{outputBits}
 use Rattle.sound.proofs.levels.above_sound.Statement.{statement}
 use Rattle.sound.proofs.levels.above_sound.Tie as tie
 
 abbrev Inv-loop : tie.InvT-loop
-Inv-loop area levels outputs n₀ i₀ k₀ n i k = (2 ≤ k) × (k ≤ 28) × (soundAbove n i (levelsFrom area (28 - k) k) ≡ soundAbove levels outputs (levelsFrom area 26 2))
+Inv-loop area levels outputs n₀ i₀ k₀ n i k = (2 ≤ k) × (k ≤ areaLevels + 1) × (soundAbove n i (levelsUp area k) ≡ soundAbove levels outputs (levelsUp area 2))
 
 abbrev μ-loop : tie.MeasureT-loop
-μ-loop area levels outputs n₀ i₀ k₀ n i k = 28 - k
+μ-loop area levels outputs n₀ i₀ k₀ n i k = areaLevels + 1 - k
 
 loop-holds : tie.Need-loop-holds Inv-loop μ-loop
 loop-holds c = (omega arith, omega arith, refl)
@@ -70,9 +71,9 @@ returns-2 c =
     let start = round .before .before in
     let at = round .loop in
     let area = start .args .area .now in
-    let f = ap (emptyFrom (1024 * (at .i % 4))) (lent-level area (at .k)) in
+    let f = ap (emptyFrom (outputBits * (at .i % 4))) (lent-level area (at .k)) in
     let e = sym f ∙ sym (empty-from .empty-from .ensures) ∙ not-true (empty-from .empty-from .result) (c .if2 .taken) in
-    sym (and-first (emptyFrom (1024 * (at .i % 4)) (levelWords area (at .k))) (soundAbove (at .n - 1) (at .i / 4) (levelsFrom area (28 - (at .k + 1)) (at .k + 1))) e)
+    sym (and-first (emptyFrom (outputBits * (at .i % 4)) (levelWords area (at .k))) (soundAbove (at .n - 1) (at .i / 4) (levelsUp area (at .k + 1))) e)
     ∙ sym (above-more area (at .n) (at .i) (at .k) (test .if1 .left) (omega arith)) ∙ at .inv .2
 
 add-k : tie.Need-add-k Inv-loop μ-loop
@@ -89,11 +90,11 @@ loop-again c =
     let start = round .before .before in
     let at = round .loop in
     let area = start .args .area .now in
-    let f = ap (emptyFrom (1024 * (at .i % 4))) (lent-level area (at .k)) in
+    let f = ap (emptyFrom (outputBits * (at .i % 4))) (lent-level area (at .k)) in
     let e = sym f ∙ sym (empty-from .empty-from .ensures) ∙ not-false (empty-from .empty-from .result) (c .if2 .left) in (
       omega arith,
       omega arith,
-      sym (and-second (emptyFrom (1024 * (at .i % 4)) (levelWords area (at .k))) (soundAbove (at .n - 1) (at .i / 4) (levelsFrom area (28 - (at .k + 1)) (at .k + 1))) e)
+      sym (and-second (emptyFrom (outputBits * (at .i % 4)) (levelWords area (at .k))) (soundAbove (at .n - 1) (at .i / 4) (levelsUp area (at .k + 1))) e)
           ∙ sym (above-more area (at .n) (at .i) (at .k) (test .if1 .left) (omega arith)) ∙ at .inv .2,
     )
 

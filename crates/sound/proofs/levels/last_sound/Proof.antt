@@ -3,7 +3,7 @@ use native.Mathlib.Omega.{arith}
 use mathlib.Core.Path.{sym, ap, _∙_}
 use Prim.Native.Nat.{_+_, _-_}
 use borrow.Author.Tests.{not-true, not-false}
-use Rattle.area.specs.Area.{levelWords, levelsFrom}
+use Rattle.area.specs.Area.{levelWords, levelsUp}
 use Rattle.sound.specs.LevelTests.{allEmpty, soundSequential}
 use Rattle.lists.specs.And.{and-first, and-second}
 use Rattle.sound.specs.SoundLaws.{lent-level}
@@ -45,7 +45,7 @@ returns c =
     let area = start .args .area .now in
     let f = ap (soundSequential (start .args .done) (start .args .held)) (lent-level area k) in
     let e = sym f ∙ sym (sequential-sound .sequential-sound .ensures) ∙ not-true (sequential-sound .sequential-sound .result) (c .if1 .taken) in
-    sym (and-first (soundSequential (start .args .done) (start .args .held) (levelWords area k)) (allEmpty (levelsFrom area (28 - (k + 1)) (k + 1))) e)
+    sym (and-first (soundSequential (start .args .done) (start .args .held) (levelWords area k)) (allEmpty (levelsUp area (k + 1))) e)
 
 add-levels-empty : tie.Need-add-levels-empty
 add-levels-empty c = omega arith
@@ -61,7 +61,7 @@ returns-2 c =
     let area = start .args .area .now in
     let f = ap (soundSequential (start .args .done) (start .args .held)) (lent-level area k) in
     let e = sym f ∙ sym (sequential-sound .sequential-sound .ensures) ∙ not-false (sequential-sound .sequential-sound .result) (c .before .if1 .left) in
-    c .levels-empty .ensures ∙ sym (and-second (soundSequential (start .args .done) (start .args .held) (levelWords area k)) (allEmpty (levelsFrom area (28 - (k + 1)) (k + 1))) e)
+    c .levels-empty .ensures ∙ sym (and-second (soundSequential (start .args .done) (start .args .held) (levelWords area k)) (allEmpty (levelsUp area (k + 1))) e)
 
 pub last-sound-spec : {M : Type 1} → statement M
 last-sound-spec =

@@ -7,6 +7,7 @@ use Rattle.sound.specs.SoundLaws.{empty-levels}
 use native.Mathlib.Omega.{arith}
 use Rattle.sound.proofs.levels.levels_empty.Statement.{statement}
 use Rattle.sound.proofs.levels.levels_empty.Tie as tie
+use Rattle.area.specs.Area.{areaLevels, blockWords, areaWords, levelStart}
 
 sub-a : tie.Need-sub-a
 sub-a c = omega arith
@@ -37,8 +38,8 @@ returns c =
     let start = c .before .before .before in
     let k = start .args .level in
     let area = start .args .area .now in
-    let e : 1744 - (16 + 64 * (k - 1)) ≡ 64 * (28 - k) = omega arith in
-    c .empty-from .ensures ∙ ap (λ (m : ℕ). emptyFrom 0 (take m (drop (16 + 64 * (k - 1)) area))) e ∙ sym (empty-levels area (28 - k) k (start .pre .1))
+    let e : areaWords - levelStart k ≡ blockWords * (areaLevels + 1 - k) = omega arith in
+    c .empty-from .ensures ∙ ap (λ (m : ℕ). emptyFrom 0 (take m (drop (levelStart k) area))) e ∙ sym (empty-levels area (areaLevels + 1 - k) k (start .pre .1))
 
 pub levels-empty-spec : {M : Type 1} → statement M
 levels-empty-spec =

@@ -3,7 +3,7 @@ use native.Mathlib.Omega.{arith}
 use mathlib.Core.Path.{refl, sym, ap, _∙_}
 use Prim.Native.Nat.{ℕ, _-_}
 use borrow.Author.Tests.{not-true, not-false}
-use Rattle.area.specs.Area.{levelWords, levelsFrom, doneBlocks, heldBits}
+use Rattle.area.specs.Area.{levelWords, levelsUp, doneBlocks, heldBits}
 use Rattle.sound.specs.LevelTests.{emptyFrom, soundAbove}
 use Rattle.lists.specs.And.{and-first, and-second}
 use Rattle.sound.specs.SoundLaws.{open-none, open-more}
@@ -55,7 +55,7 @@ returns-2 c =
     let T = start .args .total in
     let h = heldBits 4096 T in
     let e = ap (λ (x : ℕ). emptyFrom x (levelWords area 1)) (sym (held-bits .held-bits2 .ensures)) ∙ sym (empty-from .empty-from .ensures) ∙ not-true (empty-from .empty-from .result) (c .if2 .taken) in
-    sym (open-more area (start .args .limit) T (test .if1 .left) ∙ and-first (emptyFrom h (levelWords area 1)) (soundAbove (start .args .limit - 1) (doneBlocks 4096 T) (levelsFrom area 26 2)) e)
+    sym (open-more area (start .args .limit) T (test .if1 .left) ∙ and-first (emptyFrom h (levelWords area 1)) (soundAbove (start .args .limit - 1) (doneBlocks 4096 T) (levelsUp area 2)) e)
 
 done-blocks-requires-2 : tie.Need-done-blocks-requires-2
 done-blocks-requires-2 c κs = omega arith
@@ -74,9 +74,9 @@ returns-3 c =
     let T = start .args .total in
     let h = heldBits 4096 T in
     let e = ap (λ (x : ℕ). emptyFrom x (levelWords area 1)) (sym (held-bits .held-bits2 .ensures)) ∙ sym (empty-from .empty-from .ensures) ∙ not-false (empty-from .empty-from .result) (test2 .if2 .left) in
-    let g = ap (λ (x : ℕ). soundAbove (start .args .limit - 1) x (levelsFrom area 26 2)) (c .before .done-blocks2 .ensures) in
+    let g = ap (λ (x : ℕ). soundAbove (start .args .limit - 1) x (levelsUp area 2)) (c .before .done-blocks2 .ensures) in
     c .above-sound .ensures ∙ g
-    ∙ sym (open-more area (start .args .limit) T (test .if1 .left) ∙ and-second (emptyFrom h (levelWords area 1)) (soundAbove (start .args .limit - 1) (doneBlocks 4096 T) (levelsFrom area 26 2)) e)
+    ∙ sym (open-more area (start .args .limit) T (test .if1 .left) ∙ and-second (emptyFrom h (levelWords area 1)) (soundAbove (start .args .limit - 1) (doneBlocks 4096 T) (levelsUp area 2)) e)
 
 pub open-sound-spec : {M : Type 1} → statement M
 open-sound-spec =

@@ -1,8 +1,7 @@
 -- `stream::close::end` meets its contract: one equation for every area, output and log.
 use native.Mathlib.Omega.{arith}
 use mathlib.Core.Path.{sym, _∙_}
-use Rattle.area.specs.CallLaws.{end-passed}
-use Rattle.stream.specs.EndLaws.{answer-refused, answer-accepted}
+use Rattle.area.specs.CallLaws.{end-passed, end-refused, end-accepted}
 use Rattle.stream.proofs.close.end.Statement.{statement}
 use Rattle.stream.proofs.close.end.Tie as tie
 
@@ -26,7 +25,7 @@ returns c =
     let number = c .before .before in
     let a = number .before .before .before .before .before .before .before .args in
     rw (c .refused .ensures .0, c .refused .ensures .1)
-    (answer-refused (a .area .now) (a .digest .now) (a .log .now) (number .end-number .result) (number .end-number .ensures) (c .before .if1 .taken))
+    (end-refused (a .area .now) (a .digest .now) (a .log .now) (number .end-number .result) (number .end-number .ensures) (c .before .if1 .taken))
 
 finish-requires : tie.Need-finish-requires
 finish-requires c κs =
@@ -55,8 +54,8 @@ returns-2 c =
     let number = finish .before .before .before .before .before in
     let a = number .before .before .before .before .before .before .before .args in
     let F = finish .finish .ensures in
-    rw (c .accepted .ensures .0, c .accepted .ensures .1)
-    (answer-accepted (a .area .now) (a .digest .now) (a .log .now) (finish .finish .result) _ _ _ (sym (number .end-number .ensures) ∙ finish .before .before .before .before .if1 .left) (F .1 .1 .1) (F .0) (F .1 .0) (F .1 .1 .0))
+    rw (c .accepted .ensures .0, c .accepted .ensures .1, F .0, F .1 .0, F .1 .1 .0, F .1 .1 .1)
+    (sym (end-accepted (a .area .now) (a .digest .now) (a .log .now) (sym (number .end-number .ensures) ∙ finish .before .before .before .before .if1 .left)))
 
 pub end-spec : {M : Type 1} → statement M
 end-spec =

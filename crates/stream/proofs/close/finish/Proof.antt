@@ -2,7 +2,7 @@
 use mathlib.Core.Path.{refl, _∙_}
 use lib.ListN.{getD}
 use Rattle.climb.specs.OpenArea.{open-range}
-use Rattle.stream.specs.EndLaws.{passed-open, digest-room, count-fits, digest-written, wiped-area}
+use Rattle.stream.specs.EndLaws.{digest-room, count-fits, digest-written, wiped-area}
 use native.Mathlib.Omega.{arith}
 use borrow.Author.Needs.{needs}
 use Rattle.stream.proofs.close.finish.Statement.{statement}
@@ -11,12 +11,12 @@ use Rattle.stream.proofs.close.finish.Tie as tie
 nodes-left-requires : tie.Need-nodes-left-requires
 nodes-left-requires c κs =
     let start = c .before .before .before .before in
-    passed-open (start .pre)
+    start .pre .opened
 
 closing-requires : tie.Need-closing-requires
 closing-requires c κs =
     let start-2 = c .before .before .before .before .before .before .before in
-    let start = start-2 in (passed-open (start .pre), start .pre .room)
+    let start = start-2 in (start .pre .opened, start .pre .room)
 
 slice-aggregate-write-digest : tie.Need-slice-aggregate-write-digest
 slice-aggregate-write-digest c = omega arith
@@ -24,31 +24,31 @@ slice-aggregate-write-digest c = omega arith
 slice-read-write-digest : tie.Need-slice-read-write-digest
 slice-read-write-digest c =
     let start = c .before .before .before .before .before .before .before .before .before .before .before .before in
-    omega (arith, start .pre .long)
+    omega (arith, start .pre .opened .long)
 
 write-digest-requires : tie.Need-write-digest-requires
 write-digest-requires c κs =
     let start-2 = c .before .before .before .before .before .before .before .before .before .before .before .before .before in
     let start = start-2 in
-    let r = open-range (passed-open (start .pre)) in
+    let r = open-range (start .pre .opened) in
     (search needs, r .dLow, r .dHigh, digest-room (start .pre))
 
 slice-read-all : tie.Need-slice-read-all
 slice-read-all c =
     let start = c .before .before .before .before .before .before .before .before .before .before .before .before .before .before .before .before .before in
-    omega (arith, start .pre .long)
+    omega (arith, start .pre .opened .long)
 
 add-all : tie.Need-add-all
 add-all c =
     let nodes-left = c .before .before .before .before .before .before .before .before .before .before .before .before in
     let nodes = nodes-left in
     let start = nodes .before .before .before .before .before in
-    omega (arith, nodes .nodes-left .ensures, count-fits (passed-open (start .pre)) (omega (arith, c .slice-known7 .given 1)))
+    omega (arith, nodes .nodes-left .ensures, count-fits (start .pre .opened) (omega (arith, c .slice-known7 .given 1)))
 
 wipe-requires : tie.Need-wipe-requires
 wipe-requires c κs =
     let start = c .before .before .before .before .before .before .before .before .before .before .before .before .before .before .before .before .before .before in
-    start .pre .long
+    start .pre .opened .long
 
 same-length : tie.Need-same-length
 same-length c = omega arith
@@ -70,7 +70,7 @@ returns c =
     let area = a .area .now in (
       wipe .wipe .ensures ∙ wiped-area area (nodes .nodes-left .result) (nodes .nodes-left .ensures),
       (
-        write .write-digest .ensures ∙ digest-written area (a .digest .now) (close .closing .result) (getD area 3 0) (start .pre .long) refl (close .closing .ensures .0),
+        write .write-digest .ensures ∙ digest-written area (a .digest .now) (close .closing .result) (getD area 3 0) (start .pre .opened .long) refl (close .closing .ensures .0),
         (close .closing .ensures .1, nodes .nodes-left .ensures),
       ),
     )

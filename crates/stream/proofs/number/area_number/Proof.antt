@@ -1,13 +1,12 @@
--- `stream::number::area_number` meets its contract, one law for each way.
+-- `stream::number::area_number` meets its contract.
 use native.Mathlib.Omega.{arith}
 use mathlib.Core.Path.{sym, _∙_}
-use borrow.Author.Tests.{not-true, not-false}
-use Rattle.stream.specs.NumberLaws.{area-short, area-unsound, area-ended, area-open}
+use borrow.Author.Tests.{lt-ltb, le-ltb, eq-eqb, ne-eqb, not-true, not-false}
 use Rattle.stream.proofs.number.area_number.Statement.{statement}
 use Rattle.stream.proofs.number.area_number.Tie as tie
 
 returns : tie.Need-returns
-returns c = area-short (c .before .before .args .area .now) (c .if1 .taken)
+returns c = rw (lt-ltb _ _ (c .if1 .taken))
 
 is-sound-requires : tie.Need-is-sound-requires
 is-sound-requires c κs = omega arith
@@ -15,7 +14,7 @@ is-sound-requires c κs = omega arith
 returns-2 : tie.Need-returns-2
 returns-2 c =
     let sound = c .before in
-    area-unsound (sound .before .before .before .args .area .now) (sound .before .if1 .left) (sym (sound .is-sound .ensures) ∙ not-true (sound .is-sound .result) (c .if2 .taken))
+    rw (le-ltb _ _ (sound .before .if1 .left), sym (sound .is-sound .ensures) ∙ not-true (sound .is-sound .result) (c .if2 .taken))
 
 shared-slice-read-if3 : tie.Need-shared-slice-read-if3
 shared-slice-read-if3 c = omega arith
@@ -24,14 +23,13 @@ returns-3 : tie.Need-returns-3
 returns-3 c =
     let test = c .before .before in
     let sound = test .before in
-    area-ended (sound .before .before .before .args .area .now) (sound .before .if1 .left) (sym (sound .is-sound .ensures) ∙ not-false (sound .is-sound .result) (test .if2 .left)) (c .if3 .taken)
+    rw (le-ltb _ _ (sound .before .if1 .left), sym (sound .is-sound .ensures) ∙ not-false (sound .is-sound .result) (test .if2 .left), eq-eqb _ _ (c .if3 .taken))
 
 returns-4 : tie.Need-returns-4
 returns-4 c =
     let test = c .before .before in
     let sound = test .before in
-    let s = sym (sound .is-sound .ensures) ∙ not-false (sound .is-sound .result) (test .if2 .left) in
-    sym (area-open (sound .before .before .before .args .area .now) 0 record { long = sound .before .if1 .left; sound = s; phase = c .if3 .left })
+    rw (le-ltb _ _ (sound .before .if1 .left), sym (sound .is-sound .ensures) ∙ not-false (sound .is-sound .result) (test .if2 .left), ne-eqb _ _ (c .if3 .left))
 
 pub area-number-spec : {M : Type 1} → statement M
 area-number-spec =

@@ -12,12 +12,13 @@ use Rattle.text.proofs.held.text_bytes.Tie as tie
 use Rattle.text.proofs.held.text_bytes.Reads as reads
 use Rattle.text.proofs.held.text_bytes.Lts as lts
 use Rattle.text.proofs.held.has_line.Reads as has-line-reads
+use Rattle.area.specs.Area.{areaLevels}
 
 abbrev Inv-loop : tie.InvT-loop
-Inv-loop area n₀ k₀ n k = (k ≤ 27) × (n + length (linesAbove area k) ≡ length (textOf area))
+Inv-loop area n₀ k₀ n k = (k ≤ areaLevels) × (n + length (linesAbove area k) ≡ length (textOf area))
 
 abbrev μ-loop : tie.MeasureT-loop
-μ-loop area n₀ k₀ n k = 27 - k
+μ-loop area n₀ k₀ n k = areaLevels - k
 
 loop-holds : tie.Need-loop-holds Inv-loop μ-loop
 loop-holds c = (omega arith, sym (length-text (c .before .args .area .now) (omega arith)))

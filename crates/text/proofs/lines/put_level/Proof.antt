@@ -2,7 +2,7 @@
 use mathlib.Core.Path.{ap, _∙_}
 use lib.ListN.{length}
 use Rattle.area.specs.Area.{levelWords}
-use Rattle.text.specs.LayoutLaws.{length-levelWords}
+use Rattle.area.specs.AreaLaws.{length-levelWords}
 use Rattle.text.specs.LengthLaws.{length-levelLine}
 use Rattle.text.proofs.LineStores.{level-stored}
 use native.Mathlib.Omega.{arith}

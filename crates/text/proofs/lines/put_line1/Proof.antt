@@ -1,11 +1,12 @@
 -- `text::lines::put_line1` writes the fields of line 1, one after the other, and its end.
 use mathlib.Core.Path.{_≡_, refl, ap, _∙_}
-use mathlib.Core.List.{List, _++_}
+use mathlib.Core.List.{List, _++_, flatten}
 use Prim.Native.Nat.{ℕ, _+_, _-_, _≤_}
-use lib.ListN.{length, take, drop, set, length-take}
-use Rattle.text.specs.FieldLaws.{startOf, next-start, in-line}
+use lib.ListN.{length, take, drop, set, length-append, length-take, length-drop}
+use Rattle.text.specs.Text.{line1Fields, fieldDigits, digitsIn, line1Bytes}
+use Rattle.text.specs.FieldLaws.{length-fields, digits-some, digits-more, in-line}
 use Rattle.text.specs.LengthLaws.{length-line1}
-use Rattle.text.proofs.LineStores.{digits1, field-stored, fields-length, line1-stored}
+use Rattle.text.proofs.LineStores.{field-stored, line1-stored}
 use borrow.Author.Needs.{needs}
 use native.Mathlib.Omega.{arith}
 use Rattle.text.proofs.lines.put_line1.Statement.{statement}
@@ -15,7 +16,8 @@ use Rattle.text.proofs.lines.put_line1.Lts as lts
 use Rattle.digits.proofs.put_digits.Reads as put-digits-reads
 
 abbrev Inv-loop : tie.InvT-loop
-Inv-loop part₀ area a₀ i₀ part a i = (i ≤ 7) × (a ≡ startOf i) × (part ≡ take a (digits1 area) ++ drop a part₀) × (length part ≡ 45)
+Inv-loop part₀ area a₀ i₀ part a i =
+    (i ≤ 7) × (a ≡ digitsIn (take i line1Fields)) × (part ≡ fieldDigits (take i line1Fields) area ++ drop a part₀) × (length part ≡ line1Bytes line1Fields)
 
 abbrev μ-loop : tie.MeasureT-loop
 μ-loop part₀ area a₀ i₀ part a i = 7 - i
@@ -25,9 +27,10 @@ stored : tie.Need-returns Inv-loop μ-loop
 stored c =
     let z = c .before .loop in
     let a = c .before .before .before .before .args in
-    ap (λ (x : List ℕ). set x 44 10) (z .inv .2) ∙ line1-stored (a .area .now) (a .part .now) (z .a) (z .i) (omega arith) (z .inv .1) (omega arith)
+    ap (λ (x : List ℕ). set x (z .a) 10) (z .inv .2) ∙ line1-stored (a .area .now) (a .part .now) (z .a) (z .i) (omega arith) (z .inv .1) (omega arith)
 
 loop-holds : tie.Need-loop-holds Inv-loop μ-loop
+unfolding flatten
 loop-holds c = (omega arith, refl, refl, omega arith)
 
 mul-w : tie.Need-mul-w Inv-loop μ-loop
@@ -42,14 +45,20 @@ mul-e c = search needs
 array-read-e : tie.Need-array-read-e Inv-loop μ-loop
 array-read-e c = search needs
 
+add-e : tie.Need-add-e Inv-loop μ-loop
+add-e c =
+    let f = in-line (c .before .loop .i) (omega arith) in
+    let n = f .ends in
+    search needs
+
 sub-put-digits : tie.Need-sub-put-digits Inv-loop μ-loop
-sub-put-digits c = omega (arith, in-line (c .before .loop .i) (omega arith) .order)
+sub-put-digits c = search needs
 
 part-put-digits-start : tie.Need-part-put-digits-start Inv-loop μ-loop
-part-put-digits-start c = omega (arith, in-line (c .before .loop .i) (omega arith) .order)
+part-put-digits-start c = search needs
 
 part-put-digits-end : tie.Need-part-put-digits-end Inv-loop μ-loop
-part-put-digits-end c = omega (arith, in-line (c .before .loop .i) (omega arith) .fits)
+part-put-digits-end c = omega (arith, in-line (c .before .loop .i) (omega arith) .ends)
 
 mul-put-digits : tie.Need-mul-put-digits Inv-loop μ-loop
 mul-put-digits c =
@@ -60,7 +69,7 @@ shared-slice-read-put-digits : tie.Need-shared-slice-read-put-digits Inv-loop μ
 shared-slice-read-put-digits c = omega (arith, in-line (c .before .before .before .loop .i) (omega arith) .word)
 
 put-digits-requires : tie.Need-put-digits-requires Inv-loop μ-loop
-put-digits-requires c κs = rw length-take (omega (arith, in-line (c .before .before .before .loop .i) (omega arith) .short, c .before .before .before .loop .inv .1))
+put-digits-requires c κs = rw length-take (omega (arith, in-line (c .before .before .before .loop .i) (omega arith) .size))
 
 add-i : tie.Need-add-i Inv-loop μ-loop
 add-i c = search needs
@@ -70,17 +79,18 @@ loop-less c = search needs
 
 loop-again : tie.Need-loop-again Inv-loop μ-loop
 loop-again c =
-    let z = c .before .before .before .before .before .before .loop in
-    let p = c .before .before .before .before .before .before .before .before .before .args .part .now in
-    let a = c .before .before .before .before .before .before .before .before .before .args .area .now in
-    let s = field-stored a p (z .part) (c .before .before .put-digits .last .0) (z .a) (z .i) (omega arith) (z .inv .1) (omega arith) (z .inv .2) (c .before .before .put-digits .ensures) in
-    (omega arith, next-start (z .i), s, ap length s ∙ fields-length a p (z .i) (omega arith) (omega arith))
+    let l = c .before .before .before .before .before .before in
+    let z = l .loop in
+    let a = l .before .before .before .args in
+    let s = field-stored (a .area .now) (a .part .now) (z .part) (c .before .before .put-digits .last .0) (z .a) (z .i) (omega arith) (z .inv .1) (omega arith) (z .inv .2) (c .before .before .put-digits .ensures) in
+    let m = digits-more line1Fields (z .i) (omega arith) in
+    (omega arith, omega (arith, m), s, ap length s ∙ simp (length-append, length-fields, length-drop) (omega (arith, m, in-line (z .i) (omega arith) .ends)))
 
 slice-write-part : tie.Need-slice-write-part Inv-loop μ-loop
-slice-write-part c = search needs
+slice-write-part c = omega (arith, digits-some line1Fields (c .before .loop .i))
 
 same-length : tie.Need-same-length Inv-loop μ-loop
-same-length c = ap length (stored c) ∙ length-line1 (c .before .before .before .before .args .area .now) ∙ omega arith
+same-length c = ap length (stored c) ∙ length-line1 line1Fields (c .before .before .before .before .args .area .now) ∙ omega arith
 
 returns : tie.Need-returns Inv-loop μ-loop
 returns c = stored c
@@ -96,6 +106,7 @@ put-line1-spec =
     array-read-w
     mul-e
     array-read-e
+    add-e
     sub-put-digits
     part-put-digits-start
     part-put-digits-end

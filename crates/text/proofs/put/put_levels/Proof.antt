@@ -11,12 +11,13 @@ use Rattle.text.proofs.put.put_levels.Reads as reads
 use Rattle.text.proofs.put.put_levels.Lts as lts
 use Rattle.text.proofs.held.has_line.Reads as has-line-reads
 use Rattle.text.proofs.lines.put_level.Reads as put-level-reads
+use Rattle.area.specs.Area.{areaLevels}
 
 abbrev Inv-loop : tie.InvT-loop
 Inv-loop part₀ area at₀ k₀ part at k = Putting area part at k
 
 abbrev μ-loop : tie.MeasureT-loop
-μ-loop part₀ area at₀ k₀ part at k = 27 - k
+μ-loop part₀ area at₀ k₀ part at k = areaLevels - k
 
 -- all lines are written
 done : tie.Need-returns Inv-loop μ-loop

@@ -1,10 +1,12 @@
 -- `text::spell::spell_head` stores the fields of line 1 in their words, then those of K, until a byte is refused.
 use mathlib.Core.Path.{_≡_, refl, sym, ap, _∙_}
 use Prim.Native.Nat.{ℕ, _-_, _≤_}
-use lib.ListN.{length, length-take, length-drop, length-replicate}
+use lib.ListN.{length, take, drop, replicate, length-take, length-set}
+use Rattle.area.specs.Area.{headWords}
 use Rattle.digits.specs.Digits.{readingNumber}
-use Rattle.text.specs.FieldLaws.{startOf, next-start, in-line}
-use Rattle.text.proofs.LineStores.{stores, Known, stores-none, stores-more, length-stores, field-refused, head-none, head-spelt}
+use Rattle.text.specs.Text.{line1Fields, digitsIn, speltFields}
+use Rattle.text.specs.FieldLaws.{digits-more, in-line, field-read, field-refused}
+use Rattle.text.proofs.LineStores.{head-none, head-known}
 use borrow.Author.Needs.{needs}
 use native.Mathlib.Omega.{arith}
 use Rattle.text.proofs.spell.spell_head.Statement.{statement}
@@ -15,15 +17,15 @@ use Rattle.digits.proofs.number.Reads as number-reads
 use Rattle.digits.proofs.spell_words.Reads as spell-words-reads
 
 abbrev Inv-loop : tie.InvT-loop
-Inv-loop area₀ text a₀ i₀ area a i = (i ≤ 7) × (a ≡ startOf i) × (area ≡ stores text i) × Known text i
+Inv-loop head₀ text a₀ i₀ head a i =
+    (i ≤ 7) × (a ≡ digitsIn (take i line1Fields)) × (length head ≡ headWords)
+    × (speltFields line1Fields text (replicate headWords 0) ≡ speltFields (drop i line1Fields) (drop a text) head)
 
 abbrev μ-loop : tie.MeasureT-loop
-μ-loop area₀ text a₀ i₀ area a i = 7 - i
+μ-loop head₀ text a₀ i₀ head a i = 7 - i
 
 loop-holds : tie.Need-loop-holds Inv-loop μ-loop
-loop-holds c =
-    let n = stores-none (c .before .before .args .text .now) in
-    (omega arith, refl, c .before .before .pre .0 ∙ n .0, n .1)
+loop-holds c = let e = c .before .before .pre .0 in (omega arith, refl, ap length e, ap (speltFields line1Fields (c .before .before .args .text .now)) (sym e))
 
 mul-w : tie.Need-mul-w Inv-loop μ-loop
 mul-w c = search needs
@@ -37,30 +39,33 @@ mul-e c = search needs
 array-read-e : tie.Need-array-read-e Inv-loop μ-loop
 array-read-e c = search needs
 
+add-e : tie.Need-add-e Inv-loop μ-loop
+add-e c =
+    let n = in-line (c .before .loop .i) (omega arith) .ends in
+    search needs
+
 sub-number : tie.Need-sub-number Inv-loop μ-loop
-sub-number c = omega (arith, in-line (c .before .loop .i) (omega arith) .order)
+sub-number c = search needs
 
 part-number-start : tie.Need-part-number-start Inv-loop μ-loop
-part-number-start c = omega (arith, in-line (c .before .loop .i) (omega arith) .order)
+part-number-start c = search needs
 
 part-number-end : tie.Need-part-number-end Inv-loop μ-loop
-part-number-end c = omega (arith, in-line (c .before .loop .i) (omega arith) .fits)
+part-number-end c = omega (arith, in-line (c .before .loop .i) (omega arith) .ends)
 
 number-requires : tie.Need-number-requires Inv-loop μ-loop
-number-requires c κs = rw length-take (omega (arith, in-line (c .before .before .loop .i) (omega arith) .short, c .before .before .loop .inv .1))
+number-requires c κs = rw length-take (omega (arith, in-line (c .before .before .loop .i) (omega arith) .size))
 
 enum-known-x : tie.Need-enum-known-x Inv-loop μ-loop
 enum-known-x c = search needs
 
-mul-area : tie.Need-mul-area Inv-loop μ-loop
-mul-area c =
+mul-head : tie.Need-mul-head Inv-loop μ-loop
+mul-head c =
     let w = in-line (c .before .before .before .before .before .before .loop .i) (omega arith) .word in
     search needs
 
-slice-write-area : tie.Need-slice-write-area Inv-loop μ-loop
-slice-write-area c =
-    let l = c .before .before .before .before .before .before in
-    omega (arith, in-line (l .loop .i) (omega arith) .word, ap length (l .loop .inv .2), length-stores (l .before .before .before .args .text .now) (l .loop .i))
+slice-write-head : tie.Need-slice-write-head Inv-loop μ-loop
+slice-write-head c = omega (arith, in-line (c .before .before .before .before .before .before .loop .i) (omega arith) .word)
 
 enum-told : tie.Need-enum-told Inv-loop μ-loop
 enum-told c = search needs
@@ -68,14 +73,14 @@ enum-told c = search needs
 same-length : tie.Need-same-length Inv-loop μ-loop
 same-length c =
     let l = c .before .before .before .before .before in
-    ap length (l .loop .inv .2) ∙ length-stores (l .before .before .before .args .text .now) (l .loop .i) ∙ sym (ap length (l .before .before .before .pre .0) ∙ length-replicate {A = ℕ} 1744 0)
+    l .loop .inv .2 ∙ sym (ap length (l .before .before .before .pre .0))
 
 returns : tie.Need-returns Inv-loop μ-loop
 returns c =
     let l = c .before .before .before .before .before in
+    let z = l .loop in
     let t = l .before .before .before .args .text .now in
-    head-none t (l .loop .area)
-    (field-refused t (l .loop .a) (l .loop .i) (omega arith) (l .loop .inv .1) (sym (c .before .before .number .ensures) ∙ ap readingNumber (c .enum-told .given .1)))
+    head-none t (z .inv .3 ∙ field-refused line1Fields (z .i) (omega arith) t (z .head) (z .a) (sym (c .before .before .number .ensures) ∙ ap readingNumber (c .enum-told .given .1)))
 
 add-i : tie.Need-add-i Inv-loop μ-loop
 add-i c = search needs
@@ -86,10 +91,10 @@ loop-less c = search needs
 loop-again : tie.Need-loop-again Inv-loop μ-loop
 loop-again c =
     let l = c .before .before .before .before .before .before in
+    let z = l .loop in
     let t = l .before .before .before .args .text .now in
-    let m = stores-more t (l .loop .area) (l .loop .a) (l .loop .i) _ (l .loop .inv .1) (l .loop .inv .2) (l .loop .inv .3)
-    (sym (c .before .before .before .number .ensures) ∙ ap readingNumber (c .before .x .given .1)) in
-    (omega arith, next-start (l .loop .i), m .0, m .1)
+    let r = field-read line1Fields (z .i) (omega arith) t (z .head) (z .a) _ (sym (c .before .before .before .number .ensures) ∙ ap readingNumber (c .before .x .given .1)) in
+    (omega arith, omega (arith, digits-more line1Fields (z .i) (omega arith)), rw (length-set (z .head)) (z .inv .2), z .inv .3 ∙ r)
 
 sub-spell-words : tie.Need-sub-spell-words Inv-loop μ-loop
 sub-spell-words c = search needs
@@ -98,7 +103,7 @@ part-spell-words-start : tie.Need-part-spell-words-start Inv-loop μ-loop
 part-spell-words-start c = search needs
 
 part-spell-words-end : tie.Need-part-spell-words-end Inv-loop μ-loop
-part-spell-words-end c = omega (arith, ap length (c .before .loop .inv .2), length-stores (c .before .before .before .before .args .text .now) (c .before .loop .i))
+part-spell-words-end c = search needs
 
 sub-spell-words-2 : tie.Need-sub-spell-words-2 Inv-loop μ-loop
 sub-spell-words-2 c = search needs
@@ -110,22 +115,22 @@ part-spell-words-end-2 : tie.Need-part-spell-words-end-2 Inv-loop μ-loop
 part-spell-words-end-2 c = search needs
 
 spell-words-requires : tie.Need-spell-words-requires Inv-loop μ-loop
-spell-words-requires c κs =
-    let z = c .before .before .before .loop in
-    simp (length-take, length-drop) (omega (arith, ap length (z .inv .2), length-stores (c .before .before .before .before .before .before .args .text .now) (z .i)))
+spell-words-requires c κs = search needs
 
 same-length-2 : tie.Need-same-length-2 Inv-loop μ-loop
 same-length-2 c =
     let l = c .before .before .before .before .before .before in
-    let e : length (l .loop .area) ≡ length (l .before .before .before .args .area .now) =
-    ap length (l .loop .inv .2) ∙ length-stores (l .before .before .before .args .text .now) (l .loop .i) ∙ sym (ap length (l .before .before .before .pre .0) ∙ length-replicate {A = ℕ} 1744 0) in
+    let e : length (l .loop .head) ≡ length (l .before .before .before .args .head .now) = l .loop .inv .2 ∙ sym (ap length (l .before .before .before .pre .0)) in
     search needs
 
 returns-2 : tie.Need-returns-2 Inv-loop μ-loop
 returns-2 c =
     let l = c .before .before .before .before .before .before in
+    let z = l .loop in
+    let t = l .before .before .before .args .text .now in
     let w = c .before .before .spell-words in
-    head-spelt (l .before .before .before .args .text .now) (w .last .0) (l .loop .area) (l .loop .i) (w .result) (omega arith) (l .loop .inv .2) (l .loop .inv .3) (w .ensures)
+    let e : z .i ≡ 7 = omega arith in
+    head-known t (z .head) (w .last .0) (w .result) (z .inv .3 ∙ ap (λ (k : ℕ). speltFields (drop k line1Fields) (drop (z .a) t) (z .head)) e) (z .inv .2) (w .ensures)
 
 pub spell-head-spec : {M : Type 1} → statement M
 spell-head-spec =
@@ -138,13 +143,14 @@ spell-head-spec =
     array-read-w
     mul-e
     array-read-e
+    add-e
     sub-number
     part-number-start
     part-number-end
     number-requires
     enum-known-x
-    mul-area
-    slice-write-area
+    mul-head
+    slice-write-head
     enum-told
     same-length
     returns

@@ -13,12 +13,13 @@ use Rattle.text.proofs.spell.spell_levels.Reads as reads
 use Rattle.text.proofs.spell.spell_levels.Lts as lts
 use Rattle.text.proofs.held.has_line.Reads as has-line-reads
 use Rattle.text.proofs.spell.spell_level.Reads as spell-level-reads
+use Rattle.area.specs.Area.{areaLevels}
 
 abbrev Inv-loop : tie.InvT-loop
 Inv-loop area₀ text at₀ k₀ area at k = Spelling area₀ text area at k
 
 abbrev μ-loop : tie.MeasureT-loop
-μ-loop area₀ text at₀ k₀ area at k = 27 - k
+μ-loop area₀ text at₀ k₀ area at k = areaLevels - k
 
 loop-holds : tie.Need-loop-holds Inv-loop μ-loop
 loop-holds c = spelling-none (c .before .before .args .area .now) (c .before .before .args .text .now) (c .before .before .pre .0) (c .before .before .pre .1) (c .before .before .pre .2)

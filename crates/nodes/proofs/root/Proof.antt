@@ -1,0 +1,47 @@
+-- `nodes::root` meets its contract.
+use Rattle.nodes.specs.SequentialLaws.{root-chain, root-parallel, top-some, first-node}
+use Rattle.nodes.specs.Ready.{shared}
+use Rattle.nodes.specs.Value as spec
+use Rattle.tree.specs.Refusals.{pieceBits}
+use Prim.Native.Nat.{ℕ, _<_}
+use mathlib.Core.Path.{_∙_, ap}
+use native.Mathlib.Omega.{arith}
+use borrow.Author.Needs.{needs}
+use Rattle.nodes.proofs.root.Statement.{statement}
+use Rattle.nodes.proofs.root.Tie as tie
+
+top-level-requires : tie.Need-top-level-requires
+top-level-requires c κs = search needs
+
+sequential-requires : tie.Need-sequential-requires
+sequential-requires c κs = search needs
+
+returns : tie.Need-returns
+returns c =
+    let top = c .before .before in
+    let s = top .before .before .before .before in
+    let a = s .args in
+    c .sequential .ensures
+    ∙ root-chain (shared (a .k .now) (a .params)) (a .params .limit) (a .message .now) (a .bits) (s .pre .1) (omega (arith, top .top-level .ensures .0, c .before .if1 .taken))
+
+value-requires : tie.Need-value-requires
+value-requires c κs =
+    let top = c .before in
+    let s = top .before .before .before .before in
+    let e = top .top-level .ensures .0 in
+    let some : 0 < top .top-level .result = omega (arith, e, top-some (s .args .bits) (s .args .params .limit) 1) in
+    (s .pre .0, s .pre .1, some, omega (arith, c .if1 .left, s .pre .0 .limitHigh), first-node (s .args .bits) (top .top-level .result) some, omega arith)
+
+returns-2 : tie.Need-returns-2
+returns-2 c =
+    let top = c .before .before in
+    let s = top .before .before .before .before in
+    let a = s .args in
+    let e = top .top-level .ensures .0 in
+    c .value .ensures
+    ∙ ap (λ (l : ℕ). spec.value (shared (a .k .now) (a .params)) (pieceBits (a .message .now) (a .bits)) l 0 1) e
+    ∙ root-parallel (shared (a .k .now) (a .params)) (a .params .limit) (a .message .now) (a .bits) (s .pre .1) (omega (arith, e, c .before .if1 .left))
+
+pub root-spec : {M : Type 1} → statement M
+root-spec =
+    tie.close (tie.spec top-level-requires sequential-requires returns value-requires returns-2)

@@ -1,0 +1,120 @@
+-- Laws: for the code of the sequential level.
+use mathlib.Core.Path.{_≡_, refl, sym, ap, _∙_}
+use mathlib.Core.Bool.{Bool, true, false, cond}
+use borrow.Author.Tests.{lt-ltb, le-ltb}
+use mathlib.Core.List.{List, [], _++_, append-nil}
+use Prim.Native.Nat.{ℕ, zero, suc, _+_, _-_, _*_, _^_, _≤_, _<_}
+use native.Mathlib.Omega.{arith}
+use lib.Dec.{eqb}
+use lib.ListN.{length, replicate}
+use lib.Seq.{paste}
+use Rattle.bits.specs.Bits.{digit, filled}
+use Rattle.tree.specs.Tree.{words, sequentialBits, outputBits}
+use Rattle.tree.specs.Refusals.{pieceBits}
+use Rattle.tree.specs.Sizes.{levelNodes}
+use Rattle.node.specs.Words.{Common, nodeWords}
+use Rattle.nodes.specs.Value.{held, messagePart, childWords, value, sequentialNodes, sequentialPadding, sequentialWords, chain, rootValue, topFrom, topLevel}
+use Rattle.tree.specs.Count.{levelNodes-some}
+use Rattle.nodes.specs.ValueLaws.{levelNodes-le, chain-suc}
+use Rattle.node.specs.NodeLaws.{paste-at}
+use Rattle.tree.specs.RefusalLaws.{length-pieceBits}
+use Rattle.nodes.specs.BlockLaws.{filled-part}
+
+-- ---- indices
+
+pub message-index : (bits index : ℕ) → index < sequentialNodes 0 bits → sequentialBits * index ≤ bits
+unfolding sequentialNodes
+message-index bits index h = omega arith
+
+pub third-index : (limit bits index : ℕ) → 0 < limit → index < sequentialNodes limit bits → 3 * index ≤ levelNodes bits limit
+unfolding sequentialNodes
+third-index zero bits index h i = absurd (omega arith)
+third-index (suc l) bits index h i = omega (arith, levelNodes-some bits l)
+
+pub sequential-index : (limit bits index : ℕ) → bits < 2 ^ 64 → index < sequentialNodes limit bits → index < 2 ^ 56
+unfolding sequentialNodes
+sequential-index zero bits index b i = omega arith
+sequential-index (suc l) bits index b i = omega (arith, levelNodes-le bits l b)
+
+-- ---- padding bits
+
+pub padding-message : (limit bits index : ℕ) → limit ≡ 0 → sequentialBits - held sequentialBits bits index ≡ sequentialPadding limit bits index
+unfolding sequentialPadding
+padding-message limit bits index e = rw e
+
+pub padding-children : (limit bits index : ℕ) → (limit ≡ 0 → ⊥) → outputBits * (3 - held 3 (levelNodes bits limit) index) ≡ sequentialPadding limit bits index
+unfolding sequentialPadding
+padding-children zero bits index h = absurd (h refl)
+padding-children (suc l) bits index h = refl
+
+-- ---- words
+
+pub message-filled : (bytes : List ℕ) (bits index n : ℕ) → bits ≤ 8 * length bytes → index < sequentialNodes 0 bits → n ≡ held sequentialBits bits index
+    → filled (replicate 48 0) 0 bytes (8 * (384 * index) + 0) n ≡ words 48 (messagePart sequentialBits (pieceBits bytes bits) index)
+message-filled bytes bits index n g i en =
+    filled-part bytes bits 48 sequentialBits index (8 * (384 * index) + 0) n refl (message-index bits index i) g (omega arith) en
+
+pub words-message : (C : Common) (limit : ℕ) (M : List Bool) (index : ℕ) → limit ≡ 0
+    → words 48 (messagePart sequentialBits M index) ≡ sequentialWords C limit M index
+unfolding sequentialWords
+words-message C limit M index e = rw e
+
+pub words-children : (C : Common) (limit : ℕ) (bytes : List ℕ) (bits index n : ℕ) → 0 < limit → bits ≤ 8 * length bytes
+    → n ≡ held 3 (levelNodes bits limit) index
+    → childWords (λ j. value C (pieceBits bytes bits) limit j 0) 3 (3 * index) n ≡ sequentialWords C limit (pieceBits bytes bits) index
+unfolding sequentialWords
+words-children C zero bytes bits index n h g en = absurd (omega arith)
+words-children C (suc l) bytes bits index n h g en = rw (length-pieceBits bytes bits g, en)
+
+-- the chain, and then 48 words, are written to a block
+pub block-made : (before rest : List ℕ) → length before ≡ 16 → length rest ≡ 48
+    → paste (paste (replicate 64 0) 0 before (length before)) 16 rest (length rest) ≡ before ++ rest
+block-made before rest lb lr =
+    let a : paste (replicate 64 0) 0 before (length before) ≡ before ++ replicate 48 0 =
+    paste-at [] before (replicate 64 0) 0 (length before) refl refl ∙ rw lb refl in
+    let b : paste (before ++ replicate 48 0) 16 rest (length rest) ≡ before ++ (rest ++ []) =
+    paste-at before rest (replicate 48 0) 16 (length rest) lb refl ∙ rw lr refl in
+    ap (λ (w : List ℕ). paste w 16 rest (length rest)) a ∙ b ∙ ap (λ (w : List ℕ). before ++ w) (append-nil rest)
+
+-- ---- the chain
+
+pub chain-more : (C : Common) (limit : ℕ) (bytes : List ℕ) (bits index z : ℕ) (last : List ℕ) → bits ≤ 8 * length bytes
+    → z ≡ digit (eqb (suc index) (sequentialNodes limit bits))
+    → last ≡ chain C limit (pieceBits bytes bits) index
+    → nodeWords C (limit + 1) index z (sequentialPadding limit bits index) (last ++ sequentialWords C limit (pieceBits bytes bits) index)
+    ≡ chain C limit (pieceBits bytes bits) (index + 1)
+chain-more C limit bytes bits index z last g ez el =
+    let M : List Bool = pieceBits bytes bits in
+    let l : length M ≡ bits = length-pieceBits bytes bits g in
+    let s : limit + 1 ≡ suc limit = omega arith in
+    let t : index + 1 ≡ suc index = omega arith in
+    let e : chain C limit M (suc index)
+    ≡ nodeWords C (suc limit) index (digit (eqb (suc index) (sequentialNodes limit bits))) (sequentialPadding limit bits index) (chain C limit M index ++ sequentialWords C limit M index) =
+    chain-suc C M limit index ∙ rw l in
+    rw (s, t, ez, el) (sym e)
+
+-- ---- the root
+
+pub root-chain : (C : Common) (limit : ℕ) (bytes : List ℕ) (bits : ℕ) → bits ≤ 8 * length bytes → limit < topLevel limit bits
+    → chain C limit (pieceBits bytes bits) (sequentialNodes limit bits) ≡ rootValue C limit (pieceBits bytes bits)
+unfolding rootValue
+root-chain C limit bytes bits g h = rw (length-pieceBits bytes bits g, lt-ltb limit (topLevel limit bits) h)
+
+pub root-parallel : (C : Common) (limit : ℕ) (bytes : List ℕ) (bits : ℕ) → bits ≤ 8 * length bytes → topLevel limit bits ≤ limit
+    → value C (pieceBits bytes bits) (topLevel limit bits) 0 1 ≡ rootValue C limit (pieceBits bytes bits)
+unfolding rootValue
+root-parallel C limit bytes bits g h = rw (length-pieceBits bytes bits g, le-ltb limit (topLevel limit bits) h)
+
+-- the root's level counts from 1, and has a node
+pub top-some : (m n level : ℕ) → level ≤ topFrom m n level
+unfolding topFrom
+top-some m zero level = omega arith
+top-some m (suc n) level = go (eqb (levelNodes m level) 1) (top-some m n (suc level))
+  where
+    go : (b : Bool) → suc level ≤ topFrom m n (suc level) → level ≤ cond b level (topFrom m n (suc level))
+    go true h = omega arith
+    go false h = omega arith
+
+pub first-node : (bits level : ℕ) → 0 < level → 0 < levelNodes bits level
+first-node bits zero h = absurd (omega arith)
+first-node bits (suc l) h = levelNodes-some bits l

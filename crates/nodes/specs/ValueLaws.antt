@@ -1,0 +1,218 @@
+-- Laws: of Value: the values' lengths and ranges, and the theorem that the value worked out node by node is the output of the
+-- node at that place of the levels.
+use mathlib.Core.Path.{_≡_, refl, sym, ap, _∙_}
+use mathlib.Core.Bool.{Bool, true, false}
+use mathlib.Core.Option.{none}
+use mathlib.Core.List.{List, [], _++_, append-nil, append-assoc}
+use Prim.Native.Nat.{ℕ, zero, suc, _+_, _-_, _*_, _^_, _≤_, _<_, min}
+use native.Mathlib.Omega.{arith}
+use borrow.Author.Tests.{leb-true, leb-false}
+use lib.Dec.{eqb, leb}
+use lib.ListN.{length, take, drop, replicate, length-append, length-drop, length-replicate}
+use lib.Seq.{take-append-le, drop-append-le, take-append-add, take-all, take-at, drop-at}
+use Rattle.lists.specs.Replicate.{take-replicate}
+use Rattle.lists.specs.Below.{Below, none}
+use Rattle.lists.specs.BelowLaws.{below-append, below-zeros}
+use Rattle.bits.specs.Bits.{digit}
+use Rattle.bits.specs.BitsLaws.{digit-le, length-numbers, numbers-below}
+use Rattle.tree.specs.Tree.{words, blocks, blockBits, sequentialBits, outputBits}
+use Rattle.tree.specs.Sizes.{levelNodes}
+use Rattle.tree.specs.Count.{fourth, levelNodes-one, levelNodes-suc, levelNodes-some}
+use Rattle.node.specs.Words.{Common, nodeWords}
+use Rattle.node.specs.WordLaws.{length-nodeWords, below-nodeWords, Fair}
+use Rattle.nodes.specs.Value.{held, messagePart, joinedValues, childWords, value, sequentialNodes, sequentialPadding, sequentialWords, chain}
+
+-- so many elements from n on, of a list that zeros follow
+pub pad-part : {A : Type 0} (s n q : ℕ) (M : List A) (z : A) → n ≤ length M → n + s ≤ length M + q
+    → take s (drop n (M ++ replicate q z)) ≡ take s (drop n M) ++ replicate (s - min s (length M - n)) z
+pad-part {A} s n q M z h g = drop-part ∙ go (leb s (length D)) refl
+  where
+    D : List A
+    D = drop n M
+
+    drop-part : take s (drop n (M ++ replicate q z)) ≡ take s (drop n M ++ replicate q z)
+    drop-part = ap (take s) (drop-append-le n M (replicate q z) h)
+
+    length-D : length (drop n M) ≡ length M - n
+    length-D = length-drop n M
+
+    go : (b : Bool) → leb s (length (drop n M)) ≡ b
+        → take s (drop n M ++ replicate q z) ≡ take s (drop n M) ++ replicate (s - min s (length M - n)) z
+    go true e =
+        let l : s ≤ length (drop n M) = leb-true s (length (drop n M)) e in
+        let o : s - min s (length M - n) ≡ 0 = omega (arith, length-D) in
+        rw (take-append-le s (drop n M) (replicate q z) l, o) (sym (append-nil (take s (drop n M))))
+    go false e =
+        let l : length (drop n M) < s = leb-false s (length (drop n M)) e in
+        let k : s - min s (length M - n) ≡ s - length (drop n M) = omega (arith, length-D) in
+        let w : s ≡ length (drop n M) + (s - length (drop n M)) = omega arith in
+        let t : take (s - length (drop n M)) (replicate q z) ≡ replicate (s - length (drop n M)) z =
+        take-replicate (s - length (drop n M)) q z (omega (arith, length-D)) in
+        ap (λ (x : ℕ). take x (drop n M ++ replicate q z)) w
+        ∙ take-append-add (drop n M) (replicate q z) (s - length (drop n M))
+        ∙ rw (t, k, take-all s (drop n M) (omega arith))
+
+-- ---- the values of nodes, joined
+
+pub joined-zero : (f : ℕ → List ℕ) (a : ℕ) → joinedValues f a 0 ≡ []
+unfolding joinedValues
+joined-zero f a = refl
+
+pub joined-suc : (f : ℕ → List ℕ) (a n : ℕ) → joinedValues f a (suc n) ≡ joinedValues f a n ++ f (a + n)
+unfolding joinedValues
+joined-suc f a n = refl
+
+pub joined-add : (f : ℕ → List ℕ) (a m n : ℕ) → joinedValues f a (m + n) ≡ joinedValues f a m ++ joinedValues f (a + m) n
+joined-add f a m zero =
+    let e : m + 0 ≡ m = omega arith in
+    rw (e, joined-zero f (a + m)) (sym (append-nil (joinedValues f a m)))
+joined-add f a m (suc n) =
+    let e : m + suc n ≡ suc (m + n) = omega arith in
+    let g : a + (m + n) ≡ a + m + n = omega arith in
+    rw (e, joined-suc f a (m + n), joined-suc f (a + m) n, joined-add f a m n, g) (append-assoc (joinedValues f a m) (joinedValues f (a + m) n) (f (a + m + n)))
+
+pub joined-cons : (f : ℕ → List ℕ) (a n : ℕ) → joinedValues f a (suc n) ≡ f a ++ joinedValues f (suc a) n
+unfolding joinedValues
+joined-cons f a n =
+    let e : suc n ≡ 1 + n = omega arith in
+    let z : a + 0 ≡ a = omega arith in
+    let s : a + 1 ≡ suc a = omega arith in
+    ap (joinedValues f a) e ∙ joined-add f a 1 n ∙ rw (z, s)
+
+pub length-joinedValues : (f : ℕ → List ℕ) (a n : ℕ) → ((j : ℕ) → length (f j) ≡ 16) → length (joinedValues f a n) ≡ 16 * n
+length-joinedValues f a zero h = rw (joined-zero f a) (omega arith)
+length-joinedValues f a (suc n) h =
+    rw (joined-suc f a n, length-append, length-joinedValues f a n h, h (a + n)) (omega arith)
+
+pub below-joinedValues : (f : ℕ → List ℕ) (a n : ℕ) → ((j : ℕ) → j < n → Below (2 ^ 64) (f (a + j))) → Below (2 ^ 64) (joinedValues f a n)
+below-joinedValues f a zero h = rw (joined-zero f a) none
+below-joinedValues f a (suc n) h =
+    rw (joined-suc f a n) (below-append (below-joinedValues f a n (λ j l. h j (omega arith))) (h n (omega arith)))
+
+-- the values that a node at index i takes, of c nodes below it and q at most
+pub joined-part : (f : ℕ → List ℕ) (q c i : ℕ) → ((j : ℕ) → length (f j) ≡ 16) → q * i ≤ c
+    → take (16 * q) (drop (16 * (q * i)) (joinedValues f 0 c)) ≡ joinedValues f (q * i) (held q c i)
+joined-part f q c i h g =
+    let a : ℕ = q * i in
+    let n : ℕ = held q c i in
+    let e : c ≡ a + (n + (c - a - n)) = omega arith in
+    let z : 0 + a ≡ a = omega arith in
+    let s : joinedValues f 0 c ≡ joinedValues f 0 a ++ (joinedValues f a n ++ joinedValues f (a + n) (c - a - n)) =
+    ap (joinedValues f 0) e ∙ joined-add f 0 a (n + (c - a - n)) ∙ rw (z, joined-add f a n (c - a - n)) in
+    let d : drop (16 * a) (joinedValues f 0 c) ≡ joinedValues f a n ++ joinedValues f (a + n) (c - a - n) =
+    ap (drop (16 * a)) s ∙ drop-at (joinedValues f 0 a) (joinedValues f a n ++ joinedValues f (a + n) (c - a - n)) (16 * a) (length-joinedValues f 0 a h) in
+    ap (take (16 * q)) d ∙ ends q a n f h (c - a - n) (omega arith)
+  where
+    -- either the node is full, or no value is left
+    ends : (q a n : ℕ) (f : ℕ → List ℕ) → ((j : ℕ) → length (f j) ≡ 16) → (k : ℕ) → (n ≤ q) × ((n < q) → k ≡ 0)
+        → take (16 * q) (joinedValues f a n ++ joinedValues f (a + n) k) ≡ joinedValues f a n
+    ends q a n f h k e = go (leb q n) refl
+      where
+        go : (b : Bool) → leb q n ≡ b → take (16 * q) (joinedValues f a n ++ joinedValues f (a + n) k) ≡ joinedValues f a n
+        go true t =
+            let l = leb-true q n t in
+            take-at (joinedValues f a n) (joinedValues f (a + n) k) (16 * q) (length-joinedValues f a n h ∙ omega arith)
+        go false t =
+            let o : k ≡ 0 = e .1 (leb-false q n t) in
+            rw (o, joined-zero f (a + n), append-nil) (take-all (16 * q) (joinedValues f a n) (omega (arith, length-joinedValues f a n h)))
+
+-- ---- nodes of a level
+
+-- the outputs of a level fill the blocks of the one above
+pub levelNodes-outputs : (m h : ℕ) → levelNodes m (suc (suc h)) ≡ blocks blockBits (outputBits * levelNodes m (suc h))
+levelNodes-outputs m h = levelNodes-suc m h ∙ sym (fourth (levelNodes m (suc h)) (levelNodes-some m h))
+
+-- an index of a level is below 2 ^ 56
+pub levelNodes-le : (m h : ℕ) → m < 2 ^ 64 → levelNodes m (suc h) ≤ 2 ^ 52
+levelNodes-le m zero l = rw (levelNodes-one m) (omega arith)
+levelNodes-le m (suc h) l = rw (levelNodes-suc m h) (omega (arith, levelNodes-le m h l))
+
+-- ---- the definitions, one step each
+
+module _ (C : Common) (M : List Bool) where
+  pub value-one : (index z : ℕ)
+      → value C M 1 index z ≡ nodeWords C 1 index z (blockBits - held blockBits (length M) index) (words 64 (messagePart blockBits M index))
+  unfolding value
+  value-one index z = refl
+
+  pub value-suc : (h index z : ℕ)
+      → value C M (suc (suc h)) index z
+      ≡ nodeWords C (suc (suc h)) index z (outputBits * (4 - held 4 (levelNodes (length M) (suc h)) index)) (childWords (λ j. value C M (suc h) j 0) 4 (4 * index) (held 4 (levelNodes (length M) (suc h)) index))
+  unfolding value
+  value-suc h index z = refl
+
+  pub chain-zero : (limit : ℕ) → chain C limit M 0 ≡ replicate 16 0
+  unfolding chain
+  chain-zero limit = refl
+
+  pub chain-suc : (limit index : ℕ)
+      → chain C limit M (suc index)
+      ≡ nodeWords C (suc limit) index (digit (eqb (suc index) (sequentialNodes limit (length M)))) (sequentialPadding limit (length M) index) (chain C limit M index ++ sequentialWords C limit M index)
+  unfolding chain
+  chain-suc limit index = refl
+
+-- ---- values: 16 words each
+
+module _ (C : Common) (kLength : length (C .k) ≡ 8) where
+  module _ (M : List Bool) where
+    pub length-value : (h index z : ℕ) → length (value C M (suc h) index z) ≡ 16
+    length-value zero index z = rw (value-one C M index z) (length-nodeWords C kLength 1 index z _ _ (length-numbers 64 64 (messagePart blockBits M index)))
+    length-value (suc h) index z =
+        let n : ℕ = held 4 (levelNodes (length M) (suc h)) index in
+        rw (value-suc C M h index z)
+        (length-nodeWords C kLength (suc (suc h)) index z _ _
+        (simp (length-append, length-replicate)
+        (omega (arith, length-joinedValues (λ j. value C M (suc h) j 0) (4 * index) n (λ j. length-value h j 0)))))
+
+    pub length-sequentialWords : (limit index : ℕ) → length (sequentialWords C limit M index) ≡ 48
+    unfolding sequentialWords
+    length-sequentialWords zero index = length-numbers 64 48 (messagePart sequentialBits M index)
+    length-sequentialWords (suc h) index =
+        let n : ℕ = held 3 (levelNodes (length M) (suc h)) index in
+        simp (length-append, length-replicate)
+        (omega (arith, length-joinedValues (λ j. value C M (suc h) j 0) (3 * index) n (λ j. length-value h j 0)))
+
+    pub length-chain : (limit index : ℕ) → length (chain C limit M index) ≡ 16
+    length-chain limit zero = rw (chain-zero C M limit)
+    length-chain limit (suc index) =
+        rw (chain-suc C M limit index)
+        (length-nodeWords C kLength (suc limit) index _ _ _
+        (length-append (chain C limit M index) (sequentialWords C limit M index) ∙ omega (arith, length-chain limit index, length-sequentialWords limit index)))
+
+-- ---- values are words: numbers below 2 ^ 64
+
+sequentialPadding-le : (limit m index : ℕ) → sequentialPadding limit m index ≤ 4096
+unfolding sequentialPadding
+sequentialPadding-le zero m index = omega arith
+sequentialPadding-le (suc h) m index = omega arith
+
+module _ (C : Common) (ok : Fair C) where
+  module _ (M : List Bool) (small : length M < 2 ^ 64) where
+    pub below-value : (h index z : ℕ) → suc h < 256 → index < levelNodes (length M) (suc h) → z ≤ 1 → Below (2 ^ 64) (value C M (suc h) index z)
+    below-value zero index z g i hz =
+        rw (value-one C M index z)
+        (below-nodeWords C ok 1 index z _ _ g (omega (arith, levelNodes-le (length M) zero small)) hz (omega arith) (numbers-below 64 64 (messagePart blockBits M index)))
+    below-value (suc h) index z g i hz =
+        let c : ℕ = levelNodes (length M) (suc h) in
+        let n : ℕ = held 4 c index in
+        rw (value-suc C M h index z)
+        (below-nodeWords C ok (suc (suc h)) index z _ _ g (omega (arith, levelNodes-le (length M) (suc h) small)) hz (omega arith)
+        (below-append
+        (below-joinedValues (λ j. value C M (suc h) j 0) (4 * index) n (λ j b. below-value h (4 * index + j) 0 (omega arith) (omega arith) (omega arith)))
+        (below-zeros (2 ^ 64) (16 * (4 - n)) (omega arith))))
+
+    pub below-sequentialWords : (limit index : ℕ) → suc limit < 256 → Below (2 ^ 64) (sequentialWords C limit M index)
+    unfolding sequentialWords
+    below-sequentialWords zero index g = numbers-below 64 48 (messagePart sequentialBits M index)
+    below-sequentialWords (suc h) index g =
+        let n : ℕ = held 3 (levelNodes (length M) (suc h)) index in
+        below-append
+        (below-joinedValues (λ j. value C M (suc h) j 0) (3 * index) n (λ j b. below-value h (3 * index + j) 0 (omega arith) (omega arith) (omega arith)))
+        (below-zeros (2 ^ 64) (16 * (3 - n)) (omega arith))
+
+    pub below-chain : (limit index : ℕ) → suc limit < 256 → index ≤ 2 ^ 53 → Below (2 ^ 64) (chain C limit M index)
+    below-chain limit zero g h = rw (chain-zero C M limit) (below-zeros (2 ^ 64) 16 (omega arith))
+    below-chain limit (suc index) g h =
+        rw (chain-suc C M limit index)
+        (below-nodeWords C ok (suc limit) index _ _ _ g (omega arith) (digit-le (eqb (suc index) (sequentialNodes limit (length M)))) (sequentialPadding-le limit (length M) index)
+        (below-append (below-chain limit index g (omega arith)) (below-sequentialWords limit index g)))
