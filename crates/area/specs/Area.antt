@@ -28,6 +28,7 @@ areaLevels = mostLevels
 abbrev pub areaWords : ℕ
 areaWords = headWords + areaLevels * blockWords
 
+-- an area that is not short
 abbrev pub Long : List ℕ → Type 0
 Long area = areaWords ≤ length area
 

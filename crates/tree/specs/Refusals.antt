@@ -19,7 +19,8 @@ abbrev pub firstRefusal : List (Bool × ℕ) → ℕ
 firstRefusal [] = 0
 firstRefusal (test ∷ later) = cond (test .0) (test .1) (firstRefusal later)
 
--- what a call with that number answers: a refusal has its number, count 0 and everything as it was
+-- what a call with that number answers: what it gives if it is accepted, and otherwise what it gives for the number that refuses
+-- it; at each call the second says "count 0" and "all unchanged"
 abbrev pub answerOf : {A : Type 0} → ℕ → A → (ℕ → A) → A
 answerOf zero accepted refused = accepted
 answerOf (suc n) accepted refused = refused (suc n)
