@@ -959,7 +959,7 @@ def self_test(root):
             "a helper that is brought under the name of a definition, and whose type hides that it is one",
             [
                 ("crates/%s.antt" % helper.replace("/", "/specs/"), r"\Z", "\npub twisted : ℕ → let T : Type 0 = ℕ in T\ntwisted n = n\n"),
-                (source, r"^(ghost use Rattle.area.specs.Calls.\{.*?), logWordsOf(.*)$", "\\1\\2\nghost use Rattle.stream.specs.%s.{twisted as logWordsOf};" % helper.split("/")[1]),
+                (source, r"^(ghost use Rattle.calls.specs.Calls.\{.*?), logWordsOf(.*)$", "\\1\\2\nghost use Rattle.stream.specs.%s.{twisted as logWordsOf};" % helper.split("/")[1]),
             ],
             "%s has to be believed and %s does not list it: stream::log_words -> twisted (%s)" % (helper, PAGE, helper),
         ),

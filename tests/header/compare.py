@@ -1,4 +1,4 @@
-"""Compares include/md6.h with the exports of crates/md6_c and the struct Answer of crates/node. --self: faults must be found."""
+"""Compares include/md6.h with the exports of crates/md6_c and the struct Answer of crates/refusals. --self: faults must be found."""
 import re
 import sys
 
@@ -20,7 +20,7 @@ def exported(source):
                 c.append("uint64_t " + n)
             else:
                 c.append("unknown " + t)
-        out[name] = (c, {"u64": "uint64_t", "node::Answer": "md6_answer"}.get(result, "unknown " + result))
+        out[name] = (c, {"u64": "uint64_t", "refusals::Answer": "md6_answer"}.get(result, "unknown " + result))
     return out
 
 
@@ -33,20 +33,20 @@ def declared(header):
     return out
 
 
-def faults(header, source, node):
+def faults(header, source, answer):
     found = []
     e, d = exported(source), declared(header)
     for name in sorted(set(e) | set(d)):
         if e.get(name) != d.get(name):
             found.append("%s: the source has %s, the header %s" % (name, e.get(name), d.get(name)))
-    fields = re.findall(r"pub (\w+): u64", re.search(r"#\[repr\(C\)\]\s*pub struct Answer \{(.*?)\}", node, re.S)[1])
+    fields = re.findall(r"pub (\w+): u64", re.search(r"#\[repr\(C\)\]\s*pub struct Answer \{(.*?)\}", answer, re.S)[1])
     words = re.search(r"typedef struct \{\s*uint64_t ([^;]*);\s*\} md6_answer;", header)[1].replace(" ", "").split(",")
     if fields != words:
         found.append("md6_answer: the source has %s, the header %s" % (fields, words))
     return found, len(e)
 
 
-files = [open(p, encoding="utf-8").read() for p in ("include/md6.h", "crates/md6_c/src/lib.rt", "crates/node/src/lib.rt")]
+files = [open(p, encoding="utf-8").read() for p in ("include/md6.h", "crates/md6_c/src/lib.rt", "crates/refusals/src/lib.rt")]
 if "--self" in sys.argv:
     h, s, n = files
     wrong = [

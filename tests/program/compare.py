@@ -3,13 +3,36 @@
 they print, byte for byte: the node lines, the digest and the refusals.
 
 Edge inputs first (lines that are not read, refusals, the examples of the report), then random ones; the seed is printed.
+Then inputs that come in many reads: each piece is written to a pipe when the program has read the one before it.
 """
+import fcntl
+import os
 import random
+import struct
 import subprocess
 import sys
+import tempfile
+import termios
 
 BLOCK_EDGES = [0, 384, 512, 768, 1024, 1536, 2048, 6144, 8192, 24576, 32768, 98304, 131072]
 RANDOM_INPUTS = 1100
+RANDOM_CUTS = 150
+BUFFER = 65536
+
+# what document 01 says of these inputs
+TOLD = [
+    (b"8 64 0 -\n", b"0100000000000000 0000401100000008\n00\n"),
+    (b"", b"refused line\n"),
+    (b"\n", b"refused line\n"),
+    (b"8 64 0 -", b"refused line\n"),
+    (b"0 65 256 gg\n", b"refused line\n"),
+    (b"0 64 - -\n", b"refused 1\n"),
+    (b"513 64 - -\nabc", b"refused 1\n"),
+    (b"99999 65 256 " + b"5a" * 5000 + b"\n", b"refused 1\n"),
+    (b"8 65 256 " + b"5a" * 5000 + b"\n", b"refused 2\n"),
+    (b"8 65 256 -\n", b"refused 3\n"),
+    (b"8 64 256 -\n", b"refused 4\n"),
+]
 
 
 def line(d="256", limit="64", r="-", key="-"):
@@ -58,20 +81,109 @@ def inputs(rng):
         yield line(d, str(rng.choice([0, 1, 2, 3, 4, 5, 26, 27, 63, 64])), r, key) + rng.randbytes(size)
 
 
+def in_pieces(data, size):
+    return [data[i : i + size] for i in range(0, len(data), size)]
+
+
+def long_line(size):
+    """A first line of so many bytes, byte 10 not counted: a key of thousands of digits."""
+    return b"64 3 1 " + b"5a" * ((size - 7) // 2) + b"5" * ((size - 7) % 2)
+
+
+def cut_inputs(rng):
+    """Inputs as lists of pieces, none longer than the program's buffer: each is one read."""
+    message = rng.randbytes(1300)
+    for data, _ in TOLD:
+        for size in (1, 2, 3, 7):
+            yield in_pieces(data, size)
+    for limit in ("0", "1", "64"):
+        data = line("160", limit, "-", "00ff10") + message
+        for size in (1, 2, 3, 5, 8, 511, 512, 513):
+            yield in_pieces(data, size)
+    yield in_pieces(line("512", "2", "1") + rng.randbytes(9000), 1)
+    # byte 10 as the last byte of a read, as the first of the next, and as a read of its own
+    first = line("256", "64", "5", "a1" * 64)
+    for cut in (len(first) - 1, len(first), len(first) + 1):
+        yield [(first + message)[:cut], (first + message)[cut:]]
+    yield [first[:-1], b"\n", message]
+    yield [first[:-1], b"\n"]
+    yield [first, b"\n", b"\n" + message]
+    # first lines that end about where the buffer does
+    for size in range(BUFFER - 3, BUFFER + 4):
+        yield in_pieces(long_line(size) + b"\n" + message, BUFFER)
+    yield in_pieces(long_line(3 * BUFFER), BUFFER)
+    yield in_pieces(long_line(3 * BUFFER) + b"\n" + message, 4099)
+    # a message whose reads are full, and such that a read makes many nodes
+    for limit in ("0", "1", "64"):
+        yield in_pieces(line("8", limit, "0") + rng.randbytes(5 * BUFFER), BUFFER)
+    for _ in range(RANDOM_CUTS):
+        data = line(str(rng.randint(0, 514)), str(rng.randint(0, 65)), rng.choice(["-", "0", "2"]), rng.choice(["-", "5a" * rng.randint(0, 66)]))
+        data += rng.randbytes(rng.choice([0, 1, 511, 512, 513, 2048, 2049, 30000]))
+        cuts = sorted(rng.randint(0, len(data)) for _ in range(rng.randint(1, 12)))
+        pieces = [data[a:b] for a, b in zip([0] + cuts, cuts + [len(data)])]
+        yield [piece for piece in pieces if piece]
+
+
+def unread(fd):
+    return struct.unpack("i", fcntl.ioctl(fd, termios.FIONREAD, b"\0" * 4))[0]
+
+
+def run_cut(program, pieces):
+    """What the program prints if each piece comes to it as a read; it may stop reading after a refusal."""
+    with tempfile.TemporaryFile() as out, subprocess.Popen([program], stdin=subprocess.PIPE, stdout=out) as p:
+        fd = p.stdin.fileno()
+        try:
+            for piece in pieces:
+                if os.write(fd, piece) != len(piece):
+                    raise OSError("a piece is longer than the pipe")
+                while unread(fd) > 0 and p.poll() is None:
+                    os.sched_yield()
+        except BrokenPipeError:
+            pass
+        try:
+            p.stdin.close()
+        except BrokenPipeError:
+            pass
+        status = p.wait()
+        out.seek(0)
+        return out.read(), status
+
+
+class Tally:
+    def __init__(self):
+        self.count = self.bad = 0
+
+    def add(self, data, found, status, expected, cut=""):
+        self.count += 1
+        if found != expected or status != 0:
+            self.bad += 1
+            if self.bad <= 5:
+                print("differs on", data[:80], "of", len(data), "bytes" + cut + ":", found[:60], "for", expected[:60])
+
+
+def whole(program, data):
+    run = subprocess.run([program], input=data, capture_output=True, check=False)
+    return run.stdout, run.returncode
+
+
 def main():
     ours, second = sys.argv[1], sys.argv[2]
     seed = int(sys.argv[3]) if len(sys.argv) > 3 else random.randrange(1 << 32)
     rng = random.Random(seed)
-    count = bad = 0
+    all_at_once, in_reads = Tally(), Tally()
+    for data, expected in TOLD:
+        all_at_once.add(data, *whole(ours, data), expected)
     for data in inputs(rng):
-        count += 1
-        a, b = (subprocess.run([program], input=data, capture_output=True, check=False) for program in (ours, second))
-        if a.stdout != b.stdout or a.returncode != 0:
-            bad += 1
-            if bad <= 5:
-                print("differs on", data[:80], "of", len(data), "bytes:", a.stdout[:60], "for", b.stdout[:60])
-    print(f"seed {seed}: {count} inputs, {bad} differ")
-    sys.exit(1 if bad or count < 1500 else 0)
+        all_at_once.add(data, *whole(ours, data), whole(second, data)[0])
+    told = dict(TOLD)
+    for pieces in cut_inputs(rng):
+        data = b"".join(pieces)
+        expected = told[data] if data in told else whole(second, data)[0]
+        in_reads.add(data, *run_cut(ours, pieces), expected, f" in {len(pieces)} reads")
+    for what, tally, least in (("inputs", all_at_once, 1500), ("inputs in many reads", in_reads, 220)):
+        print(f"seed {seed}: {tally.count} {what}, {tally.bad} differ")
+        if tally.bad or tally.count < least:
+            sys.exit(1)
 
 
 if __name__ == "__main__":

@@ -23,7 +23,7 @@ getD-zeros [] (suc n) (suc i) = getD-zeros [] n i
 getD-zeros (x ∷ xs) n zero = refl
 getD-zeros (x ∷ xs) n (suc i) = getD-zeros xs n i
 
-pub byte-lt : {bytes : List ℕ} (i : ℕ) → Below 256 bytes → getD bytes i 0 < 256
+byte-lt : {bytes : List ℕ} (i : ℕ) → Below 256 bytes → getD bytes i 0 < 256
 byte-lt i none = omega arith
 byte-lt zero (more h hs) = h
 byte-lt (suc i) (more h hs) = byte-lt i hs
@@ -65,7 +65,7 @@ nine-bytes bytes j h =
 length-nine : (bytes : List ℕ) (j : ℕ) → j ≤ length bytes → length (nine bytes j) ≡ 72
 length-nine bytes j h = length-take-le 72 (drop (8 * j) (bitsOf 8 bytes ++ replicate 72 false)) (simp (length-drop, length-append, length-bitsOf, length-replicate) (omega arith))
 
-pub nine-spelt : {bytes : List ℕ} (j : ℕ) → Below 256 bytes → j ≤ length bytes → spell 0 (nine bytes j) ≡ eightFrom bytes j * 2 ^ 8 + getD bytes (j + 8) 0
+nine-spelt : {bytes : List ℕ} (j : ℕ) → Below 256 bytes → j ≤ length bytes → spell 0 (nine bytes j) ≡ eightFrom bytes j * 2 ^ 8 + getD bytes (j + 8) 0
 unfolding eightFrom
 nine-spelt {bytes} j hb h =
     let z : j + 0 ≡ j = omega arith in

@@ -7,7 +7,7 @@ use lib.Bits.{bitOr, bitAnd, or-shifted, and-mask}
 use lib.Pow.{pow-add, pow-pos, shl-exact, shl-shr, shr-shr, shr-lt, split, high, low, mod-pow-add}
 
 -- `|` of numbers that share no bit
-pub or-add : (x k y : ℕ) → x % 2 ^ k ≡ 0 → y < 2 ^ k → bitOr x y ≡ x + y
+or-add : (x k y : ℕ) → x % 2 ^ k ≡ 0 → y < 2 ^ k → bitOr x y ≡ x + y
 or-add x k y e h =
     let s : x ≡ x / 2 ^ k * 2 ^ k = omega (arith, split x k) in
     ap (λ (z : ℕ). bitOr z y) s ∙ or-shifted (x / 2 ^ k) k y h ∙ omega arith
@@ -43,7 +43,7 @@ shifted-in m u w n b k l e h =
     rw (whole, s, left, right) (or-shifted (w % 2 ^ j) b q lq)
 
 -- two numbers side by side
-pub beside-lt : (s n : ℕ) {x v : ℕ} → x < 2 ^ s → v < 2 ^ n → x * 2 ^ n + v < 2 ^ (s + n)
+beside-lt : (s n : ℕ) {x v : ℕ} → x < 2 ^ s → v < 2 ^ n → x * 2 ^ n + v < 2 ^ (s + n)
 beside-lt s n {x} {v} hx hv = rw (pow-add 2 s n) (omega (arith, mul-le-mul-right (2 ^ n) hx, suc-mul x (2 ^ n)))
 
 -- the mask of n bits

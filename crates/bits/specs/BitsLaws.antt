@@ -89,7 +89,7 @@ digit-inj m n true false h = absurd (omega arith)
 digit-inj m n false true h = absurd (omega arith)
 digit-inj m n false false h = (omega arith, refl)
 
-pub spell-inj : (m n : ℕ) (xs ys : List Bool) → length xs ≡ length ys → spell m xs ≡ spell n ys → (m ≡ n) × (xs ≡ ys)
+spell-inj : (m n : ℕ) (xs ys : List Bool) → length xs ≡ length ys → spell m xs ≡ spell n ys → (m ≡ n) × (xs ≡ ys)
 spell-inj m n [] [] h e = (e, refl)
 spell-inj m n [] (y ∷ ys) h e = absurd (omega arith)
 spell-inj m n (x ∷ xs) [] h e = absurd (omega arith)
@@ -105,7 +105,7 @@ bits-spell k bs h =
     let b : spell 0 bs < 2 ^ k = rw h at (spell-lt bs) in
     spell-inj 0 0 (bits k (spell 0 bs)) bs (length-bits k (spell 0 bs) ∙ sym h) (spell-bits k 0 (spell 0 bs) ∙ omega (arith, mod-eq-of-lt b)) .1
 
-pub bits-inj : (k m n : ℕ) → bits k m ≡ bits k n → m % 2 ^ k ≡ n % 2 ^ k
+bits-inj : (k m n : ℕ) → bits k m ≡ bits k n → m % 2 ^ k ≡ n % 2 ^ k
 bits-inj k m n e = omega (arith, spell-bits k 0 m, spell-bits k 0 n, ap (spell 0) e)
 
 -- the high bits and the low bits
@@ -117,7 +117,7 @@ bits-split (suc j) k w =
     let q : w / 2 ^ k / 2 ^ j ≡ w / 2 ^ (j + k) = rw c (shr-shr w k j) in
     rw (e, q) (cons-eq refl (bits-split j k w))
 
-pub bits-zero : (k : ℕ) → bits k 0 ≡ replicate k false
+bits-zero : (k : ℕ) → bits k 0 ≡ replicate k false
 bits-zero zero = refl
 bits-zero (suc k) =
     rw (zero-div (2 ^ k)) (cons-eq refl (bits-zero k))

@@ -6,15 +6,16 @@ use Prim.Native.Nat.{ℕ, zero, suc, _+_, _-_, _*_, _^_, _≤_, _<_}
 use native.Mathlib.Omega.{arith}
 use lib.Dec.{ltb}
 use lib.ListN.{length, replicate}
-use lib.Seq.{sets, length-sets}
+use lib.Seq.{length-sets}
 use borrow.Author.Tests.{ltb-true, ltb-false}
-use Rattle.node.specs.declared.Params as declared
+use Rattle.refusals.specs.declared.Params as declared
 use Rattle.tree.specs.Tree.{Params, Node, node, blockBits, sequentialBits}
-use Rattle.area.specs.Area.{areaWords, levelWords, levelsFrom, levelsOf, withLevels, emptyLevel, doneBlocks}
-use Rattle.area.specs.Calls.{Made, outWords, chained, receive, nodeLog}
-use Rattle.area.specs.Widths.{length-chained}
-use Rattle.climb.specs.Levels.{withLevel, Level, with-up, up-step, up-level, other-with, length-with, length-empty, first-level, levels-split}
-use Rattle.climb.specs.MakeLaws.{paramsFrom, Ready, Logged}
+use Rattle.calls.specs.Area.{blockWords, outputWords, Long, levelWords, levelsUp, levelsOf, emptyLevel, doneBlocks}
+use Rattle.calls.specs.Calls.{Made, outWords, chained, receive, nodeLog}
+use Rattle.calls.specs.Widths.{length-chained}
+use Rattle.climb.specs.Levels.{withLevel, Level, up-step, up-level, other-up, length-with, length-empty, first-level, levels-split}
+use Rattle.node.specs.Words.{paramsFrom, Ready}
+use Rattle.climb.specs.MakeLaws.{Logged}
 use Rattle.climb.specs.ReceiveLaws.{made, received, Climbed, Coming, length-outWords, log-more}
 
 -- level 1 is full, and a later bit has come: its node is made and its output goes up
@@ -31,7 +32,7 @@ flushed P (suc n) T (ws ∷ up) =
 -- what the code needs to flush level 1
 pub record Flushing (key : List ℕ) (params : declared.Params) (table : List ℕ) (T : ℕ) (area log : List ℕ) (at : ℕ) : Type 0 where
   pub ready : Ready key params table
-  pub long : areaWords ≤ length area
+  pub long : Long area
   pub room : at + 2 * length (flushed (paramsFrom key params) (params .limit) T (levelsOf area) .nodes) ≤ length log
 
 -- ---- level 1 is flushed
@@ -43,20 +44,12 @@ lt-at e f h = omega arith
 pub le-at : {a b a′ b′ : ℕ} → a ≡ a′ → b ≡ b′ → a ≤ b → a′ ≤ b′
 le-at e f h = omega arith
 
--- what the code leaves, for nodes and levels that a definition gives
-abbrev pub Leaves : Made → List ℕ → List ℕ → ℕ → List ℕ → List ℕ → ℕ → Type 0
-Leaves F area log at area′ log′ at′ =
-    (area′ ≡ withLevels area (F .levels)) × (log′ ≡ sets log at (nodeLog (F .nodes))) × (at′ ≡ at + 2 * length (F .nodes))
-
-pub leaves : {F : Made} {area log : List ℕ} {at : ℕ} {area′ log′ : List ℕ} {at′ : ℕ} → Climbed 1 F area log at area′ log′ at′ → Leaves F area log at area′ log′ at′
-leaves {F} {area} c = (c .levels ∙ sym (with-up area (F .levels)), c .logged, c .next)
-
 -- level 1 is sequential, or its output goes up
 module _ (P : Params) (T : ℕ) (area : List ℕ) where
   abbrev firstNode : ℕ → Node
   firstNode size = node P 1 (doneBlocks size T) 0 0 (levelWords area 1)
 
-  flushed-none : (limit : ℕ) → limit < 1 → flushed P limit T (levelsOf area) ≡ made (chained P (firstNode sequentialBits) ∷ levelsFrom area 26 2) (firstNode sequentialBits ∷ [])
+  flushed-none : (limit : ℕ) → limit < 1 → flushed P limit T (levelsOf area) ≡ made (chained P (firstNode sequentialBits) ∷ levelsUp area 2) (firstNode sequentialBits ∷ [])
   flushed-none zero h = rw (levels-split area)
   flushed-none (suc n) h = absurd (omega arith)
 
@@ -87,7 +80,7 @@ module _ {key : List ℕ} {params : declared.Params} {table : List ℕ} {T : ℕ
 
   pub flush-chained : {done : ℕ} {out log′ area′ : List ℕ} → limit < 1 → done ≡ doneBlocks sequentialBits T
       → Logged P (node P 1 done 0 0 (levelWords area 1) ∷ []) log at out log′
-      → area′ ≡ withLevel area 1 (out ++ replicate 48 0)
+      → area′ ≡ withLevel area 1 (out ++ replicate (blockWords - outputWords) 0)
       → Climbed 1 (flushed P limit T (levelsOf area)) area log at area′ log′ (at + 2)
   flush-chained h d m₁ ea =
       let n = firstNode P T area sequentialBits in
@@ -104,7 +97,7 @@ module _ {key : List ℕ} {params : declared.Params} {table : List ℕ} {T : ℕ
     m = rw d at m₁
 
     above-is : received P (limit - 1) 2 done out area₁ ≡ above P T area limit
-    above-is = rw (m .words, d, e₁, other-with first emptyLevel length-empty 26 2 (omega arith)) refl
+    above-is = rw (m .words, d, e₁, other-up first emptyLevel length-empty) refl
 
     pub flush-coming : done < 2 ^ 56 → Coming key params table (limit - 1) 2 done out area₁ log₁ (at + 2)
     flush-coming small = record {

@@ -7,19 +7,19 @@ use lib.ListN.{length, getD, length-take, length-drop}
 use borrow.Author.Tests.{eqb-true}
 use Rattle.lists.specs.Below.{Below}
 use Rattle.compress.specs.Compress.{RoundTable}
-use Rattle.node.specs.declared.Params as declared
-use Rattle.tree.specs.Tree.{Params}
-use Rattle.tree.specs.Refusals.{firstRefusal, paramTests}
-use Rattle.tree.specs.RefusalLaws.{InRange, in-range}
-use Rattle.area.specs.Area.{phaseOf, totalOf, kOf, compressionsOf, paramsOf, openCount, countFor}
-pub use Rattle.area.specs.CallLaws.{OpenArea}
-use Rattle.area.specs.Moved.{sound-tests, sound-key}
-use Rattle.sound.specs.SoundLaws.{refused-words, count-open}
-use Rattle.climb.specs.MakeLaws.{paramsFrom, Ready}
+use Rattle.refusals.specs.declared.Params as declared
+use Rattle.tree.specs.Tree.{mostRounds}
+use Rattle.refusals.specs.Refusals.{firstRefusal, paramTests}
+use Rattle.refusals.specs.RefusalLaws.{InRange, in-range}
+use Rattle.calls.specs.Area.{phaseOf, totalOf, kOf, compressionsOf, paramsOf, openCount, countFor}
+pub use Rattle.calls.specs.CallLaws.{OpenArea}
+use Rattle.calls.specs.Moved.{sound-tests, sound-key}
+use Rattle.area.specs.SoundLaws.{refused-words, count-open}
+use Rattle.node.specs.Words.{paramsFrom, Ready}
 
 -- the parameters as the code reads them
 abbrev pub numbered : List ℕ → declared.Params
-numbered area = record { key = getD area 2 0; d = getD area 3 0; limit = getD area 4 0; rounds = getD area 5 0 }
+numbered area = record { keylen = getD area 2 0; d = getD area 3 0; limit = getD area 4 0; rounds = getD area 5 0 }
 
 pub params-read : (area : List ℕ) → paramsFrom (kOf area) (numbered area) ≡ paramsOf area
 unfolding paramsFrom paramsOf
@@ -49,7 +49,7 @@ module _ {area : List ℕ} (o : OpenArea area) where
   length-keyOf = simp (length-take, length-drop) (omega (arith, o .long))
 
   -- a node can be made
-  pub open-ready : (table : List ℕ) → Below (2 ^ 64) area → RoundTable table → 255 ≤ length table → Ready (kOf area) (numbered area) table
+  pub open-ready : (table : List ℕ) → Below (2 ^ 64) area → RoundTable table → mostRounds ≤ length table → Ready (kOf area) (numbered area) table
   unfolding paramsFrom paramsOf
   open-ready table b r h = record {
     range = open-range;

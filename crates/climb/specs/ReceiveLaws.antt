@@ -8,28 +8,27 @@ use lib.Seq.{sets, length-sets}
 use borrow.Author.Tests.{eq-eqb, ne-eqb}
 use Rattle.lists.specs.Part.{put}
 use Rattle.lists.specs.PartLaws.{first-stores}
-use Rattle.area.specs.CallLaws.{length-nodeLog}
+use Rattle.calls.specs.CallLaws.{length-nodeLog}
 use Rattle.tree.specs.Tree.{Params, Node, node}
-use Rattle.area.specs.Area.{areaWords, levelWords, levelsFrom, emptyLevel}
-use Rattle.area.specs.Calls.{Made, outWords, chained, joinParallel, joinSequential, receive, nodeLog, logged}
-use Rattle.area.specs.Receive
-use Rattle.area.specs.Widths.{length-chained}
-pub use Rattle.area.specs.Widths.{length-outWords}
-use Rattle.node.specs.declared.Params as declared
-use Rattle.climb.specs.Levels.{length-empty, withLevel, upArea, Level, levels-cons, up-step, up-level, up-same, other-with, level-with, with-with, length-with, length-level, length-joined}
-use Rattle.climb.specs.MakeLaws.{paramsFrom, Ready, Logged}
+use Rattle.calls.specs.Area.{areaLevels, blockWords, outputWords, Long, levelWords, levelsUp, emptyLevel}
+use Rattle.calls.specs.AreaLaws.{length-levelWords, levelsUp-cons, levelsUp-none}
+use Rattle.calls.specs.Calls.{Made, outWords, chained, joinParallel, joinSequential, receive, nodeLog, logged}
+use Rattle.calls.specs.Receive
+use Rattle.calls.specs.Widths.{length-chained}
+pub use Rattle.calls.specs.Widths.{length-outWords}
+use Rattle.refusals.specs.declared.Params as declared
+use Rattle.climb.specs.Levels.{length-empty, withLevel, upArea, Level, up-step, up-level, up-same, other-up, level-with, with-with, length-with, length-joined}
+use Rattle.node.specs.Words.{paramsFrom, Ready}
+use Rattle.climb.specs.MakeLaws.{Logged}
 
 abbrev pub made : List (List ℕ) → List Node → Made
 made levels nodes = record { levels = levels; nodes = nodes }
 
 -- what comes of an output at a level of an area and above it
 abbrev pub received : Params → ℕ → ℕ → ℕ → List ℕ → List ℕ → Made
-received P n k i out area = receive P n k i out (levelsFrom area (28 - k) k)
+received P n k i out area = receive P n k i out (levelsUp area k)
 
-abbrev pub aboveLevels : List ℕ → ℕ → List (List ℕ)
-aboveLevels area k = levelsFrom area (28 - (k + 1)) (k + 1)
-
-module _ (P : Params) (n k i : ℕ) (out area : List ℕ) (high : k ≤ 27) where
+module _ (P : Params) (n k i : ℕ) (out area : List ℕ) (high : k ≤ areaLevels) where
   -- the node of a parallel level whose block is full
   abbrev pub fullNode : Node
   fullNode = node P k (i / 4) 0 0 (joinParallel i out (levelWords area k))
@@ -38,29 +37,29 @@ module _ (P : Params) (n k i : ℕ) (out area : List ℕ) (high : k ≤ 27) wher
   lastNode = node P k (i / 3) 0 0 (joinSequential i out (levelWords area k))
 
   received-full : 1 ≤ n → i % 4 ≡ 3
-      → received P n k i out area ≡ (let above : Made = receive P (n - 1) (k + 1) (i / 4) (outWords P fullNode) (aboveLevels area k) in made (emptyLevel ∷ above .levels) (fullNode ∷ above .nodes))
+      → received P n k i out area ≡ (let above : Made = receive P (n - 1) (k + 1) (i / 4) (outWords P fullNode) (levelsUp area (k + 1)) in made (emptyLevel ∷ above .levels) (fullNode ∷ above .nodes))
   received-full h e = by n h
     where
       by : (n : ℕ) → 1 ≤ n
-          → received P n k i out area ≡ (let above : Made = receive P (n - 1) (k + 1) (i / 4) (outWords P fullNode) (aboveLevels area k) in made (emptyLevel ∷ above .levels) (fullNode ∷ above .nodes))
+          → received P n k i out area ≡ (let above : Made = receive P (n - 1) (k + 1) (i / 4) (outWords P fullNode) (levelsUp area (k + 1)) in made (emptyLevel ∷ above .levels) (fullNode ∷ above .nodes))
       by zero h = absurd (omega arith)
       by (suc n) h =
           let f : suc n - 1 ≡ n = omega arith in
           let q : k + 1 ≡ suc k = omega arith in
-          rw (levels-cons area k high, f, q) (Receive.par-yes P n k i out (levelWords area k) (levelsFrom area (28 - suc k) (suc k)) (eq-eqb (i % 4) 3 e))
+          rw (levelsUp-cons area k high, f, q) (Receive.par-yes P n k i out (levelWords area k) (levelsUp area (suc k)) (eq-eqb (i % 4) 3 e))
 
-  received-part : 1 ≤ n → (i % 4 ≡ 3 → ⊥) → received P n k i out area ≡ made (joinParallel i out (levelWords area k) ∷ aboveLevels area k) []
+  received-part : 1 ≤ n → (i % 4 ≡ 3 → ⊥) → received P n k i out area ≡ made (joinParallel i out (levelWords area k) ∷ levelsUp area (k + 1)) []
   received-part h e = by n h
     where
-      by : (n : ℕ) → 1 ≤ n → received P n k i out area ≡ made (joinParallel i out (levelWords area k) ∷ aboveLevels area k) []
+      by : (n : ℕ) → 1 ≤ n → received P n k i out area ≡ made (joinParallel i out (levelWords area k) ∷ levelsUp area (k + 1)) []
       by zero h = absurd (omega arith)
-      by (suc n) h = rw (levels-cons area k high) (Receive.par-no P n k i out (levelWords area k) (aboveLevels area k) (ne-eqb (i % 4) 3 e))
+      by (suc n) h = rw (levelsUp-cons area k high) (Receive.par-no P n k i out (levelWords area k) (levelsUp area (k + 1)) (ne-eqb (i % 4) 3 e))
 
-  received-chained : i % 3 ≡ 2 → received P 0 k i out area ≡ made (chained P lastNode ∷ aboveLevels area k) (lastNode ∷ [])
-  received-chained e = rw (levels-cons area k high) (Receive.seq-yes P k i out (levelWords area k) (aboveLevels area k) (eq-eqb (i % 3) 2 e))
+  received-chained : i % 3 ≡ 2 → received P 0 k i out area ≡ made (chained P lastNode ∷ levelsUp area (k + 1)) (lastNode ∷ [])
+  received-chained e = rw (levelsUp-cons area k high) (Receive.seq-yes P k i out (levelWords area k) (levelsUp area (k + 1)) (eq-eqb (i % 3) 2 e))
 
-  received-held : (i % 3 ≡ 2 → ⊥) → received P 0 k i out area ≡ made (joinSequential i out (levelWords area k) ∷ aboveLevels area k) []
-  received-held e = rw (levels-cons area k high) (Receive.seq-no P k i out (levelWords area k) (aboveLevels area k) (ne-eqb (i % 3) 2 e))
+  received-held : (i % 3 ≡ 2 → ⊥) → received P 0 k i out area ≡ made (joinSequential i out (levelWords area k) ∷ levelsUp area (k + 1)) []
+  received-held e = rw (levelsUp-cons area k high) (Receive.seq-no P k i out (levelWords area k) (levelsUp area (k + 1)) (ne-eqb (i % 3) 2 e))
 
 -- ---- the log
 
@@ -87,16 +86,16 @@ pub record Coming (key : List ℕ) (params : declared.Params) (table : List ℕ)
   pub ready : Ready key params table
   pub level : Level area k
   pub small : i < 2 ^ 56
-  pub words : length out ≡ 16
+  pub words : length out ≡ outputWords
   pub room : at + 2 * length (received (paramsFrom key params) n k i out area .nodes) ≤ length log
 
 -- an output joined to a level's block: the block's node is made, and other words are put into the level
-module _ {area : List ℕ} {k : ℕ} (l : Level area k) (place : ℕ) (out : List ℕ) (words : length out ≡ 16) (h : place + 16 ≤ 64) where
+module _ {area : List ℕ} {k : ℕ} (l : Level area k) (place : ℕ) (out : List ℕ) (words : length out ≡ outputWords) (h : place + outputWords ≤ blockWords) where
   abbrev block : List ℕ
-  block = put place 16 (levelWords area k) out
+  block = put place outputWords (levelWords area k) out
 
-  joined-size : length block ≡ 64
-  joined-size = length-joined place (levelWords area k) out (length-level area k (l .long) (l .low) (l .high)) words h
+  joined-size : length block ≡ blockWords
+  joined-size = length-joined place (levelWords area k) out (length-levelWords area k (l .long) (l .high)) words h
 
   module _ {area₁ : List ℕ} (e : area₁ ≡ withLevel area k block) where
     joined-made : {P : Params} (j : ℕ) {log : List ℕ} {at : ℕ} {out′ log′ : List ℕ}
@@ -113,24 +112,24 @@ module _ {key : List ℕ} {params : declared.Params} {table : List ℕ} {k i : �
   P = paramsFrom key params
 
   abbrev place : ℕ
-  place = 16 + 16 * (i % 3)
+  place = outputWords + outputWords * (i % 3)
 
-  module _ {area₁ : List ℕ} (ea : area₁ ≡ withLevel area k (put place 16 (levelWords area k) out)) where
+  module _ {area₁ : List ℕ} (ea : area₁ ≡ withLevel area k (put place outputWords (levelWords area k) out)) where
     pub last-held : (i % 3 ≡ 2 → ⊥) → Climbed k (received P 0 k i out area) area log at area₁ log at
     last-held e = rw (received-held P 0 k i out area (c .level .high) e) record {
-      levels = ea ∙ up-level (c .level) (put place 16 (levelWords area k) out) (joined-size (c .level) place out (c .words) (omega arith));
+      levels = ea ∙ up-level (c .level) (put place outputWords (levelWords area k) out) (joined-size (c .level) place out (c .words) (omega arith));
       logged = refl;
       next = omega arith;
     }
 
     pub last-chained : {out′ log′ area′ : List ℕ} → i % 3 ≡ 2 → Logged P (node P k (i / 3) 0 0 (levelWords area₁ k) ∷ []) log at out′ log′
-        → area′ ≡ withLevel area₁ k (out′ ++ replicate 48 0)
+        → area′ ≡ withLevel area₁ k (out′ ++ replicate (blockWords - outputWords) 0)
         → Climbed k (received P 0 k i out area) area log at area′ log′ (at + 2)
     last-chained {out′} e m₁ ez =
         let m = joined-made (c .level) place out (c .words) (omega arith) ea (i / 3) m₁ in
         let full = lastNode P 0 k i out area (c .level .high) in
         rw (received-chained P 0 k i out area (c .level .high) e) record {
-          levels = joined-other (c .level) place out (c .words) (omega arith) ea (out′ ++ replicate 48 0) ez ∙ rw (m .words) (up-level (c .level) (chained P full) (length-chained P full));
+          levels = joined-other (c .level) place out (c .words) (omega arith) ea (out′ ++ replicate (blockWords - outputWords) 0) ez ∙ rw (m .words) (up-level (c .level) (chained P full) (length-chained P full));
           logged = m .logged;
           next = refl;
         }
@@ -143,15 +142,15 @@ module _ {key : List ℕ} {params : declared.Params} {table : List ℕ} {k i : �
 -- what is left to do, from the level that the loop has reached, is what there was to do at level 2
 pub record Climb (P : Params) (all : Made) (area₀ log₀ : List ℕ) (at₀ n k i : ℕ) (out area log : List ℕ) (at : ℕ) : Type 0 where
   pub low : 2 ≤ k
-  pub high : k ≤ 28
+  pub high : k ≤ areaLevels + 1
   pub small : i < 2 ^ 56
-  pub words : length out ≡ 16
-  pub long : areaWords ≤ length area
+  pub words : length out ≡ outputWords
+  pub long : Long area
   pub area-length : length area ≡ length area₀
   pub log-length : length log ≡ length log₀
-  pub area-same : upArea area k (received P n k i out area .levels) ≡ upArea area₀ 2 (all .levels)
+  area-same : upArea area k (received P n k i out area .levels) ≡ upArea area₀ 2 (all .levels)
   pub log-same : sets log at (nodeLog (received P n k i out area .nodes)) ≡ sets log₀ at₀ (nodeLog (all .nodes))
-  pub count-same : at + 2 * length (received P n k i out area .nodes) ≡ at₀ + 2 * length (all .nodes)
+  count-same : at + 2 * length (received P n k i out area .nodes) ≡ at₀ + 2 * length (all .nodes)
   pub room : at + 2 * length (received P n k i out area .nodes) ≤ length log
 
 pub climb-start : {key : List ℕ} {params : declared.Params} {table : List ℕ} {n i : ℕ} {out area log : List ℕ} {at : ℕ} (c : Coming key params table n 2 i out area log at)
@@ -172,7 +171,7 @@ climb-start c = record {
 
 module _ {P : Params} {all : Made} {area₀ log₀ : List ℕ} {at₀ n k i : ℕ} {out area log : List ℕ} {at : ℕ}
     (c : Climb P all area₀ log₀ at₀ n k i out area log at) where
-  pub climb-level : k ≤ 27 → Level area k
+  climb-level : k ≤ areaLevels → Level area k
   climb-level h = record { long = c .long; low = omega (arith, c .low); high = h }
 
   -- what is left of the output where the loop is, is what is left of all
@@ -180,10 +179,9 @@ module _ {P : Params} {all : Made} {area₀ log₀ : List ℕ} {at₀ n k i : �
   climb-end d = record { levels = d .levels ∙ c .area-same; logged = d .logged ∙ c .log-same; next = d .next ∙ c .count-same }
 
   -- no level is left
-  pub climb-none : 28 ≤ k → Climbed 2 all area₀ log₀ at₀ area log at
+  pub climb-none : areaLevels < k → Climbed 2 all area₀ log₀ at₀ area log at
   climb-none h =
-      let z : 28 - k ≡ 0 = omega arith in
-      let nil : levelsFrom area (28 - k) k ≡ [] = rw z refl in
+      let nil = levelsUp-none area k h in
       climb-end (rw (nil, Receive.receive-none P n k i out) record {
         levels = sym (up-same area k (omega (arith, c .low)) (c .high)) ∙ ap (upArea area k) nil;
         logged = refl;
@@ -195,13 +193,13 @@ module _ {P : Params} {all : Made} {area₀ log₀ : List ℕ} {at₀ n k i : �
   climb-zero h = let z : n ≡ 0 = omega arith in rw z at c
 
   -- an output that a parallel level takes
-  module _ (some : 1 ≤ n) (high : k ≤ 27) {area₁ : List ℕ} (ea : area₁ ≡ withLevel area k (joinParallel i out (levelWords area k))) where
+  module _ (some : 1 ≤ n) (high : k ≤ areaLevels) {area₁ : List ℕ} (ea : area₁ ≡ withLevel area k (joinParallel i out (levelWords area k))) where
     -- it is kept if the level's block is not full then
     pub climb-part : (i % 4 ≡ 3 → ⊥) → Climbed 2 all area₀ log₀ at₀ area₁ log at
     climb-part e =
         let l = climb-level high in
         climb-end (rw (received-part P n k i out area high some e) record {
-          levels = ea ∙ up-level l (joinParallel i out (levelWords area k)) (joined-size l (16 * (i % 4)) out (c .words) (omega arith));
+          levels = ea ∙ up-level l (joinParallel i out (levelWords area k)) (joined-size l (outputWords * (i % 4)) out (c .words) (omega arith));
           logged = refl;
           next = omega arith;
         })
@@ -212,15 +210,15 @@ module _ {P : Params} {all : Made} {area₀ log₀ : List ℕ} {at₀ n k i : �
         → Climb P all area₀ log₀ at₀ (n - 1) (k + 1) (i / 4) out′ area′ log′ (at + 2)
     climb-more {out′} {log′} {area′} e m₁ ez =
         let l = climb-level high in
-        let m = joined-made l (16 * (i % 4)) out (c .words) (omega arith) ea (i / 4) m₁ in
-        let a = joined-other l (16 * (i % 4)) out (c .words) (omega arith) ea emptyLevel ez in
+        let m = joined-made l (outputWords * (i % 4)) out (c .words) (omega arith) ea (i / 4) m₁ in
+        let a = joined-other l (outputWords * (i % 4)) out (c .words) (omega arith) ea emptyLevel ez in
         let f : Node = fullNode P n k i out area high in
-        let above : Made = receive P (n - 1) (k + 1) (i / 4) (outWords P f) (aboveLevels area k) in
+        let above : Made = receive P (n - 1) (k + 1) (i / 4) (outWords P f) (levelsUp area (k + 1)) in
         let full = received-full P n k i out area high some e in
         let la = length-with l emptyLevel length-empty in
         let ll = length-sets log at (nodeLog (f ∷ [])) in
         let next : received P (n - 1) (k + 1) (i / 4) out′ area′ ≡ above =
-        rw (m .words, a, other-with l emptyLevel length-empty (28 - (k + 1)) (k + 1) (omega arith)) refl in
+        rw (m .words, a, other-up l emptyLevel length-empty) refl in
         let count = ap (λ (x : Made). at + 2 * length (x .nodes)) full in
         record {
           low = omega (arith, c .low);
@@ -237,11 +235,11 @@ module _ {P : Params} {all : Made} {area₀ log₀ : List ℕ} {at₀ n k i : �
         }
 
   -- the log has room for the node of a full level
-  pub climb-room : 1 ≤ n → k ≤ 27 → i % 4 ≡ 3 → at + 2 ≤ length log
+  pub climb-room : 1 ≤ n → k ≤ areaLevels → i % 4 ≡ 3 → at + 2 ≤ length log
   climb-room some high e = omega (arith, ap (λ (x : Made). at + 2 * length (x .nodes)) (received-full P n k i out area high some e), c .room)
 
 -- the loop is at the sequential level, where the output can come
 pub climb-coming : {key : List ℕ} {params : declared.Params} {table : List ℕ} {all : Made} {area₀ log₀ : List ℕ} {at₀ n k i : ℕ} {out area log : List ℕ} {at : ℕ}
-    → Ready key params table → Climb (paramsFrom key params) all area₀ log₀ at₀ n k i out area log at → n < 1 → k ≤ 27
+    → Ready key params table → Climb (paramsFrom key params) all area₀ log₀ at₀ n k i out area log at → n < 1 → k ≤ areaLevels
     → Coming key params table 0 k i out area log at
 climb-coming r c h high = let z = climb-zero c h in record { ready = r; level = climb-level c high; small = c .small; words = c .words; room = z .room }

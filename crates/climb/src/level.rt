@@ -1,16 +1,18 @@
 // A level's own part of an area: its block made into a node, an output given to it, and the part cleared.
 ghost use mathlib.Core.Path.{_≡_};
 ghost use mathlib.Core.List.{_∷_, [], _++_};
-ghost use Prim.Native.Nat.{_+_, _≤_, _<_, _^_};
+ghost use Prim.Native.Nat.{_+_, _-_, _≤_, _<_, _^_};
 ghost use lib.ListN.{length, replicate};
 ghost use Rattle.lists.specs.Part.{put};
 ghost use Rattle.tree.specs.Tree.{node};
-ghost use Rattle.area.specs.Area.{levelWords, emptyLevel};
+ghost use Rattle.calls.specs.Area.{blockWords, outputWords, levelWords, emptyLevel};
 ghost use Rattle.climb.specs.Levels.{withLevel, Level};
-ghost use Rattle.climb.specs.MakeLaws.{paramsFrom, Ready, Logged};
+ghost use Rattle.node.specs.Words.{paramsFrom, Ready};
+ghost use Rattle.climb.specs.MakeLaws.{Logged};
 use super::make_node;
-use node::Params;
-use sound::Area;
+use area::Area;
+use node::Place;
+use refusals::Params;
 
 // Makes the node of a level's block, which is full.
 pub fn make_level(
@@ -27,26 +29,20 @@ pub fn make_level(
     requires { ⌜ Level (now area) level × (index < 2 ^ 56) × (at + 2 ≤ length (now log)) ⌝ }
     ensures { λ r. ⌜ Logged (paramsFrom (now (key .entry)) params) (node (paramsFrom (now (key .entry)) params) level index 0 0 (levelWords (now (area .entry)) level) ∷ []) (now (log .entry)) at r (now (log .exit)) ⌝ }
 {
-    let a = Area::HEAD + Area::LEVEL * (level - 1);
-    let e = a + Area::LEVEL;
-    make_node(
-        params,
-        key,
-        table,
-        level as u64,
+    let part = Area::level(area, level);
+    let place = Place {
+        level: level as u64,
         index,
-        0,
-        0,
-        &area[a..e],
-        log,
-        at,
-    )
+        z: 0,
+        p: 0,
+    };
+    make_node(params, key, table, place, part, log, at)
 }
 
 // Gives an output to a level, at a place of the level's own part of the area.
 pub fn join(area: &mut [u64], level: usize, place: usize, out: &[u64])
-    requires { ⌜ Level (now area) level × (place + 16 ≤ 64) × (length (now out) ≡ 16) ⌝ }
-    ensures { λ _. ⌜ now (area .exit) ≡ withLevel (now (area .entry)) level (put place 16 (levelWords (now (area .entry)) level) (now (out .entry))) ⌝ }
+    requires { ⌜ Level (now area) level × (place + outputWords ≤ blockWords) × (length (now out) ≡ outputWords) ⌝ }
+    ensures { λ _. ⌜ now (area .exit) ≡ withLevel (now (area .entry)) level (put place outputWords (levelWords (now (area .entry)) level) (now (out .entry))) ⌝ }
 {
     let a = Area::HEAD + Area::LEVEL * (level - 1);
     let e = a + Area::LEVEL;
@@ -65,8 +61,8 @@ pub fn clear_level(area: &mut [u64], level: usize)
 
 // Clears a sequential level and keeps its last output in front.
 pub fn chain_level(area: &mut [u64], level: usize, out: &[u64])
-    requires { ⌜ Level (now area) level × (length (now out) ≡ 16) ⌝ }
-    ensures { λ _. ⌜ now (area .exit) ≡ withLevel (now (area .entry)) level (now (out .entry) ++ replicate 48 0) ⌝ }
+    requires { ⌜ Level (now area) level × (length (now out) ≡ outputWords) ⌝ }
+    ensures { λ _. ⌜ now (area .exit) ≡ withLevel (now (area .entry)) level (now (out .entry) ++ replicate (blockWords - outputWords) 0) ⌝ }
 {
     clear_level(&mut *area, level);
     join(&mut *area, level, 0, out);

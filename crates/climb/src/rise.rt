@@ -1,12 +1,9 @@
 // How an output goes up: it is given to a level, and a level whose block is full then is compressed.
-ghost use Rattle.climb.specs.MakeLaws.{paramsFrom};
+ghost use Rattle.node.specs.Words.{paramsFrom};
 ghost use Rattle.climb.specs.ReceiveLaws.{received, Coming, Climbed};
 use super::level;
-use node::Params;
-use sound::Area;
-
-// The levels of an area.
-const LEVELS: usize = Params::LEVELS as usize;
+use area::Area;
+use refusals::Params;
 
 // An output comes to the sequential level: it is given to the level, which is compressed if its block is full then.
 fn receive_last(
@@ -54,7 +51,7 @@ pub fn receive(
     let mut out = first;
     let mut at = start;
     let mut k: usize = 2;
-    while k <= LEVELS {
+    while k <= Area::LEVELS {
         if n < 1 {
             return receive_last(area, params, key, table, k, i, &out, log, at);
         }

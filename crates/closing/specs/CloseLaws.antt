@@ -7,19 +7,21 @@ use Prim.Native.Nat.{ℕ, zero, suc, _+_, _-_, _*_, _/_, _%_, _^_, _≤_, _<_}
 use native.Mathlib.Nat.{pow-succ'}
 use native.Mathlib.Omega.{arith}
 use lib.Dec.{eqb, ltb}
-use lib.ListN.{length, take, drop, getD, replicate}
+use lib.ListN.{length, getD, replicate}
 use lib.Seq.{paste, sets, length-sets}
 use borrow.Author.Tests.{eq-eqb, ne-eqb, lt-ltb, le-ltb, ltb-true, ltb-false}
 use Rattle.lists.specs.Part.{put}
-use Rattle.tree.specs.Tree.{Params, Node, blockBits, sequentialBits, node, lastOr, noNode}
-use Rattle.area.specs.Area.{areaWords, totalOf, kOf, paramsOf, levelWords, levelsFrom, levelsOf, doneBlocks, heldBits}
-use Rattle.area.specs.Calls.{outWords, joinParallel, joinSequential, closeAbove, closing, closedBy, nodeLog}
-use Rattle.area.specs.Machine
-use Rattle.area.specs.Close
-use Rattle.sound.specs.SoundLaws.{lent-level}
-use Rattle.node.specs.declared.Params as declared
-use Rattle.climb.specs.Levels.{levelStart, Level, paste-put, levels-cons, length-level, levels-split}
-use Rattle.climb.specs.MakeLaws.{paramsFrom, Ready, Logged}
+use Rattle.tree.specs.Tree.{Params, Node, blockBits, sequentialBits, outputBits, node, lastOr, noNode}
+use Rattle.calls.specs.Area.{areaLevels, blockWords, outputWords, Long, totalOf, kOf, paramsOf, levelWords, levelsUp, levelsOf, doneBlocks, heldBits}
+use Rattle.calls.specs.AreaLaws.{levelsUp-cons}
+use Rattle.calls.specs.Calls.{outWords, joinParallel, joinSequential, closeAbove, closing, closedBy, nodeLog}
+use Rattle.calls.specs.Machine
+use Rattle.calls.specs.Close
+use Rattle.area.specs.SoundLaws.{LevelPart}
+use Rattle.refusals.specs.declared.Params as declared
+use Rattle.climb.specs.Levels.{paste-put, levels-split}
+use Rattle.node.specs.Words.{paramsFrom, Ready}
+use Rattle.climb.specs.MakeLaws.{Logged}
 use Rattle.climb.specs.ReceiveLaws.{length-outWords, log-more}
 use Rattle.climb.specs.OpenArea.{numbered}
 
@@ -27,7 +29,7 @@ use Rattle.climb.specs.OpenArea.{numbered}
 
 -- the nodes that the last output makes at a level of an area and above it
 abbrev pub closedUp : Params → ℕ → ℕ → ℕ → List ℕ → List ℕ → List Node
-closedUp P n k i out area = closeAbove P n k i out (levelsFrom area (28 - k) k)
+closedUp P n k i out area = closeAbove P n k i out (levelsUp area k)
 
 -- z of a parallel level's last node, by its index: it is the root if no other node is at its level
 abbrev pub rootFlag : ℕ → ℕ
@@ -48,23 +50,23 @@ flag-most index {z} e = by (ltb index 1) refl
 
 -- the last node of the sequential level, and that of a parallel one
 abbrev lastNode : Params → ℕ → ℕ → List ℕ → List ℕ → Node
-lastNode P k i out area = node P k (i / 3) 1 (1024 * (2 - i % 3)) (joinSequential i out (levelWords area k))
+lastNode P k i out area = node P k (i / 3) 1 (outputBits * (2 - i % 3)) (joinSequential i out (levelWords area k))
 
 abbrev parallelNode : Params → ℕ → ℕ → List ℕ → List ℕ → Node
-parallelNode P k i out area = node P k (i / 4) (rootFlag (i / 4)) (1024 * (3 - i % 4)) (joinParallel i out (levelWords area k))
+parallelNode P k i out area = node P k (i / 4) (rootFlag (i / 4)) (outputBits * (3 - i % 4)) (joinParallel i out (levelWords area k))
 
-module _ (P : Params) (n k i : ℕ) (out area : List ℕ) (high : k ≤ 27) where
+module _ (P : Params) (n k i : ℕ) (out area : List ℕ) (high : k ≤ areaLevels) where
   abbrev ws : List ℕ
   ws = levelWords area k
 
   abbrev up : List (List ℕ)
-  up = levelsFrom area (28 - (k + 1)) (k + 1)
+  up = levelsUp area (k + 1)
 
   closed-last : n < 1 → closedUp P n k i out area ≡ lastNode P k i out area ∷ []
   closed-last h = by n h
     where
       by : (n : ℕ) → n < 1 → closedUp P n k i out area ≡ lastNode P k i out area ∷ []
-      by zero h = rw (levels-cons area k high) (Close.close-seq P k i out ws up)
+      by zero h = rw (levelsUp-cons area k high) (Close.close-seq P k i out ws up)
       by (suc n) h = absurd (omega arith)
 
   closed-root : 1 ≤ n → i < 4 → closedUp P n k i out area ≡ parallelNode P k i out area ∷ []
@@ -74,7 +76,7 @@ module _ (P : Params) (n k i : ℕ) (out area : List ℕ) (high : k ≤ 27) wher
       by zero h = absurd (omega arith)
       by (suc n) h =
           let z : i / 4 ≡ 0 = omega arith in
-          rw (levels-cons area k high, ← flag-root (i / 4) (omega arith), z) (Close.close-one P n k i out ws up (eq-eqb (i / 4) 0 z))
+          rw (levelsUp-cons area k high, ← flag-root (i / 4) (omega arith), z) (Close.close-one P n k i out ws up (eq-eqb (i / 4) 0 z))
 
   closed-more : 1 ≤ n → 4 ≤ i
       → closedUp P n k i out area ≡ parallelNode P k i out area ∷ closedUp P (n - 1) (k + 1) (i / 4) (outWords P (parallelNode P k i out area)) area
@@ -86,29 +88,25 @@ module _ (P : Params) (n k i : ℕ) (out area : List ℕ) (high : k ≤ 27) wher
       by (suc n) h =
           let f : suc n - 1 ≡ n = omega arith in
           let q : k + 1 ≡ suc k = omega arith in
-          rw (levels-cons area k high, ← flag-other (i / 4) (omega arith), f, q)
-          (Close.close-many P n k i out ws (levelsFrom area (28 - suc k) (suc k)) (ne-eqb (i / 4) 0 (λ e. omega arith)))
+          rw (levelsUp-cons area k high, ← flag-other (i / 4) (omega arith), f, q)
+          (Close.close-many P n k i out ws (levelsUp area (suc k)) (ne-eqb (i / 4) 0 (λ e. omega arith)))
 
 -- a level's words copied, and the output put into its place among them
-pub block-made : {area : List ℕ} {k : ℕ} (l : Level area k) (place : ℕ) (out : List ℕ) → length out ≡ 16
-    → (let part : List ℕ = take ((levelStart k + 64) - levelStart k) (drop (levelStart k) area) in
-    paste (paste (replicate 64 0) 0 part (length part)) place out (length out) ≡ put place 16 (levelWords area k) out)
-block-made {area} {k} l place out h =
-    let ws : List ℕ = levelWords area k in
-    let e : paste (replicate 64 0) 0 ws (length ws) ≡ ws = paste-put (replicate 64 0) 0 64 ws (length-level area k (l .long) (l .low) (l .high)) ∙ append-nil ws in
-    ap (λ (w : List ℕ). paste (paste (replicate 64 0) 0 w (length w)) place out (length out)) (lent-level area k)
-    ∙ ap (λ (w : List ℕ). paste w place out (length out)) e
-    ∙ paste-put ws place 16 out h
+pub block-made : {area : List ℕ} {k : ℕ} {part : List ℕ} (l : LevelPart area k part) (place : ℕ) (out : List ℕ) → length out ≡ outputWords
+    → paste (paste (replicate blockWords 0) 0 part (length part)) place out (length out) ≡ put place outputWords (levelWords area k) out
+block-made {area} {k} {part} l place out h =
+    let e : paste (replicate blockWords 0) 0 part (length part) ≡ levelWords area k = paste-put (replicate blockWords 0) 0 blockWords part (l .size) ∙ append-nil part ∙ l .words in
+    rw e (paste-put (levelWords area k) place outputWords out h)
 
 -- ---- the loop over the levels
 
 -- the last output of level 1 goes up: what the code needs then
 pub record Rising (key : List ℕ) (params : declared.Params) (table : List ℕ) (n i : ℕ) (out area log : List ℕ) (at : ℕ) : Type 0 where
   pub ready : Ready key params table
-  pub long : areaWords ≤ length area
+  pub long : Long area
   pub some : 1 ≤ i
   pub small : i < 2 ^ 52
-  pub words : length out ≡ 16
+  pub words : length out ≡ outputWords
   pub room : at + 2 * length (closedUp (paramsFrom key params) n 2 i out area) ≤ length log
 
 -- what is left to make, from the level that the loop has reached, is what there was to make at level 2; the node made last is
@@ -116,15 +114,15 @@ pub record Rising (key : List ℕ) (params : declared.Params) (table : List ℕ)
 pub record Closing (P : Params) (all : List Node) (area log₀ : List ℕ) (at₀ n k i : ℕ) (out log : List ℕ) (at : ℕ) : Type 0 where
   pub last : Node
   pub low : 2 ≤ k
-  pub high : k ≤ 28
-  pub long : areaWords ≤ length area
+  pub high : k ≤ areaLevels + 1
+  pub long : Long area
   pub some : 1 ≤ i
-  pub small : i < 4 ^ (28 - k)
+  pub small : i < 4 ^ (areaLevels + 1 - k)
   pub fits : i < 2 ^ 52
-  pub words : length out ≡ 16
+  pub words : length out ≡ outputWords
   pub log-length : length log ≡ length log₀
   pub log-same : sets log at (nodeLog (closedUp P n k i out area)) ≡ sets log₀ at₀ (nodeLog all)
-  pub last-same : lastOr last (closedUp P n k i out area) ≡ lastOr noNode all
+  last-same : lastOr last (closedUp P n k i out area) ≡ lastOr noNode all
   pub room : at + 2 * length (closedUp P n k i out area) ≤ length log
 
 pub close-start : {key : List ℕ} {params : declared.Params} {table : List ℕ} {n i : ℕ} {out area log : List ℕ} {at : ℕ} (r : Rising key params table n i out area log at)
@@ -146,11 +144,11 @@ close-start r = record {
 
 module _ {P : Params} {all : List Node} {area log₀ : List ℕ} {at₀ n k i : ℕ} {out log : List ℕ} {at : ℕ}
     (c : Closing P all area log₀ at₀ n k i out log at) where
-  -- the root is made at level 27 at the latest
-  pub close-never : 28 ≤ k → ⊥
+  -- the root is made at the last level at the latest
+  pub close-never : areaLevels < k → ⊥
   close-never h =
-      let e : 28 - k ≡ 0 = omega arith in
-      let p : 4 ^ (28 - k) ≡ 1 = ap (λ (x : ℕ). 4 ^ x) e in
+      let e : areaLevels + 1 - k ≡ 0 = omega arith in
+      let p : 4 ^ (areaLevels + 1 - k) ≡ 1 = ap (λ (x : ℕ). 4 ^ x) e in
       omega (arith, c .small, c .some, p)
 
   -- the root is made
@@ -160,7 +158,7 @@ module _ {P : Params} {all : List Node} {area log₀ : List ℕ} {at₀ n k i : 
     logged = d .logged ∙ sym (ap (λ (x : List Node). sets log at (nodeLog x)) e) ∙ c .log-same;
   }
 
-  module _ (high : k ≤ 27) where
+  module _ (high : k ≤ areaLevels) where
     -- the log has room for the node of this level
     pub close-room : at + 2 ≤ length log
     close-room = by (ltb n 1) (ltb i 4) refl refl
@@ -175,13 +173,13 @@ module _ {P : Params} {all : List Node} {area log₀ : List ℕ} {at₀ n k i : 
 
     -- the sequential level's node is the root
     pub close-last : {block root log′ : List ℕ} → n < 1 → block ≡ joinSequential i out (levelWords area k)
-        → Logged P (node P k (i / 3) 1 (1024 * (2 - i % 3)) block ∷ []) log at root log′
+        → Logged P (node P k (i / 3) 1 (outputBits * (2 - i % 3)) block ∷ []) log at root log′
         → Logged P all log₀ at₀ root log′
     close-last h e d = close-done (closed-last P n k i out area high h) (rw e at d)
 
     -- a parallel level's node is made
     module _ {block : List ℕ} {z : ℕ} {out′ log′ : List ℕ} (some : 1 ≤ n) (e : block ≡ joinParallel i out (levelWords area k)) (f : z ≡ rootFlag (i / 4))
-        (d₁ : Logged P (node P k (i / 4) z (1024 * (3 - i % 4)) block ∷ []) log at out′ log′) where
+        (d₁ : Logged P (node P k (i / 4) z (outputBits * (3 - i % 4)) block ∷ []) log at out′ log′) where
       abbrev m : Node
       m = parallelNode P k i out area
 
@@ -198,8 +196,8 @@ module _ {P : Params} {all : List Node} {area log₀ : List ℕ} {at₀ n k i : 
           let ms : List Node = closedUp P (n - 1) (k + 1) (i / 4) out′ area in
           let rest : closedUp P (n - 1) (k + 1) (i / 4) (outWords P m) area ≡ ms = rw (d .words) refl in
           let all′ = closed-more P n k i out area high some g ∙ ap (λ (x : List Node). m ∷ x) rest in
-          let s : 28 - k ≡ suc (28 - (k + 1)) = omega arith in
-          let b : 4 ^ (28 - k) ≡ 4 * 4 ^ (28 - (k + 1)) = ap (λ (x : ℕ). 4 ^ x) s ∙ pow-succ' 4 (28 - (k + 1)) in
+          let s : areaLevels + 1 - k ≡ suc (areaLevels + 1 - (k + 1)) = omega arith in
+          let b : 4 ^ (areaLevels + 1 - k) ≡ 4 * 4 ^ (areaLevels + 1 - (k + 1)) = ap (λ (x : ℕ). 4 ^ x) s ∙ pow-succ' 4 (areaLevels + 1 - (k + 1)) in
           let l : length log′ ≡ length log = ap length (d .logged) ∙ length-sets log at (nodeLog (m ∷ [])) in
           record {
             last = m;
@@ -223,7 +221,7 @@ abbrev pub firstNode : Params → ℕ → ℕ → ℕ → List ℕ → Node
 firstNode P size T z area = node P 1 (doneBlocks size T) z (size - heldBits size T) (levelWords area 1)
 
 closing-sequential : (P : Params) (limit T : ℕ) (area : List ℕ) → limit < 1 → closing P limit T (levelsOf area) ≡ firstNode P sequentialBits T 1 area ∷ []
-closing-sequential P zero T area h = rw (levels-split area) (Machine.closing-seq P T (levelWords area 1) (levelsFrom area 26 2))
+closing-sequential P zero T area h = rw (levels-split area) (Machine.closing-seq P T (levelWords area 1) (levelsUp area 2))
 closing-sequential P (suc n) T area h = absurd (omega arith)
 
 closing-root : (P : Params) (limit T : ℕ) (area : List ℕ) → 1 ≤ limit → doneBlocks blockBits T < 1
@@ -231,7 +229,7 @@ closing-root : (P : Params) (limit T : ℕ) (area : List ℕ) → 1 ≤ limit �
 closing-root P zero T area h g = absurd (omega arith)
 closing-root P (suc n) T area h g =
     let z : doneBlocks blockBits T ≡ 0 = omega arith in
-    ap (closing P (suc n) T) (levels-split area) ∙ Machine.closing-one P n T (levelWords area 1) (levelsFrom area 26 2) (eq-eqb (doneBlocks blockBits T) 0 z)
+    ap (closing P (suc n) T) (levels-split area) ∙ Machine.closing-one P n T (levelWords area 1) (levelsUp area 2) (eq-eqb (doneBlocks blockBits T) 0 z)
     ∙ ap (λ (x : ℕ). node P 1 x 1 (blockBits - heldBits blockBits T) (levelWords area 1) ∷ []) (sym z)
 
 closing-more : (P : Params) (limit T : ℕ) (area : List ℕ) → 1 ≤ limit → 1 ≤ doneBlocks blockBits T
@@ -240,7 +238,7 @@ closing-more : (P : Params) (limit T : ℕ) (area : List ℕ) → 1 ≤ limit �
 closing-more P zero T area h g = absurd (omega arith)
 closing-more P (suc n) T area h g =
     let f : suc n - 1 ≡ n = omega arith in
-    rw (levels-split area, f) (Machine.closing-many P n T (levelWords area 1) (levelsFrom area 26 2) (ne-eqb (doneBlocks blockBits T) 0 (λ e. omega arith)))
+    rw (levels-split area, f) (Machine.closing-many P n T (levelWords area 1) (levelsUp area 2) (ne-eqb (doneBlocks blockBits T) 0 (λ e. omega arith)))
 
 -- something is made above level 1, so the last of it does not go by what came before
 last-above : (P : Params) (n i : ℕ) (out ws : List ℕ) (up : List (List ℕ)) (x y : Node)
@@ -255,7 +253,7 @@ last-above P (suc n) i out ws up x y = go (eqb (i / 4) 0) refl
 -- what the code needs to make the last nodes of all levels
 pub record Ending (key : List ℕ) (params : declared.Params) (table : List ℕ) (T : ℕ) (area log : List ℕ) : Type 0 where
   pub ready : Ready key params table
-  pub long : areaWords ≤ length area
+  pub long : Long area
   pub room : 2 * length (closing (paramsFrom key params) (params .limit) T (levelsOf area)) ≤ length log
 
 module _ {key : List ℕ} {params : declared.Params} {table : List ℕ} {T : ℕ} {area log : List ℕ} (c : Ending key params table T area log) where
@@ -316,7 +314,7 @@ module _ {key : List ℕ} {params : declared.Params} {table : List ℕ} {T : ℕ
 
       pub first-above : {root log′ : List ℕ} → Logged P rest log₁ 2 root log′ → Logged P all log 0 root log′
       first-above a = rw all-is record {
-        words = a .words ∙ ap (outWords P) (last-above P (limit - 1) done first (levelWords area 2) (levelsFrom area 25 3) noNode leaf);
+        words = a .words ∙ ap (outWords P) (last-above P (limit - 1) done first (levelWords area 2) (levelsUp area 3) noNode leaf);
         logged = a .logged ∙ rw (d₀ .logged) (sym (log-more log 0 leaf rest));
       }
 

@@ -4,30 +4,27 @@ ghost use mathlib.Core.List.{_∷_, []};
 ghost use Prim.Native.Nat.{_+_, _*_, _≤_, _<_, _^_};
 ghost use lib.ListN.{length};
 ghost use Rattle.lists.specs.Part.{put};
-ghost use Rattle.tree.specs.Tree.{lastOr, noNode};
-ghost use Rattle.area.specs.Area.{areaWords, paramsOf, levelWords, levelsOf, doneBlocks, heldBits};
-ghost use Rattle.area.specs.Calls.{outWords, logged, closing, closedBy};
+ghost use Rattle.tree.specs.Tree.{blockBits, lastOr, noNode};
+ghost use Rattle.calls.specs.Area.{blockWords, outputWords, Long, paramsOf, levelWords, levelsOf, doneBlocks, heldBits};
+ghost use Rattle.calls.specs.Calls.{outWords, logged, closing, closedBy};
 ghost use Rattle.climb.specs.Levels.{Level};
-ghost use Rattle.climb.specs.MakeLaws.{paramsFrom, Ready, Logged};
+ghost use Rattle.node.specs.Words.{paramsFrom, Ready};
+ghost use Rattle.climb.specs.MakeLaws.{Logged};
 ghost use Rattle.climb.specs.OpenArea.{OpenArea};
 ghost use Rattle.closing.specs.CloseLaws.{closedUp, firstNode, rootFlag, Rising, Ending};
+use area::Area;
+use area::count;
 use node::Block;
-use node::Params;
-use sound::Area;
-use sound::count;
-
-// The levels of an area.
-const LEVELS: usize = Params::LEVELS as usize;
+use node::Place;
+use refusals::Params;
 
 // A copy of a level's block with an output given to it: the area itself is not changed.
 fn joined_block(area: &[u64], level: usize, place: usize, out: &[u64]) -> [u64; 64]
-    requires { ⌜ Level (now area) level × (place + 16 ≤ 64) × (length (now out) ≡ 16) ⌝ }
-    ensures { λ r. ⌜ r ≡ put place 16 (levelWords (now (area .entry)) level) (now (out .entry)) ⌝ }
+    requires { ⌜ Level (now area) level × (place + outputWords ≤ blockWords) × (length (now out) ≡ outputWords) ⌝ }
+    ensures { λ r. ⌜ r ≡ put place outputWords (levelWords (now (area .entry)) level) (now (out .entry)) ⌝ }
 {
-    let a = Area::HEAD + Area::LEVEL * (level - 1);
-    let e = a + Area::LEVEL;
     let mut block = [0u64; Area::LEVEL];
-    words::copy(&mut block, 0, &area[a..e]);
+    words::copy(&mut block, 0, Area::level(area, level));
     words::copy(&mut block, place, out);
     block
 }
@@ -64,24 +61,30 @@ fn close_above(
     let mut out = first;
     let mut at = start;
     let mut k: usize = 2;
-    while k <= LEVELS {
+    while k <= Area::LEVELS {
+        let level = k as u64;
         if n < 1 {
             let place = Area::OUTPUT + Area::OUTPUT * ((i % 3) as usize);
             let block = joined_block(area, k, place, &out);
             let p = Block::OUTPUT_BITS * (2 - i % 3);
-            return climb::make_node(params, key, table, k as u64, i / 3, 1, p, &block, log, at);
+            let index = i / 3;
+            let z = 1;
+            let last = Place { level, index, z, p };
+            return climb::make_node(params, key, table, last, &block, log, at);
         }
         let block = joined_block(area, k, Area::OUTPUT * ((i % 4) as usize), &out);
         let p = Block::OUTPUT_BITS * (3 - i % 4);
-        let z = root_flag(i / 4);
-        let next = climb::make_node(params, key, table, k as u64, i / 4, z, p, &block, log, at);
+        let index = i / 4;
+        let z = root_flag(index);
+        let last = Place { level, index, z, p };
+        let next = climb::make_node(params, key, table, last, &block, log, at);
         if i < 4 {
             return next;
         }
         out = next;
         at += 2;
         n -= 1;
-        i = i / 4;
+        i = index;
         k += 1;
     }
     out
@@ -99,13 +102,15 @@ fn close_first(
     log: &mut [u64],
 ) -> [u64; 16]
     requires { ⌜ Ready (now key) params (now table) ⌝ }
-    requires { ⌜ (areaWords ≤ length (now area)) × (0 < size) × (size ≤ 4096) × (heldBits size total ≤ size) × (doneBlocks size total < 2 ^ 56) × (z ≤ 1) × (2 ≤ length (now log)) ⌝ }
+    requires { ⌜ Long (now area) × (0 < size) × (size ≤ blockBits) × (heldBits size total ≤ size) × (doneBlocks size total < 2 ^ 56) × (z ≤ 1) × (2 ≤ length (now log)) ⌝ }
     ensures { λ r. ⌜ Logged (paramsFrom (now (key .entry)) params) (firstNode (paramsFrom (now (key .entry)) params) size total z (now (area .entry)) ∷ []) (now (log .entry)) 0 r (now (log .exit)) ⌝ }
 {
-    let done = count::done_blocks(size, total);
+    let level = 1;
+    let index = count::done_blocks(size, total);
     let p = size - count::held_bits(size, total);
     let block = &area[Area::HEAD..Area::FIRST_END];
-    climb::make_node(params, key, table, 1, done, z, p, block, log, 0)
+    let last = Place { level, index, z, p };
+    climb::make_node(params, key, table, last, block, log, 0)
 }
 
 // Makes the nodes of all levels, when so many bits came. U and V of each go to the log from its first word, and the root's
@@ -123,16 +128,8 @@ fn close_levels(
 {
     let limit = params.limit;
     if limit < 1 {
-        return close_first(
-            area,
-            params,
-            key,
-            table,
-            Block::SEQUENTIAL_BITS,
-            1,
-            total,
-            log,
-        );
+        let size = Block::SEQUENTIAL_BITS;
+        return close_first(area, params, key, table, size, 1, total, log);
     }
     let done = count::done_blocks(Block::BITS, total);
     let z = root_flag(done);
@@ -152,12 +149,6 @@ pub fn closing(area: &[u64], log: &mut [u64]) -> [u64; 16]
 {
     let params = Area::params(area);
     let table = compress::round_constants();
-    close_levels(
-        area,
-        params,
-        &area[Area::KEY..Area::KEY_END],
-        &table,
-        area[Area::TOTAL],
-        log,
-    )
+    let key = &area[Area::KEY..Area::KEY_END];
+    close_levels(area, params, key, &table, area[Area::TOTAL], log)
 }

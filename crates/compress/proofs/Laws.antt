@@ -51,7 +51,7 @@ before i xs = take 89 (drop (i - 89) xs)
 abbrev pub after : ℕ → List ℕ → List ℕ
 after t N = drop t (grown t N)
 
-pub length-put : (i s r t : ℕ) (xs : List ℕ) → length (putAt i s r t xs) ≡ length xs
+length-put : (i s r t : ℕ) (xs : List ℕ) → length (putAt i s r t xs) ≡ length xs
 unfolding putAt
 length-put i s r t xs = simp length-set
 

@@ -41,23 +41,23 @@ length-compressed r window h = length-drop (16 * r + 73) (grown (16 * r) window)
 
 -- ---- words: numbers below 2 ^ 64
 
-pub shr-below : (x k : ℕ) → x < 2 ^ 64 → shr x k < 2 ^ 64
+shr-below : (x k : ℕ) → x < 2 ^ 64 → shr x k < 2 ^ 64
 shr-below x k h = lt-of-le-of-lt (shr-le x k) h
 
-pub shl-below : (x k : ℕ) → shl x k < 2 ^ 64
+shl-below : (x k : ℕ) → shl x k < 2 ^ 64
 shl-below x k = mod-lt (x * 2 ^ k) (pow-pos 64)
 
-pub nextS-below : (s : ℕ) → s < 2 ^ 64 → nextS s < 2 ^ 64
+nextS-below : (s : ℕ) → s < 2 ^ 64 → nextS s < 2 ^ 64
 unfolding nextS
 nextS-below s h = search (xor-lt 64, or-lt 64, and-lt 64, shl-below, shr-below, lit<)
 
-pub S-below : (j : ℕ) → S j < 2 ^ 64
+S-below : (j : ℕ) → S j < 2 ^ 64
 unfolding S
 S-below zero = lit< tt
 S-below (suc j) = nextS-below (S j) (S-below j)
 
 -- a step makes a word from words, with any shifts
-pub stepped-below : (s a17 a89 a18 a21 a31 a67 r t : ℕ) → s < 2 ^ 64 → a17 < 2 ^ 64 → a89 < 2 ^ 64 → a18 < 2 ^ 64 → a21 < 2 ^ 64 → a31 < 2 ^ 64 → a67 < 2 ^ 64
+stepped-below : (s a17 a89 a18 a21 a31 a67 r t : ℕ) → s < 2 ^ 64 → a17 < 2 ^ 64 → a89 < 2 ^ 64 → a18 < 2 ^ 64 → a21 < 2 ^ 64 → a31 < 2 ^ 64 → a67 < 2 ^ 64
     → stepped s a17 a89 a18 a21 a31 a67 r t < 2 ^ 64
 unfolding stepped
 stepped-below s a17 a89 a18 a21 a31 a67 r t hs h17 h89 h18 h21 h31 h67 =
@@ -71,7 +71,7 @@ getD-below none i = pow-pos 64
 getD-below (more h hs) zero = h
 getD-below (more h hs) (suc i) = getD-below hs i
 
-pub word-below : (i : ℕ) (A : List ℕ) → Below (2 ^ 64) A → word i A < 2 ^ 64
+word-below : (i : ℕ) (A : List ℕ) → Below (2 ^ 64) A → word i A < 2 ^ 64
 unfolding word
 word-below i A h =
     stepped-below _ _ _ _ _ _ _ _ _
@@ -83,7 +83,7 @@ word-below i A h =
     (getD-below h (i - 31))
     (getD-below h (i - 67))
 
-pub grown-below : (t : ℕ) (window : List ℕ) → Below (2 ^ 64) window → Below (2 ^ 64) (grown t window)
+grown-below : (t : ℕ) (window : List ℕ) → Below (2 ^ 64) window → Below (2 ^ 64) (grown t window)
 unfolding grown
 grown-below zero window h = h
 grown-below (suc t) window h =

@@ -67,7 +67,7 @@ fn step(s: u64, a17: u64, a89: u64, a18: u64, a21: u64, a31: u64, a67: u64, r: u
 }
 
 // Writes word i of the buffer from the words before it.
-fn put(a: &mut [u64], i: usize, s: u64, r: u64, t: u64)
+fn add_word(a: &mut [u64], i: usize, s: u64, r: u64, t: u64)
     requires { ⌜ (89 ≤ i) × (i < length (now a)) × (r < 64) × (t < 64) ⌝ }
     ensures { λ _. ⌜ now (a .exit) ≡ putAt i s r t (now (a .entry)) ⌝ }
 {
@@ -93,13 +93,13 @@ fn round(a: &mut [u64], i: usize, s: u64)
     let ts = SHIFTS_T;
     let mut j = 0;
     while j < ROUND {
-        put(a, i + j, s, rs[j], ts[j]);
+        add_word(a, i + j, s, rs[j], ts[j]);
         j += 1;
     }
 }
 
 // Moves the n words from place b on to the front of a.
-fn back(a: &mut [u64], b: usize, n: usize)
+fn move_to_front(a: &mut [u64], b: usize, n: usize)
     requires { ⌜ b + n ≤ length (now a) ⌝ }
     ensures { λ _. ⌜ now (a .exit) ≡ paste (now (a .entry)) 0 (drop b (now (a .entry))) n ⌝ }
 {
@@ -111,14 +111,14 @@ fn back(a: &mut [u64], b: usize, n: usize)
 }
 
 // Where the next round is written: at, or 89 after the last 89 words of a full buffer were moved to its front.
-fn room(a: &mut [u64], at: usize) -> usize
+fn next_place(a: &mut [u64], at: usize) -> usize
     requires { ⌜ (length (now a) ≡ 345) × (89 ≤ at) × (at ≤ 345) × (at % 16 ≡ 9) ⌝ }
     ensures { λ r. ⌜ (89 ≤ r) × (r + 16 ≤ 345) × (r % 16 ≡ 9) × (take 89 (drop (r - 89) (now (a .exit))) ≡ take 89 (drop (at - 89) (now (a .entry)))) ⌝ }
 {
     if at < BUFFER {
         at
     } else {
-        back(a, WRITTEN, WINDOW);
+        move_to_front(a, WRITTEN, WINDOW);
         WINDOW
     }
 }
@@ -133,7 +133,7 @@ pub fn compress(window: &[u64; WINDOW], table: &[u64], rounds: usize) -> [u64; R
     let mut at = WINDOW;
     let mut k = 0;
     while k < rounds {
-        at = room(&mut a, at);
+        at = next_place(&mut a, at);
         round(&mut a, at, table[k]);
         at += ROUND;
         k += 1;

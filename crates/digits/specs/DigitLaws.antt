@@ -35,7 +35,7 @@ mod-16 x n =
     let e : 4 * suc n ≡ 4 + 4 * n = omega arith in
     rw (pow-16 (suc n), pow-16 n, e) (mod-pow-add x 4 (4 * n))
 
-pub spelt-digits : (n m x : ℕ) → spelt m (hexDigits n x) ≡ some (m * 16 ^ n + x % 16 ^ n)
+spelt-digits : (n m x : ℕ) → spelt m (hexDigits n x) ≡ some (m * 16 ^ n + x % 16 ^ n)
 unfolding hexDigits
 spelt-digits zero m x = ap {B = Option ℕ} some (omega arith)
 spelt-digits (suc n) m x =
@@ -156,7 +156,7 @@ speltWords-fits zero text = no-word
 speltWords-fits (suc n) text = one-more (λ v. spelt-lt 16 v (take 16 text) (rw length-take (omega arith))) (speltWords-fits n (drop 16 text))
 
 -- words are read back
-pub words-back : {ws : List ℕ} (rest : List ℕ) → Below (2 ^ 64) ws → speltWords (length ws) (wordDigits ws ++ rest) ≡ map some ws
+words-back : {ws : List ℕ} (rest : List ℕ) → Below (2 ^ 64) ws → speltWords (length ws) (wordDigits ws ++ rest) ≡ map some ws
 unfolding speltWords mathlib.Core.List.flatten
 words-back rest Below.none = refl
 words-back rest (Below.more {w = w} {ws = ws} h hs) =
@@ -169,7 +169,7 @@ words-exact n {ws} rest h e = rw (← e) (words-back rest h)
 
 -- ---- bytes
 
-pub length-bytesOf : (ds bs : List ℕ) → bytesOf ds ≡ some bs → length ds ≡ 2 * length bs
+length-bytesOf : (ds bs : List ℕ) → bytesOf ds ≡ some bs → length ds ≡ 2 * length bs
 length-bytesOf [] bs e = let k : [] ≡ bs = cc in rw (← k)
 length-bytesOf (a ∷ []) bs e = absurd (Option·none-ne-some bs e)
 length-bytesOf (a ∷ b ∷ ds) bs e = by (spelt 0 (a ∷ b ∷ [])) (bytesOf ds) (length-bytesOf ds) e

@@ -3,12 +3,13 @@ use mathlib.Core.Bool.{Bool}
 use mathlib.Core.List.{List, [], _∷_, _++_}
 use Prim.Native.Nat.{ℕ, _+_, _/_}
 use lib.ListN.{length, drop}
+use Rattle.bits.specs.Piece.{Piece, pieceBits, bitsTest}
 use Rattle.tree.specs.Tree.{Params, digestBytes, digest, order}
-use Rattle.tree.specs.Refusals.{pieceBits, firstRefusal, answerOf, bitsTest, sizeTests, paramTests, outputTest}
+use Rattle.refusals.specs.Refusals.{firstRefusal, answerOf, sizeTests, paramTests, outputTest}
 
 -- "Whole message 5, 1, 2, 3, 4, 9"; 0 if it is accepted
-unfoldable pub hashNumber : List ℕ → ℕ → Params → List ℕ → ℕ
-hashNumber message n P out = firstRefusal (bitsTest message n ∷ paramTests P ++ (outputTest (digestBytes (P .d)) out ∷ []))
+unfoldable pub hashNumber : Piece → Params → List ℕ → ℕ
+hashNumber message P out = firstRefusal (bitsTest message ∷ paramTests P ++ (outputTest (digestBytes (P .d)) out ∷ []))
 
 -- the number, the count, and the output on exit
 pub record Hashed : Type 0 where
@@ -17,10 +18,10 @@ pub record Hashed : Type 0 where
   pub digest : List ℕ
 
 -- "Accepted calls return 0 and a count: .. for whole message the nodes of its tree"; "Output bytes past the digest or text stay"
-unfoldable pub hashOf : List ℕ → ℕ → Params → List ℕ → Hashed
-hashOf message n P out =
-    let M : List Bool = pieceBits message n in
-    answerOf (hashNumber message n P out)
+unfoldable pub hashOf : Piece → Params → List ℕ → Hashed
+hashOf message P out =
+    let M : List Bool = pieceBits message in
+    answerOf (hashNumber message P out)
     record { number = 0; count = length (order P M); digest = digest P M ++ drop (digestBytes (P .d)) out }
     (λ k. record { number = k; count = 0; digest = out })
 

@@ -2,22 +2,20 @@
 ghost use mathlib.Core.Path.{_≡_};
 ghost use mathlib.Core.List.{_++_};
 ghost use lib.ListN.{length, drop};
+ghost use Rattle.bits.specs.Piece.{pieceOf, pieceBits};
 ghost use Rattle.tree.specs.Tree.{digest, digestBytes};
-ghost use Rattle.tree.specs.Refusals.{pieceBits};
 ghost use Rattle.hash.specs.Hash.{hashNumber, hashOf, defaultRoundsOf};
-ghost use Rattle.hash.specs.HashLaws.{Accepted};
-ghost use Rattle.nodes.specs.Ready.{withKey};
-use node::Answer;
-use node::Params;
+ghost use Rattle.hash.specs.HashLaws.{withKey, Accepted};
 use node::count;
 use node::digest;
-use node::number;
+use refusals::Answer;
+use refusals::Params;
 
 // Tells the default rounds for a digest size.
 pub fn default_rounds(d: u64) -> Answer
     ensures { λ o. ⌜ record { number = o .number; count = o .count } ≡ defaultRoundsOf d ⌝ }
 {
-    let number = number::size_number(d);
+    let number = refusals::size_number(d);
     if number != 0 {
         return Answer::refused(number);
     }
@@ -26,13 +24,13 @@ pub fn default_rounds(d: u64) -> Answer
 
 // The number that refuses the whole-message call, and otherwise 0.
 fn hash_number(message: &[u8], bits: u64, key: &[u8], params: Params, digest: &[u8]) -> u64
-    requires { ⌜ params .key ≡ length (now key) ⌝ }
-    ensures { λ r. ⌜ r ≡ hashNumber (now (message .entry)) bits (withKey (now (key .entry)) params) (now (digest .entry)) ⌝ }
+    requires { ⌜ params .keylen ≡ length (now key) ⌝ }
+    ensures { λ r. ⌜ r ≡ hashNumber (pieceOf (now (message .entry)) bits) (withKey (now (key .entry)) params) (now (digest .entry)) ⌝ }
 {
-    if number::over(bits, message.len() as u64) {
+    if refusals::bits_over(bits, message.len() as u64) {
         return 5;
     }
-    let number = number::params_number(params);
+    let number = refusals::params_number(params);
     if number != 0 {
         return number;
     }
@@ -44,8 +42,8 @@ fn hash_number(message: &[u8], bits: u64, key: &[u8], params: Params, digest: &[
 
 // Writes the digest of a message. The round constants are copied once, and lent to every node.
 fn put_digest(message: &[u8], bits: u64, key: &[u8], params: Params, out: &mut [u8])
-    requires { ⌜ Accepted (now message) bits (withKey (now key) params) (now out) × (params .key ≡ length (now key)) ⌝ }
-    ensures { λ _. ⌜ now (out .exit) ≡ digest (withKey (now (key .entry)) params) (pieceBits (now (message .entry)) bits) ++ drop (digestBytes (params .d)) (now (out .entry)) ⌝ }
+    requires { ⌜ Accepted (pieceOf (now message) bits) (withKey (now key) params) (now out) × (params .keylen ≡ length (now key)) ⌝ }
+    ensures { λ _. ⌜ now (out .exit) ≡ digest (withKey (now (key .entry)) params) (pieceBits (pieceOf (now (message .entry)) bits)) ++ drop (digestBytes (params .d)) (now (out .entry)) ⌝ }
 {
     let k = digest::key_words(key);
     let table = compress::round_constants();
@@ -63,7 +61,7 @@ pub fn hash(
     rounds: u64,
     digest: &mut [u8],
 ) -> Answer
-    ensures { λ o. ⌜ record { number = o .number; count = o .count; digest = now (digest .exit) } ≡ hashOf (now (message .entry)) bits (record { key = now (key .entry); d = d; limit = limit; rounds = rounds }) (now (digest .entry)) ⌝ }
+    ensures { λ o. ⌜ record { number = o .number; count = o .count; digest = now (digest .exit) } ≡ hashOf (record { bytes = now (message .entry); count = bits }) (record { key = now (key .entry); d = d; limit = limit; rounds = rounds }) (now (digest .entry)) ⌝ }
 {
     let params = Params::new(key.len() as u64, d, limit, rounds);
     let number = hash_number(message, bits, key, params, digest);

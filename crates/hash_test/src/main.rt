@@ -9,9 +9,9 @@ use libc::STDOUT_FILENO;
 // Calls hash, and writes what it answers.
 fn call(message: &[u8], bits: u64, key: &[u8], d: u64, limit: u64, rounds: u64, out: &mut [u8]) {
     let answer = hash::hash(message, bits, key, d, limit, rounds, &mut *out);
-    show::answer(answer.number, answer.count);
+    test_print::answer(answer.number, answer.count);
     io::write_all(STDOUT_FILENO, b" ");
-    show::bytes(&*out);
+    test_print::bytes(&*out);
     io::write_all(STDOUT_FILENO, b"\n");
 }
 
@@ -92,7 +92,7 @@ fn report() {
 // The default rounds at the edges of d.
 fn default_rounds(d: u64) {
     let answer = hash::default_rounds(d);
-    show::answer(answer.number, answer.count);
+    test_print::answer(answer.number, answer.count);
     io::write_all(STDOUT_FILENO, b"\n");
 }
 

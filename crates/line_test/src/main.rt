@@ -27,7 +27,7 @@ fn line_state(line: &[u8]) -> State
 fn write_key(kept: [u8; Key::KEPT], n: usize)
     requires { ⌜ n ≤ keptBytes ⌝ }
 {
-    show::bytes(&kept[..n]);
+    test_print::bytes(&kept[..n]);
 }
 
 fn write_rounds(rounds: Rounds) {

@@ -1,7 +1,7 @@
 // The face for a host program in C (include/md6.h).
 ghost use mathlib.Core.Path.{_≡_};
-ghost use Rattle.hash.specs.Hash.{hashOf, defaultRoundsOf};
-ghost use Rattle.area.specs.Calls.{openOf, feedOf, endOf, logWordsOf};
+ghost use Rattle.hash.specs.Hash.{Hashed, hashOf, defaultRoundsOf};
+ghost use Rattle.calls.specs.Calls.{openOf, feedOf, endOf, logWordsOf};
 ghost use Rattle.text.specs.Text.{writeOf, readOf};
 
 // The digest of a whole message. Answers the number alone.
@@ -15,7 +15,7 @@ pub extern "C" fn md6_hash(
     rounds: u64,
     digest: &mut [u8],
 ) -> u64
-    ensures { λ n. ⌜ (n ≡ hashOf (now (message .entry)) bits (record { key = now (key .entry); d = d; limit = limit; rounds = rounds }) (now (digest .entry)) .number) × (now (digest .exit) ≡ hashOf (now (message .entry)) bits (record { key = now (key .entry); d = d; limit = limit; rounds = rounds }) (now (digest .entry)) .digest) ⌝ }
+    ensures { λ n. ⌜ (let h : Hashed = hashOf (record { bytes = now (message .entry); count = bits }) (record { key = now (key .entry); d = d; limit = limit; rounds = rounds }) (now (digest .entry)) in (n ≡ h .number) × (now (digest .exit) ≡ h .digest)) ⌝ }
 {
     let answer = hash::hash(message, bits, key, d, limit, rounds, digest);
     answer.number
@@ -23,7 +23,7 @@ pub extern "C" fn md6_hash(
 
 // Tells the default rounds for a digest size.
 #[no_mangle]
-pub extern "C" fn md6_default_rounds(d: u64) -> node::Answer
+pub extern "C" fn md6_default_rounds(d: u64) -> refusals::Answer
     ensures { λ o. ⌜ record { number = o .number; count = o .count } ≡ defaultRoundsOf d ⌝ }
 {
     hash::default_rounds(d)
@@ -37,7 +37,7 @@ pub extern "C" fn md6_open(
     d: u64,
     limit: u64,
     rounds: u64,
-) -> node::Answer
+) -> refusals::Answer
     ensures { λ o. ⌜ record { number = o .number; count = o .count; area = now (area .exit) } ≡ openOf (now (area .entry)) (record { key = now (key .entry); d = d; limit = limit; rounds = rounds }) ⌝ }
 {
     stream::open(area, key, d, limit, rounds)
@@ -50,15 +50,15 @@ pub extern "C" fn md6_feed(
     piece: &[u8],
     bits: u64,
     log: &mut [u64],
-) -> node::Answer
-    ensures { λ o. ⌜ record { number = o .number; count = o .count; area = now (area .exit); log = now (log .exit) } ≡ feedOf (now (area .entry)) (now (piece .entry)) bits (now (log .entry)) ⌝ }
+) -> refusals::Answer
+    ensures { λ o. ⌜ record { number = o .number; count = o .count; area = now (area .exit); log = now (log .exit) } ≡ feedOf (now (area .entry)) (record { bytes = now (piece .entry); count = bits }) (now (log .entry)) ⌝ }
 {
     stream::feed(area, piece, bits, log)
 }
 
 // Ends a stream.
 #[no_mangle]
-pub extern "C" fn md6_end(area: &mut [u64], digest: &mut [u8], log: &mut [u64]) -> node::Answer
+pub extern "C" fn md6_end(area: &mut [u64], digest: &mut [u8], log: &mut [u64]) -> refusals::Answer
     ensures { λ o. ⌜ record { number = o .number; count = o .count; area = now (area .exit); digest = now (digest .exit); log = now (log .exit) } ≡ endOf (now (area .entry)) (now (digest .entry)) (now (log .entry)) ⌝ }
 {
     stream::end(area, digest, log)
@@ -66,7 +66,7 @@ pub extern "C" fn md6_end(area: &mut [u64], digest: &mut [u8], log: &mut [u64]) 
 
 // Tells how many words of log are enough for a piece of so many bits.
 #[no_mangle]
-pub extern "C" fn md6_log_words(bits: u64) -> node::Answer
+pub extern "C" fn md6_log_words(bits: u64) -> refusals::Answer
     ensures { λ o. ⌜ (o .number ≡ 0) × (o .count ≡ logWordsOf bits) ⌝ }
 {
     stream::log_words(bits)
@@ -74,7 +74,7 @@ pub extern "C" fn md6_log_words(bits: u64) -> node::Answer
 
 // Writes a stream as text.
 #[no_mangle]
-pub extern "C" fn md6_write(area: &[u64], text: &mut [u8]) -> node::Answer
+pub extern "C" fn md6_write(area: &[u64], text: &mut [u8]) -> refusals::Answer
     ensures { λ o. ⌜ record { number = o .number; count = o .count; text = now (text .exit) } ≡ writeOf (now (area .entry)) (now (text .entry)) ⌝ }
 {
     text::write(area, text)
@@ -82,7 +82,7 @@ pub extern "C" fn md6_write(area: &[u64], text: &mut [u8]) -> node::Answer
 
 // Reads a text into an area.
 #[no_mangle]
-pub extern "C" fn md6_read(area: &mut [u64], text: &[u8]) -> node::Answer
+pub extern "C" fn md6_read(area: &mut [u64], text: &[u8]) -> refusals::Answer
     ensures { λ o. ⌜ record { number = o .number; count = o .count; area = now (area .exit) } ≡ readOf (now (area .entry)) (now (text .entry)) ⌝ }
 {
     text::read(area, text)

@@ -3,4 +3,3 @@ pub mod WordLaws
 pub mod NodeLaws
 pub mod DigestLaws
 pub mod CountLaws
-pub mod NumberLaws

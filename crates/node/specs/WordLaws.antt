@@ -1,36 +1,63 @@
--- Laws: of Words: a node's words are 16, each below 2 ^ 64.
-use mathlib.Core.Path.{_≡_}
+-- Laws: of Words: a node's words are 16, each below 2 ^ 64, and they are what the compression gives.
+use mathlib.Core.Path.{_≡_, refl, sym, ap, _∙_}
 use mathlib.Core.List.{List}
-use Prim.Native.Nat.{ℕ, _^_, _≤_, _<_}
+use Prim.Native.Nat.{ℕ, _^_}
 use native.Mathlib.Omega.{arith}
-use lib.ListN.{length}
+use lib.ListN.{length, length-replicate}
+use lib.Seq.{take-all}
 use Rattle.lists.specs.Below.{Below}
-use Rattle.compress.specs.Compress.{windowOf}
-use Rattle.compress.specs.CompressLaws.{length-compressed, compressed-below}
-use Rattle.tree.specs.Tree.{Params, Valid, Node, nodeU}
-use Rattle.tree.specs.TreeLaws.{length-keyWords, keyWords-below, nodeV-below, length-window, window-below}
-use Rattle.node.specs.Words.{Common, commonOf, nodeWords}
+use Rattle.bits.specs.Bits.{bitsOf}
+use Rattle.bits.specs.BitsLaws.{length-numbers, numbers-below, bitsOf-numbers}
+use Rattle.compress.specs.Compress.{compressed, windowOf}
+use Rattle.tree.specs.Tree.{Params, Node, Valid, nodeU, nodeV, node, output}
+use Rattle.tree.specs.TreeLaws.{length-keyWords, keyWords-below, nodeU-below, nodeV-below, length-output-node, words-output}
+use Rattle.refusals.specs.declared.Params as declared
+use Rattle.node.specs.declared.Place.{Place}
+use Rattle.node.specs.Words.{sized, nodeWords, FieldsFit, paramsFrom, Ready}
 
-module _ (C : Common) (kLength : length (C .k) ≡ 8) where
-  pub length-nodeWords : (level index z p : ℕ) (block : List ℕ) → length block ≡ 64 → length (nodeWords C level index z p block) ≡ 16
+module _ (P : Params) (level index z p : ℕ) (block : List ℕ) where
+  pub length-nodeWords : length (nodeWords P level index z p block) ≡ 16
   unfolding nodeWords
-  length-nodeWords level index z p block h =
-      let n : Node = record { k = C .k; u = nodeU level index; v = C .v z p; block = block } in
-      length-compressed (C .rounds) (windowOf (C .k) (nodeU level index) (C .v z p) block) (length-window n kLength h)
+  length-nodeWords = length-numbers 64 16 (output (P .rounds) (node P level index z p block))
 
-pub record Fair (C : Common) : Type 0 where
-  pub kLength : length (C .k) ≡ 8
-  pub kBelow : Below (2 ^ 64) (C .k)
-  pub vBelow : (z p : ℕ) → z ≤ 1 → p ≤ 4096 → C .v z p < 2 ^ 64
-
-pub fair : (P : Params) → Valid P → Fair (commonOf P)
-fair P v = record { kLength = length-keyWords (P .key); kBelow = keyWords-below (P .key); vBelow = λ z p hz hp. nodeV-below P z p v hz hp }
-
-module _ (C : Common) (ok : Fair C) where
-  pub below-nodeWords : (level index z p : ℕ) (block : List ℕ) → level < 256 → index < 2 ^ 56 → z ≤ 1 → p ≤ 4096 → Below (2 ^ 64) block
-      → Below (2 ^ 64) (nodeWords C level index z p block)
+  pub below-nodeWords : Below (2 ^ 64) (nodeWords P level index z p block)
   unfolding nodeWords
-  below-nodeWords level index z p block hl hi hz hp hb =
-      let n : Node = record { k = C .k; u = nodeU level index; v = C .v z p; block = block } in
-      compressed-below (C .rounds) (windowOf (C .k) (nodeU level index) (C .v z p) block)
-      (window-below n (record { k = ok .kBelow; u = omega arith; v = ok .vBelow z p hz hp; block = hb }))
+  below-nodeWords = numbers-below 64 16 (output (P .rounds) (node P level index z p block))
+
+  -- their bits are the output
+  pub output-words : length block ≡ 64 → output (P .rounds) (node P level index z p block) ≡ bitsOf 64 (nodeWords P level index z p block)
+  unfolding nodeWords
+  output-words h =
+      let o = output (P .rounds) (node P level index z p block) in
+      let l : length o ≡ 1024 = length-output-node P (P .rounds) level index z p block h in
+      sym (bitsOf-numbers 64 16 o (omega arith) ∙ take-all 1024 o (omega arith))
+
+pub limit-from : (k : List ℕ) (params : declared.Params) → paramsFrom k params .limit ≡ params .limit
+unfolding paramsFrom
+limit-from k params = refl
+
+module _ {k : List ℕ} {params : declared.Params} {table : List ℕ} (ready : Ready k params table) where
+  valid : Valid (paramsFrom k params)
+  unfolding paramsFrom
+  valid = record {
+    bytes = numbers-below 8 (params .keylen) (bitsOf 64 k);
+    keyBytes = rw (length-numbers 8 (params .keylen) (bitsOf 64 k)) (ready .range .keyHigh);
+    dLow = ready .range .dLow;
+    dHigh = ready .range .dHigh;
+    limitHigh = ready .range .limitHigh;
+    roundsHigh = ready .range .roundsHigh;
+  }
+
+  pub v-made : (z p : ℕ) → nodeV (sized params) z p ≡ nodeV (paramsFrom k params) z p
+  unfolding paramsFrom
+  v-made z p = rw (length-numbers 8 (params .keylen) (bitsOf 64 k), length-replicate {A = ℕ} (params .keylen) 0)
+
+  pub words-made : (place : Place) (block : List ℕ) → FieldsFit place block → Below (2 ^ 64) block
+      → compressed (params .rounds) (windowOf k (nodeU (place .level) (place .index)) (nodeV (paramsFrom k params) (place .z) (place .p)) block) ≡ nodeWords (paramsFrom k params) (place .level) (place .index) (place .z) (place .p) block
+  unfolding nodeWords paramsFrom
+  words-made place block f below =
+      let P : Params = paramsFrom k params in
+      let N : Node = node P (place .level) (place .index) (place .z) (place .p) block in
+      ap (λ (K : List ℕ). compressed (P .rounds) (windowOf K (N .u) (N .v) block)) (sym (ready .key))
+      ∙ sym (words-output (P .rounds) N (length-keyWords (P .key)) (f .4)
+      (record { k = keyWords-below (P .key); u = nodeU-below (place .level) (place .index) (f .0) (f .1); v = nodeV-below P (place .z) (place .p) valid (f .2) (f .3); block = below }))

@@ -1,27 +1,40 @@
--- Laws: the 16 words of a node, from what the nodes of one tree share and from the node's own place, flag, padding and block.
+-- Laws: the 16 words of a node, and what the code that makes nodes is given.
+use mathlib.Core.Path.{_≡_}
 use mathlib.Core.List.{List}
-use Prim.Native.Nat.{ℕ}
-use lib.ListN.{replicate}
-use Rattle.compress.specs.Compress.{compressed, windowOf}
-use Rattle.tree.specs.Tree.{Params, keyWords, nodeU, nodeV}
+use Prim.Native.Nat.{ℕ, _^_, _≤_, _<_}
+use lib.ListN.{length, replicate}
+use Rattle.bits.specs.Bits.{bitsOf, numbers}
+use Rattle.compress.specs.Compress.{RoundTable}
+use Rattle.tree.specs.Tree.{Params, words, keyWords, node, output, mostRounds}
+use Rattle.refusals.specs.RefusalLaws.{InRange}
+use Rattle.refusals.specs.declared.Params as declared
+use Rattle.node.specs.declared.Place.{Place}
 
--- what the nodes of one tree share: K, the rounds, and V by its z and p
-pub record Common : Type 0 where
-  pub k : List ℕ
-  pub rounds : ℕ
-  pub v : ℕ → ℕ → ℕ
+-- the words of a node's output
+unfoldable pub nodeWords : Params → ℕ → ℕ → ℕ → ℕ → List ℕ → List ℕ
+nodeWords P level index z p block = words 16 (output (P .rounds) (node P level index z p block))
+
+-- what one node needs: numbers that fit the fields of U and V, and a block of 64 words
+abbrev pub FieldsFit : Place → List ℕ → Type 0
+FieldsFit place block = (place .level < 256) × (place .index < 2 ^ 56) × (place .z < 16) × (place .p < 65536) × (length block ≡ 64)
 
 -- parameters with a key of so many zero bytes: V tells no more of the key than how many bytes it has
-abbrev pub sized : ℕ → ℕ → ℕ → ℕ → Params
-sized keyBytes d limit rounds = record { key = replicate keyBytes 0; d = d; limit = limit; rounds = rounds }
+abbrev pub sized : declared.Params → Params
+sized params = record { key = replicate (params .keylen) 0; d = params .d; limit = params .limit; rounds = params .rounds }
 
-abbrev pub commonOf : Params → Common
-commonOf P = record { k = keyWords (P .key); rounds = P .rounds; v = nodeV P }
+-- the parameters that the words of K and four numbers stand for
+unfoldable pub paramsFrom : List ℕ → declared.Params → Params
+paramsFrom k params = record {
+  key = numbers 8 (params .keylen) (bitsOf 64 k);
+  d = params .d;
+  limit = params .limit;
+  rounds = params .rounds;
+}
 
--- the same from the words of K and the numbers of the parameters
-abbrev pub common : List ℕ → ℕ → ℕ → ℕ → ℕ → Common
-common k keyBytes d limit rounds = record { k = k; rounds = rounds; v = nodeV (sized keyBytes d limit rounds) }
-
--- the 16 words that the compression makes of a node
-unfoldable pub nodeWords : Common → ℕ → ℕ → ℕ → ℕ → List ℕ → List ℕ
-nodeWords C level index z p block = compressed (C .rounds) (windowOf (C .k) (nodeU level index) (C .v z p) block)
+-- what every node needs: parameters in range, K as words, and the table of round constants
+pub record Ready (k : List ℕ) (params : declared.Params) (table : List ℕ) : Type 0 where
+  pub range : InRange (params .keylen) (params .d) (params .limit) (params .rounds)
+  pub words : length k ≡ 8
+  pub key : keyWords (paramsFrom k params .key) ≡ k
+  pub rule : RoundTable table
+  pub rows : mostRounds ≤ length table

@@ -9,13 +9,12 @@ use lib.ListN.{length, take, drop, replicate, length-replicate}
 use lib.Seq.{paste}
 use Rattle.bits.specs.Bits.{bitsOf, filled}
 use Rattle.bits.specs.BitsLaws.{bitsOf-zeros}
-use Rattle.tree.specs.Tree.{words, blocks, blockBits, outputBits}
-use Rattle.tree.specs.Refusals.{pieceBits}
-use Rattle.tree.specs.Sizes.{levelNodes}
-use Rattle.node.specs.Words.{Common, nodeWords}
+use Rattle.tree.specs.Tree.{Params, words, blocks, blockBits, outputBits}
+use Rattle.bits.specs.Piece.{pieceOf, pieceBits, Fits}
+use Rattle.node.specs.Words.{nodeWords}
 use Rattle.nodes.specs.Value.{held, messagePart, joinedValues, childWords, value}
-use Rattle.tree.specs.Count.{levelNodes-one, levelNodes-suc, levelNodes-some}
-use Rattle.tree.specs.RefusalLaws.{length-pieceBits}
+use Rattle.tree.specs.Count.{levelNodes, levelNodes-one, levelNodes-suc, levelNodes-some}
+use Rattle.bits.specs.PieceLaws.{length-pieceBits}
 use Rattle.nodes.specs.ValueLaws.{levelNodes-le, length-value, value-one, value-suc, joined-zero, joined-suc, length-joinedValues}
 use Rattle.node.specs.NodeLaws.{paste-at}
 use Rattle.lists.specs.Replicate.{drop-replicate}
@@ -28,14 +27,14 @@ take-min (suc a) (suc b) [] = let e : min (suc a) (suc b) ≡ suc (min a b) = om
 take-min (suc a) (suc b) (x ∷ l) = let e : min (suc a) (suc b) ≡ suc (min a b) = omega arith in rw (e, take-min a b l)
 
 -- w zero words, filled with the message bits of the node at an index
-pub filled-part : (bytes : List ℕ) (bits w size index start n : ℕ) → w * 64 ≡ size → size * index ≤ bits → bits ≤ 8 * length bytes
+pub filled-part : (bytes : List ℕ) (bits w size index start n : ℕ) → w * 64 ≡ size → size * index ≤ bits → Fits (pieceOf bytes bits)
     → start ≡ size * index → n ≡ held size bits index
-    → filled (replicate w 0) 0 bytes start n ≡ words w (messagePart size (pieceBits bytes bits) index)
+    → filled (replicate w 0) 0 bytes start n ≡ words w (messagePart size (pieceBits (pieceOf bytes bits)) index)
 unfolding filled
 filled-part bytes bits w size index start n e h g es en =
     let B : List Bool = bitsOf 8 bytes in
     let l : length (replicate {A = ℕ} w 0) ≡ w = length-replicate w 0 in
-    let lp : length (take bits B) ≡ bits = length-pieceBits bytes bits g in
+    let lp : length (take bits B) ≡ bits = length-pieceBits (pieceOf bytes bits) g in
     let zs : bitsOf 64 (replicate w 0) ≡ replicate size false = bitsOf-zeros 64 w ∙ ap (λ (k : ℕ). replicate k false) e in
     let z : 0 + n ≡ n = omega arith in
     let r : drop n (replicate size false) ≡ replicate (size - n) false = drop-replicate n size false (omega arith) in
@@ -55,16 +54,16 @@ filled-part bytes bits w size index start n e h g es en =
 pub leaf-index : (bits index : ℕ) → index < levelNodes bits 1 → blockBits * index ≤ bits
 leaf-index bits index h = let g : index < blocks blockBits bits = rw (levelNodes-one bits) at h in omega arith
 
-pub leaf-made : (C : Common) (bytes : List ℕ) (bits index z n : ℕ) (block : List ℕ) → index < levelNodes bits 1 → bits ≤ 8 * length bytes
+pub leaf-made : (P : Params) (bytes : List ℕ) (bits index z n : ℕ) (block : List ℕ) → index < levelNodes bits 1 → Fits (pieceOf bytes bits)
     → n ≡ held blockBits bits index → block ≡ filled (replicate 64 0) 0 bytes (8 * (512 * index) + 0) n
-    → nodeWords C 1 index z (blockBits - n) block ≡ value C (pieceBits bytes bits) 1 index z
-leaf-made C bytes bits index z n block i g en eb =
-    let M : List Bool = pieceBits bytes bits in
-    let l : length M ≡ bits = length-pieceBits bytes bits g in
+    → nodeWords P 1 index z (blockBits - n) block ≡ value P (pieceBits (pieceOf bytes bits)) 1 index z
+leaf-made P bytes bits index z n block i g en eb =
+    let M : List Bool = pieceBits (pieceOf bytes bits) in
+    let l : length M ≡ bits = length-pieceBits (pieceOf bytes bits) g in
     let b : block ≡ words 64 (messagePart blockBits M index) =
     eb ∙ filled-part bytes bits 64 blockBits index (8 * (512 * index) + 0) n refl (leaf-index bits index i) g (omega arith) en in
     let p : blockBits - n ≡ blockBits - held blockBits (length M) index = rw l (ap (λ (k : ℕ). blockBits - k) en) in
-    rw (b, p) (sym (value-one C M index z))
+    rw (b, p) (sym (value-one P M index z))
 
 -- ---- children
 
@@ -104,21 +103,21 @@ node-index bits zero index b h i = absurd (omega arith)
 node-index bits (suc l) index b h i = omega (arith, levelNodes-le bits l b)
 
 -- a node above level 1, from its children
-pub value-made : (C : Common) (bytes : List ℕ) (bits level index z n : ℕ) (block : List ℕ) → 1 < level → bits ≤ 8 * length bytes
+pub value-made : (P : Params) (bytes : List ℕ) (bits level index z n : ℕ) (block : List ℕ) → 1 < level → Fits (pieceOf bytes bits)
     → n ≡ held 4 (levelNodes bits (level - 1)) index
-    → block ≡ childWords (λ j. value C (pieceBits bytes bits) (level - 1) j 0) 4 (4 * index) n
-    → nodeWords C level index z (outputBits * (4 - n)) block ≡ value C (pieceBits bytes bits) level index z
-value-made C bytes bits zero index z n block h g en eb = absurd (omega arith)
-value-made C bytes bits (suc zero) index z n block h g en eb = absurd (omega arith)
-value-made C bytes bits (suc (suc l)) index z n block h g en eb =
-    let M : List Bool = pieceBits bytes bits in
-    let d : length M ≡ bits = length-pieceBits bytes bits g in
+    → block ≡ childWords (λ j. value P (pieceBits (pieceOf bytes bits)) (level - 1) j 0) 4 (4 * index) n
+    → nodeWords P level index z (outputBits * (4 - n)) block ≡ value P (pieceBits (pieceOf bytes bits)) level index z
+value-made P bytes bits zero index z n block h g en eb = absurd (omega arith)
+value-made P bytes bits (suc zero) index z n block h g en eb = absurd (omega arith)
+value-made P bytes bits (suc (suc l)) index z n block h g en eb =
+    let M : List Bool = pieceBits (pieceOf bytes bits) in
+    let d : length M ≡ bits = length-pieceBits (pieceOf bytes bits) g in
     let e : suc (suc l) - 1 ≡ suc l = omega arith in
     let m : n ≡ held 4 (levelNodes (length M) (suc l)) index = rw d (rw e at en) in
-    let b : block ≡ childWords (λ j. value C M (suc l) j 0) 4 (4 * index) n = rw e at eb in
-    rw (b, m) (sym (value-suc C M l index z))
+    let b : block ≡ childWords (λ j. value P M (suc l) j 0) 4 (4 * index) n = rw e at eb in
+    rw (b, m) (sym (value-suc P M l index z))
 
 -- every value has 16 words
-pub value-length : (C : Common) (M : List Bool) (level index z : ℕ) → length (C .k) ≡ 8 → 0 < level → length (value C M level index z) ≡ 16
-value-length C M zero index z h g = absurd (omega arith)
-value-length C M (suc l) index z h g = length-value C h M l index z
+pub value-length : (P : Params) (M : List Bool) (level index z : ℕ) → 0 < level → length (value P M level index z) ≡ 16
+value-length P M zero index z g = absurd (omega arith)
+value-length P M (suc l) index z g = length-value P M l index z

@@ -4,4 +4,3 @@ pub mod NodeByNode
 pub mod ShapeLaws
 pub mod BlockLaws
 pub mod SequentialLaws
-pub mod Ready

@@ -2,27 +2,26 @@
 use mathlib.Core.Path.{_≡_, refl, sym, ap, _∙_}
 use mathlib.Core.Bool.{Bool, true, false, cond}
 use mathlib.Core.Option.{Option, some}
-use mathlib.Core.List.{List, [], _∷_, _++_, map, append-nil, flatten}
+use mathlib.Core.List.{List, [], _∷_, _++_, map, flatten}
 use Prim.Native.Nat.{ℕ, zero, suc, _+_, _-_, _*_, _^_, _≤_, _<_}
 use native.Mathlib.Omega.{arith}
-use borrow.Author.Tests.{ltb-false, leb-true, leb-false, eqb-true, eqb-false, lt-ltb, le-ltb, ne-eqb}
+use borrow.Author.Tests.{leb-true, leb-false, eqb-true, eqb-false, lt-ltb, le-ltb, ne-eqb}
 use lib.Dec.{eqb, leb, ltb}
 use lib.ListN.{length, take, drop, replicate, getElem?, length-append, length-drop, length-replicate}
 use lib.Seq.{take-all}
 use Rattle.lists.specs.Below.{Below}
 use Rattle.lists.specs.BelowLaws.{below-append, below-zeros}
 use Rattle.bits.specs.Bits.{digit, bitsOf, numbers}
-use Rattle.bits.specs.BitsLaws.{digit-le, length-bitsOf, bitsOf-append, bitsOf-zeros, bitsOf-take, bitsOf-drop, numbers-take, numbers-bitsOf}
-use Rattle.tree.specs.Tree.{Params, Valid, Node, words, node, output, blocks, padding, padded, noChain, parallel, sequential, joinedOutputs, levels, tree, rootOf, root, blockBits, sequentialBits, outputBits}
-use Rattle.tree.specs.Place.{levelAt, nodeAt}
-use Rattle.tree.specs.TreeLaws.{above, lastOnly, chainAt, chainAt-zero, chainAt-suc, length-parallel, length-sequential, length-joined-parallel, parallel-at, sequential-at, levels-one, levels-more, levels-some, rootOf-cons}
-use Rattle.tree.specs.Places.{no-node, index-below, level-below, root-place, tree-level, tree-index}
-use Rattle.tree.specs.Count.{level-nodes, levelNodes-one, levelNodes-some}
-use Rattle.tree.specs.Sizes.{levelNodes}
-use Rattle.node.specs.Words.{Common, commonOf, nodeWords}
+use Rattle.bits.specs.BitsLaws.{length-bitsOf, bitsOf-append, bitsOf-zeros, bitsOf-take, bitsOf-drop, numbers-take, numbers-exact, length-numbers}
+use Rattle.tree.specs.Tree.{Params, Node, words, node, output, blocks, padding, padded, noChain, parallel, sequential, joinedOutputs, levels, tree, rootOf, root, blockBits, sequentialBits, outputBits}
+use Rattle.tree.specs.Place.{nodeAt}
+use Rattle.tree.specs.TreeLaws.{above, lastOnly, chainAt, chainAt-zero, chainAt-suc, length-parallel, length-sequential, length-joined-parallel, parallel-at, sequential-at, levels-one, levels-more, levels-some, rootOf-cons, length-seqBlock}
+use Rattle.tree.specs.Places.{no-node, index-below, root-place}
+use Rattle.tree.specs.Count.{levelNodes, levelNodes-one, levelNodes-some}
+use Rattle.node.specs.Words.{nodeWords}
 use Rattle.nodes.specs.Value.{held, messagePart, joinedValues, childWords, value, sequentialNodes, sequentialPadding, sequentialWords, chain, topFrom, valueAt, rootValue}
-use Rattle.nodes.specs.ValueLaws.{pad-part, joined-zero, joined-cons, length-joinedValues, below-joinedValues, joined-part, levelNodes-outputs, levelNodes-le, value-one, value-suc, length-value, below-value, chain-zero, chain-suc, length-chain, below-chain}
-use Rattle.node.specs.WordLaws.{fair}
+use Rattle.nodes.specs.ValueLaws.{pad-part, joined-zero, joined-cons, length-joinedValues, below-joinedValues, joined-part, levelNodes-outputs, value-one, value-suc, length-value, below-value, chain-zero, chain-suc, length-chain, below-chain}
+use Rattle.node.specs.WordLaws.{output-words}
 
 -- ---- the words of a block
 
@@ -44,7 +43,7 @@ take-bitsOf n ws = go (leb n (length ws)) refl
         rw (take-all (n * 64) (bitsOf 64 ws) (rw (length-bitsOf 64 ws) (omega arith)), take-all n ws (omega arith))
 
 -- a block of q values of nodes below
-child-part : (f : ℕ → List ℕ) (q c i : ℕ) → ((j : ℕ) → length (f j) ≡ 16) → ((j : ℕ) → j < c → Below (2 ^ 64) (f j)) → q * i ≤ c
+child-part : (f : ℕ → List ℕ) (q c i : ℕ) → ((j : ℕ) → length (f j) ≡ 16) → ((j : ℕ) → Below (2 ^ 64) (f j)) → q * i ≤ c
     → words (16 * q) (messagePart (1024 * q) (bitsOf 64 (joinedValues f 0 c)) i) ≡ childWords f q (q * i) (held q c i)
 child-part f q c i len low h =
     let W : List ℕ = joinedValues f 0 c in
@@ -67,8 +66,8 @@ child-part f q c i len low h =
     let lJ : length (joinedValues f (q * i) n) ≡ 16 * n = length-joinedValues f (q * i) n len in
     let l : length B ≡ 16 * q = simp (length-append, length-replicate) (omega arith) in
     let w : Below (2 ^ 64) B =
-    below-append (below-joinedValues f (q * i) n (λ j g. low (q * i + j) (omega arith))) (below-zeros (2 ^ 64) (16 * (q - n)) (omega arith)) in
-    let r : numbers 64 (16 * q) (bitsOf 64 B) ≡ B = rw (l, append-nil) at (numbers-bitsOf 64 [] w) in
+    below-append (below-joinedValues f (q * i) n low) (below-zeros (2 ^ 64) (16 * (q - n)) (omega arith)) in
+    let r : numbers 64 (16 * q) (bitsOf 64 B) ≡ B = numbers-exact 64 (16 * q) w l in
     ap (numbers 64 (16 * q)) s ∙ r
 
 -- ---- the bits that a level works on
@@ -98,14 +97,9 @@ joined-outputs g f (n ∷ ns) a h =
     let r = joined-outputs g f ns (suc a) (λ j k q. h (suc j) k q ∙ ap (λ (x : ℕ). bitsOf 64 (f x)) (omega arith)) in
     rw (e, r, joined-cons f a (length ns)) (sym (bitsOf-append 64 (f a) (joinedValues f (suc a) (length ns))))
 
-output-words : (P : Params) (level index z p : ℕ) (block : List ℕ)
-    → output (P .rounds) (node P level index z p block) ≡ bitsOf 64 (nodeWords (commonOf P) level index z p block)
-unfolding output nodeWords
-output-words P level index z p block = refl
-
-output-same : (P : Params) (level index z p q : ℕ) (block words : List ℕ) → p ≡ q → block ≡ words
-    → output (P .rounds) (node P level index z p block) ≡ bitsOf 64 (nodeWords (commonOf P) level index z q words)
-output-same P level index z p q block words e w = rw (e, w) (output-words P level index z q words)
+output-same : (P : Params) (level index z p q : ℕ) (block words : List ℕ) → length block ≡ 64 → p ≡ q → block ≡ words
+    → output (P .rounds) (node P level index z p block) ≡ bitsOf 64 (nodeWords P level index z q words)
+output-same P level index z p q block words h e w = output-words P level index z p block h ∙ rw (e, w)
 
 same-node : (a b : Node) → _≡_ {A = Option Node} (some a) (some b) → a ≡ b
 same-node a b e = cc
@@ -126,278 +120,246 @@ module _ (P : Params) (M : List Bool) where
       node P (suc h) j z (blockBits * suc j - length (inputs P M h)) (words 64 (drop (blockBits * j) (padded blockBits (inputs P M h))))
 
   abbrev NodeValues : ℕ → Type 0
-  NodeValues h = (j z : ℕ) → j < levelNodes (length M) (suc h) → output (P .rounds) (levelNode h j z) ≡ bitsOf 64 (value (commonOf P) M (suc h) j z)
+  NodeValues h = (j z : ℕ) → j < levelNodes (length M) (suc h) → output (P .rounds) (levelNode h j z) ≡ bitsOf 64 (value P M (suc h) j z)
 
   -- the bits of the level above
   inputs-above : (h : ℕ) → NodeValues h
-      → inputs P M (suc h) ≡ bitsOf 64 (joinedValues (λ j. value (commonOf P) M (suc h) j 0) 0 (levelNodes (length M) (suc h)))
+      → inputs P M (suc h) ≡ bitsOf 64 (joinedValues (λ j. value P M (suc h) j 0) 0 (levelNodes (length M) (suc h)))
   unfolding inputs
   inputs-above h f =
       let X : List Bool = inputs P M h in
       let ns : List Node = parallel P (suc h) false X in
       let l : length ns ≡ levelNodes (length M) (suc h) = length-parallel P (suc h) false X ∙ blocks-inputs h in
-      joined-outputs (output (P .rounds)) (λ j. value (commonOf P) M (suc h) j 0) ns 0
+      joined-outputs (output (P .rounds)) (λ j. value P M (suc h) j 0) ns 0
       (λ j n e.
       let b : j < length ns = index-below ns j n e in
       let at = parallel-at P (suc h) false X j (omega (arith, length-parallel P (suc h) false X)) in
       let s : levelNode h j 0 ≡ n = same-node (levelNode h j 0) n (sym at ∙ e) in
       let z : 0 + j ≡ j = omega arith in
-      ap (output (P .rounds)) (sym s) ∙ f j 0 (omega arith) ∙ ap (λ (x : ℕ). bitsOf 64 (value (commonOf P) M (suc h) x 0)) (sym z))
-      ∙ ap (λ (n : ℕ). bitsOf 64 (joinedValues (λ j. value (commonOf P) M (suc h) j 0) 0 n)) l
+      ap (output (P .rounds)) (sym s) ∙ f j 0 (omega arith) ∙ ap (λ (x : ℕ). bitsOf 64 (value P M (suc h) x 0)) (sym z))
+      ∙ ap (λ (n : ℕ). bitsOf 64 (joinedValues (λ j. value P M (suc h) j 0) 0 n)) l
 
-  module _ (valid : Valid P) (small : length M < 2 ^ 64) where
-    -- node j at level h + 1 has the value that is worked out for it
-    node-values : (h : ℕ) → suc h < 256 → NodeValues h
-    unfolding inputs
-    node-values zero g j z i =
-        let b : j < blocks blockBits (length M) = rw (levelNodes-one (length M)) at i in
-        let e : blockBits * suc j - length M ≡ blockBits - held blockBits (length M) j = omega arith in
-        let w = part-words 64 blockBits (padding blockBits (length M)) M j refl (omega arith) (omega arith) in
-        output-same P 1 j z _ _ _ _ e w ∙ ap (bitsOf 64) (sym (value-one (commonOf P) M j z))
-    node-values (suc h) g j z i =
-        let C : Common = commonOf P in
-        let f : ℕ → List ℕ = λ j. value C M (suc h) j 0 in
-        let c : ℕ = levelNodes (length M) (suc h) in
-        let X : List Bool = inputs P M (suc h) in
-        let b : j < blocks blockBits (outputBits * c) = rw (levelNodes-outputs (length M) h) at i in
-        let l : length X ≡ outputBits * c = length-inputs h in
-        let e : blockBits * suc j - length X ≡ outputBits * (4 - held 4 c j) = rw l (omega (arith, levelNodes-some (length M) h)) in
-        let w : words 64 (drop (blockBits * j) (padded blockBits X)) ≡ words 64 (messagePart blockBits X j) =
-        part-words 64 blockBits (padding blockBits (length X)) X j refl (rw l (omega (arith, levelNodes-some (length M) h))) (rw l (omega (arith, levelNodes-some (length M) h))) in
-        let v : words 64 (messagePart blockBits X j) ≡ childWords f 4 (4 * j) (held 4 c j) =
-        ap (λ (Y : List Bool). words 64 (messagePart blockBits Y j)) (inputs-above h (node-values h (omega arith)))
-        ∙ child-part f 4 c j (λ k. length-value C (fair P valid .kLength) M h k 0)
-        (λ k q. below-value C (fair P valid) M small h k 0 (omega arith) q (omega arith)) (omega (arith, levelNodes-some (length M) h)) in
-        output-same P (suc (suc h)) j z _ _ _ _ e (w ∙ v) ∙ ap (bitsOf 64) (sym (value-suc C M h j z))
+  -- node j at level h + 1 has the value that is worked out for it
+  node-values : (h : ℕ) → NodeValues h
+  unfolding inputs
+  node-values zero j z i =
+      let b : j < blocks blockBits (length M) = rw (levelNodes-one (length M)) at i in
+      let e : blockBits * suc j - length M ≡ blockBits - held blockBits (length M) j = omega arith in
+      let w = part-words 64 blockBits (padding blockBits (length M)) M j refl (omega arith) (omega arith) in
+      output-same P 1 j z _ _ _ _ (length-numbers 64 64 _) e w ∙ ap (bitsOf 64) (sym (value-one P M j z))
+  node-values (suc h) j z i =
+      let f : ℕ → List ℕ = λ j. value P M (suc h) j 0 in
+      let c : ℕ = levelNodes (length M) (suc h) in
+      let X : List Bool = inputs P M (suc h) in
+      let b : j < blocks blockBits (outputBits * c) = rw (levelNodes-outputs (length M) h) at i in
+      let l : length X ≡ outputBits * c = length-inputs h in
+      let e : blockBits * suc j - length X ≡ outputBits * (4 - held 4 c j) = rw l (omega (arith, levelNodes-some (length M) h)) in
+      let w : words 64 (drop (blockBits * j) (padded blockBits X)) ≡ words 64 (messagePart blockBits X j) =
+      part-words 64 blockBits (padding blockBits (length X)) X j refl (rw l (omega (arith, levelNodes-some (length M) h))) (rw l (omega (arith, levelNodes-some (length M) h))) in
+      let v : words 64 (messagePart blockBits X j) ≡ childWords f 4 (4 * j) (held 4 c j) =
+      ap (λ (Y : List Bool). words 64 (messagePart blockBits Y j)) (inputs-above h (node-values h))
+      ∙ child-part f 4 c j (λ k. length-value P M h k 0) (λ k. below-value P M h k 0) (omega (arith, levelNodes-some (length M) h)) in
+      output-same P (suc (suc h)) j z _ _ _ _ (length-numbers 64 64 _) e (w ∙ v) ∙ ap (bitsOf 64) (sym (value-suc P M h j z))
 
-    -- ---- the sequential level
+  -- ---- the sequential level
 
-    sequential-nodes : (l : ℕ) → sequentialNodes l (length M) ≡ blocks sequentialBits (length (inputs P M l))
-    unfolding sequentialNodes inputs
-    sequential-nodes zero = refl
-    sequential-nodes (suc h) = ap (blocks sequentialBits) (sym (length-inputs h))
+  sequential-nodes : (l : ℕ) → sequentialNodes l (length M) ≡ blocks sequentialBits (length (inputs P M l))
+  unfolding sequentialNodes inputs
+  sequential-nodes zero = refl
+  sequential-nodes (suc h) = ap (blocks sequentialBits) (sym (length-inputs h))
 
-    -- its bits, cut and padded, are the words that each node takes beside the chain
-    sequential-part : (l : ℕ) → l < 256 → (j : ℕ) → j < sequentialNodes l (length M)
-        → (sequentialBits * suc j - length (inputs P M l) ≡ sequentialPadding l (length M) j)
-        × (words 48 (drop (sequentialBits * j) (padded sequentialBits (inputs P M l))) ≡ sequentialWords (commonOf P) l M j)
-        × (sequentialNodes l (length M) ≤ 2 ^ 53)
-        × (suc j < sequentialNodes l (length M) → sequentialPadding l (length M) j ≡ 0)
-    unfolding inputs sequentialNodes sequentialPadding sequentialWords
-    sequential-part zero g j i =
-        (omega arith, part-words 48 sequentialBits (padding sequentialBits (length M)) M j refl (omega arith) (omega arith), omega arith, λ q. omega arith)
-    sequential-part (suc h) g j i =
-        let C : Common = commonOf P in
-        let f : ℕ → List ℕ = λ j. value C M (suc h) j 0 in
-        let c : ℕ = levelNodes (length M) (suc h) in
-        let X : List Bool = inputs P M (suc h) in
-        let l : length X ≡ outputBits * c = length-inputs h in
-        let some-c : 1 ≤ c = levelNodes-some (length M) h in
-        let few : c ≤ 2 ^ 52 = levelNodes-le (length M) h small in
-        let e : sequentialBits * suc j - length X ≡ outputBits * (3 - held 3 c j) = rw l (omega arith) in
-        let w : words 48 (drop (sequentialBits * j) (padded sequentialBits X)) ≡ words 48 (messagePart sequentialBits X j) =
-        part-words 48 sequentialBits (padding sequentialBits (length X)) X j refl (rw l (omega arith)) (rw l (omega arith)) in
-        let v : words 48 (messagePart sequentialBits X j) ≡ childWords f 3 (3 * j) (held 3 c j) =
-        ap (λ (Y : List Bool). words 48 (messagePart sequentialBits Y j)) (inputs-above h (node-values h g))
-        ∙ child-part f 3 c j (λ k. length-value C (fair P valid .kLength) M h k 0)
-        (λ k q. below-value C (fair P valid) M small h k 0 g q (omega arith)) (omega arith) in
-        (e, w ∙ v, omega arith, λ q. omega arith)
+  -- its bits, cut and padded, are the words that each node takes beside the chain
+  sequential-part : (l j : ℕ) → j < sequentialNodes l (length M)
+      → (sequentialBits * suc j - length (inputs P M l) ≡ sequentialPadding l (length M) j)
+      × (words 48 (drop (sequentialBits * j) (padded sequentialBits (inputs P M l))) ≡ sequentialWords P l M j)
+      × (suc j < sequentialNodes l (length M) → sequentialPadding l (length M) j ≡ 0)
+  unfolding inputs sequentialNodes sequentialPadding sequentialWords
+  sequential-part zero j i =
+      (omega arith, part-words 48 sequentialBits (padding sequentialBits (length M)) M j refl (omega arith) (omega arith), λ q. omega arith)
+  sequential-part (suc h) j i =
+      let f : ℕ → List ℕ = λ j. value P M (suc h) j 0 in
+      let c : ℕ = levelNodes (length M) (suc h) in
+      let X : List Bool = inputs P M (suc h) in
+      let l : length X ≡ outputBits * c = length-inputs h in
+      let some-c : 1 ≤ c = levelNodes-some (length M) h in
+      let e : sequentialBits * suc j - length X ≡ outputBits * (3 - held 3 c j) = rw l (omega arith) in
+      let w : words 48 (drop (sequentialBits * j) (padded sequentialBits X)) ≡ words 48 (messagePart sequentialBits X j) =
+      part-words 48 sequentialBits (padding sequentialBits (length X)) X j refl (rw l (omega arith)) (rw l (omega arith)) in
+      let v : words 48 (messagePart sequentialBits X j) ≡ childWords f 3 (3 * j) (held 3 c j) =
+      ap (λ (Y : List Bool). words 48 (messagePart sequentialBits Y j)) (inputs-above h (node-values h))
+      ∙ child-part f 3 c j (λ k. length-value P M h k 0) (λ k. below-value P M h k 0) (omega arith) in
+      (e, w ∙ v, λ q. omega arith)
 
-    -- the words that the next node reads from a value's bits
-    words-of : (ws : List ℕ) → length ws ≡ 16 → Below (2 ^ 64) ws → words 16 (bitsOf 64 ws) ≡ ws
-    words-of ws l b = rw (l, append-nil) at (numbers-bitsOf 64 [] b)
+  module _ (l : ℕ) where
+    abbrev sequentialInput : List Bool
+    sequentialInput = padded sequentialBits (inputs P M l)
 
-    module _ (l : ℕ) (low : l ≤ 64) where
-      abbrev sequentialInput : List Bool
-      sequentialInput = padded sequentialBits (inputs P M l)
-
-      last-flag : (n j : ℕ) → lastOnly n j 1 ≡ digit (eqb (suc j) n)
-      last-flag n j = go (eqb (suc j) n)
-        where
-          go : (b : Bool) → cond b 1 0 ≡ digit b
-          go true = refl
-          go false = refl
-
-      chain-value : (j : ℕ) → j ≤ 2 ^ 53 → words 16 (bitsOf 64 (chain (commonOf P) l M j)) ≡ chain (commonOf P) l M j
-      chain-value j h =
-          words-of (chain (commonOf P) l M j) (length-chain (commonOf P) (fair P valid .kLength) M l j) (below-chain (commonOf P) (fair P valid) M small l j (omega arith) h)
-
-      -- the chain before node j
-      chain-values : (j : ℕ) → j < sequentialNodes l (length M) → chainAt P (suc l) 0 noChain sequentialInput j ≡ bitsOf 64 (chain (commonOf P) l M j)
-      unfolding noChain
-      chain-values zero i = chainAt-zero P (suc l) 0 noChain sequentialInput ∙ rw (chain-zero (commonOf P) M l) (sym (bitsOf-zeros 64 16))
-      chain-values (suc j) i =
-          let C : Common = commonOf P in
-          let s = sequential-part l (omega arith) j (omega arith) in
-          let z : 0 + j ≡ j = omega arith in
-          let o : digit (eqb (suc j) (sequentialNodes l (length M))) ≡ 0 = rw (ne-eqb (suc j) (sequentialNodes l (length M)) (λ e. omega arith)) refl in
-          let c : words 16 (chainAt P (suc l) 0 noChain sequentialInput j) ≡ chain C l M j =
-          ap (words 16) (chain-values j (omega arith)) ∙ chain-value j (omega (arith, s .2)) in
-          let B : List ℕ = words 16 (chainAt P (suc l) 0 noChain sequentialInput j) ++ words 48 (drop (sequentialBits * j) sequentialInput) in
-          let g : B ≡ chain C l M j ++ sequentialWords C l M j = rw (c, s .1) in
-          let v : chain C l M (suc j) ≡ nodeWords C (suc l) j 0 0 (chain C l M j ++ sequentialWords C l M j) =
-          chain-suc C M l j ∙ rw (o, s .3 i) in
-          chainAt-suc P (suc l) 0 noChain sequentialInput j ∙ rw z (output-same P (suc l) j 0 0 0 B _ refl g) ∙ ap (bitsOf 64) (sym v)
-
-      sequential-values : (j : ℕ) (a : Node) → getElem? (sequential P (suc l) (inputs P M l)) j ≡ some a
-          → output (P .rounds) a ≡ bitsOf 64 (chain (commonOf P) l M (suc j))
-      sequential-values j a e =
-          let C : Common = commonOf P in
-          let X : List Bool = inputs P M l in
-          let b : j < blocks sequentialBits (length X) = omega (arith, index-below (sequential P (suc l) X) j a e, length-sequential P (suc l) X) in
-          let n : sequentialNodes l (length M) ≡ blocks sequentialBits (length X) = sequential-nodes l in
-          let s = sequential-part l (omega arith) j (omega arith) in
-          let at = sequential-at P (suc l) X j b in
-          let f : lastOnly (blocks sequentialBits (length X)) j 1 ≡ digit (eqb (suc j) (sequentialNodes l (length M))) =
-          last-flag (blocks sequentialBits (length X)) j ∙ ap (λ (k : ℕ). digit (eqb (suc j) k)) (sym n) in
-          let c : words 16 (chainAt P (suc l) 0 noChain sequentialInput j) ≡ chain C l M j =
-          ap (words 16) (chain-values j (omega arith)) ∙ chain-value j (omega (arith, s .2)) in
-          let g : words 16 (chainAt P (suc l) 0 noChain sequentialInput j) ++ words 48 (drop (sequentialBits * j) sequentialInput) ≡ chain C l M j ++ sequentialWords C l M j =
-          rw (c, s .1) in
-          ap (output (P .rounds)) (sym (same-node _ a (sym at ∙ e)))
-          ∙ rw f (output-same P (suc l) j (digit (eqb (suc j) (sequentialNodes l (length M)))) _ _ _ _ (s .0) g)
-          ∙ ap (bitsOf 64) (sym (chain-suc C M l j))
-
-    -- ---- the levels
-
-    -- a place of a parallel level, whether or not it is the last
-    parallel-values : (h : ℕ) (alone : Bool) (i : ℕ) (a : Node) → suc h < 256 → getElem? (parallel P (suc h) alone (inputs P M h)) i ≡ some a
-        → output (P .rounds) a ≡ bitsOf 64 (value (commonOf P) M (suc h) i (digit alone))
-    parallel-values h alone i a g e =
-        let X : List Bool = inputs P M h in
-        let b : i < blocks blockBits (length X) = omega (arith, index-below (parallel P (suc h) alone X) i a e, length-parallel P (suc h) alone X) in
-        let s : levelNode h i (digit alone) ≡ a = same-node _ a (sym (parallel-at P (suc h) alone X i b) ∙ e) in
-        ap (output (P .rounds)) (sym s) ∙ node-values h g i (digit alone) (omega (arith, blocks-inputs h))
-
-    value-parallel : (level index : ℕ) (alone : Bool) → level ≤ P .limit → eqb (levelNodes (length M) level) 1 ≡ alone
-        → valueAt (commonOf P) (P .limit) M level index ≡ value (commonOf P) M level index (digit alone)
-    unfolding valueAt
-    value-parallel level index alone h e = rw (le-ltb (P .limit) level h, e)
-
-    value-sequential : (index : ℕ) → valueAt (commonOf P) (P .limit) M (suc (P .limit)) index ≡ chain (commonOf P) (P .limit) M (suc index)
-    unfolding valueAt
-    value-sequential index = rw (lt-ltb (P .limit) (suc (P .limit)) (omega arith))
-
-    -- the levels from h + 1 up, of which n may be parallel
-    levels-values : (n h : ℕ) → h + n ≡ P .limit → (k i : ℕ) (a : Node) → nodeAt (levels P n (suc h) (inputs P M h)) (suc k) i ≡ some a
-        → output (P .rounds) a ≡ bitsOf 64 (valueAt (commonOf P) (P .limit) M (suc h + k) i)
-    levels-values zero h t zero i a e =
-        let s : h ≡ P .limit = omega arith in
-        let z : suc (P .limit) + 0 ≡ suc (P .limit) = omega arith in
-        let w : getElem? (sequential P (suc (P .limit)) (inputs P M (P .limit))) i ≡ some a = rw s at e in
-        sequential-values (P .limit) (valid .limitHigh) i a w ∙ rw (s, z, value-sequential i)
-    levels-values zero h t (suc k) i a e = absurd (no-node a e)
-    levels-values (suc n) h t k i a e = go (eqb (blocks blockBits (length (inputs P M h))) 1) refl k e (levels-values n (suc h) (omega arith))
+    last-flag : (n j : ℕ) → lastOnly n j 1 ≡ digit (eqb (suc j) n)
+    last-flag n j = go (eqb (suc j) n)
       where
-        X : List Bool
-        X = inputs P M h
+        go : (b : Bool) → cond b 1 0 ≡ digit b
+        go true = refl
+        go false = refl
 
-        flag : (b : Bool) → eqb (blocks blockBits (length (inputs P M h))) 1 ≡ b → eqb (levelNodes (length M) (suc h)) 1 ≡ b
-        flag b q = rw (← (blocks-inputs h)) q
+    chain-value : (j : ℕ) → words 16 (bitsOf 64 (chain P l M j)) ≡ chain P l M j
+    chain-value j = numbers-exact 64 16 (below-chain P M l j) (length-chain P M l j)
 
-        first : (b : Bool) → eqb (blocks blockBits (length (inputs P M h))) 1 ≡ b → getElem? (parallel P (suc h) b (inputs P M h)) i ≡ some a
-            → output (P .rounds) a ≡ bitsOf 64 (valueAt (commonOf P) (P .limit) M (suc h + 0) i)
-        first b q w =
-            let z : suc h + 0 ≡ suc h = omega arith in
-            parallel-values h b i a (omega (arith, valid .limitHigh)) w ∙ rw (z, value-parallel (suc h) i b (omega arith) (flag b q))
+    -- the chain before node j
+    chain-values : (j : ℕ) → j < sequentialNodes l (length M) → chainAt P (suc l) 0 noChain sequentialInput j ≡ bitsOf 64 (chain P l M j)
+    unfolding noChain
+    chain-values zero i = chainAt-zero P (suc l) 0 noChain sequentialInput ∙ rw (chain-zero P M l) (sym (bitsOf-zeros 64 16))
+    chain-values (suc j) i =
+        let s = sequential-part l j (omega arith) in
+        let z : 0 + j ≡ j = omega arith in
+        let o : digit (eqb (suc j) (sequentialNodes l (length M))) ≡ 0 = rw (ne-eqb (suc j) (sequentialNodes l (length M)) (λ e. omega arith)) refl in
+        let c : words 16 (chainAt P (suc l) 0 noChain sequentialInput j) ≡ chain P l M j =
+        ap (words 16) (chain-values j (omega arith)) ∙ chain-value j in
+        let B : List ℕ = words 16 (chainAt P (suc l) 0 noChain sequentialInput j) ++ words 48 (drop (sequentialBits * j) sequentialInput) in
+        let g : B ≡ chain P l M j ++ sequentialWords P l M j = rw (c, s .1) in
+        let v : chain P l M (suc j) ≡ nodeWords P (suc l) j 0 0 (chain P l M j ++ sequentialWords P l M j) =
+        chain-suc P M l j ∙ rw (o, s .2 i) in
+        chainAt-suc P (suc l) 0 noChain sequentialInput j ∙ rw z (output-same P (suc l) j 0 0 0 B _ (length-seqBlock P _ _) refl g) ∙ ap (bitsOf 64) (sym v)
 
-        go : (b : Bool) → eqb (blocks blockBits (length (inputs P M h))) 1 ≡ b → (k : ℕ) → nodeAt (above P n (suc h) b (inputs P M h)) (suc k) i ≡ some a
-            → ((k i : ℕ) (a : Node) → nodeAt (levels P n (suc (suc h)) (inputs P M (suc h))) (suc k) i ≡ some a
-            → output (P .rounds) a ≡ bitsOf 64 (valueAt (commonOf P) (P .limit) M (suc (suc h) + k) i))
-            → output (P .rounds) a ≡ bitsOf 64 (valueAt (commonOf P) (P .limit) M (suc h + k) i)
-        go true q zero w up = first true q w
-        go true q (suc k) w up = absurd (no-node a w)
-        go false q zero w up = first false q w
-        go false q (suc k) w up =
-            let z : suc h + suc k ≡ suc (suc h) + k = omega arith in
-            rw z (up k i a (rw (inputs-suc P M h) w))
+    sequential-values : (j : ℕ) (a : Node) → getElem? (sequential P (suc l) (inputs P M l)) j ≡ some a
+        → output (P .rounds) a ≡ bitsOf 64 (chain P l M (suc j))
+    sequential-values j a e =
+        let X : List Bool = inputs P M l in
+        let b : j < blocks sequentialBits (length X) = omega (arith, index-below (sequential P (suc l) X) j a e, length-sequential P (suc l) X) in
+        let n : sequentialNodes l (length M) ≡ blocks sequentialBits (length X) = sequential-nodes l in
+        let s = sequential-part l j (omega arith) in
+        let at = sequential-at P (suc l) X j b in
+        let f : lastOnly (blocks sequentialBits (length X)) j 1 ≡ digit (eqb (suc j) (sequentialNodes l (length M))) =
+        last-flag (blocks sequentialBits (length X)) j ∙ ap (λ (k : ℕ). digit (eqb (suc j) k)) (sym n) in
+        let c : words 16 (chainAt P (suc l) 0 noChain sequentialInput j) ≡ chain P l M j =
+        ap (words 16) (chain-values j (omega arith)) ∙ chain-value j in
+        let g : words 16 (chainAt P (suc l) 0 noChain sequentialInput j) ++ words 48 (drop (sequentialBits * j) sequentialInput) ≡ chain P l M j ++ sequentialWords P l M j =
+        rw (c, s .1) in
+        ap (output (P .rounds)) (sym (same-node _ a (sym at ∙ e)))
+        ∙ rw f (output-same P (suc l) j (digit (eqb (suc j) (sequentialNodes l (length M)))) _ _ _ _ (length-seqBlock P _ _) (s .0) g)
+        ∙ ap (bitsOf 64) (sym (chain-suc P M l j))
 
-    -- the root, with its level
-    abbrev rootFrom : ℕ → List ℕ
-    rootFrom top =
-        cond (ltb (P .limit) top) (chain (commonOf P) (P .limit) M (sequentialNodes (P .limit) (length M))) (value (commonOf P) M top 0 1)
+  -- ---- the levels
 
-    levels-root : (n h : ℕ) → h + n ≡ P .limit → output (P .rounds) (rootOf (levels P n (suc h) (inputs P M h))) ≡ bitsOf 64 (rootFrom (topFrom (length M) n (suc h)))
-    unfolding topFrom
-    levels-root zero h t =
-        let s : h ≡ P .limit = omega arith in
-        rw (s, lt-ltb (P .limit) (suc (P .limit)) (omega arith)) (last-of (sequentialNodes (P .limit) (length M)) (sequential-nodes (P .limit)))
-      where
-        S : List Node
-        S = sequential P (suc (P .limit)) (inputs P M (P .limit))
+  -- a place of a parallel level, whether or not it is the last
+  parallel-values : (h : ℕ) (alone : Bool) (i : ℕ) (a : Node) → getElem? (parallel P (suc h) alone (inputs P M h)) i ≡ some a
+      → output (P .rounds) a ≡ bitsOf 64 (value P M (suc h) i (digit alone))
+  parallel-values h alone i a e =
+      let X : List Bool = inputs P M h in
+      let b : i < blocks blockBits (length X) = omega (arith, index-below (parallel P (suc h) alone X) i a e, length-parallel P (suc h) alone X) in
+      let s : levelNode h i (digit alone) ≡ a = same-node _ a (sym (parallel-at P (suc h) alone X i b) ∙ e) in
+      ap (output (P .rounds)) (sym s) ∙ node-values h i (digit alone) (omega (arith, blocks-inputs h))
 
-        last-of : (n : ℕ) → n ≡ blocks sequentialBits (length (inputs P M (P .limit)))
-            → output (P .rounds) (rootOf (sequential P (suc (P .limit)) (inputs P M (P .limit)) ∷ [])) ≡ bitsOf 64 (chain (commonOf P) (P .limit) M n)
-        last-of zero e = absurd (omega arith)
-        last-of (suc j) e =
-            sequential-values (P .limit) (valid .limitHigh) j (rootOf (S ∷ []))
-            (root-place (S ∷ []) 1 j (refl, e ∙ sym (length-sequential P (suc (P .limit)) (inputs P M (P .limit)))))
-    levels-root (suc n) h t = go (eqb (blocks blockBits (length (inputs P M h))) 1) refl (levels-root n (suc h) (omega arith))
-      where
-        flag : (b : Bool) → eqb (blocks blockBits (length (inputs P M h))) 1 ≡ b → eqb (levelNodes (length M) (suc h)) 1 ≡ b
-        flag b q = rw (← (blocks-inputs h)) q
+  value-parallel : (level index : ℕ) (alone : Bool) → level ≤ P .limit → eqb (levelNodes (length M) level) 1 ≡ alone
+      → valueAt P (P .limit) M level index ≡ value P M level index (digit alone)
+  unfolding valueAt
+  value-parallel level index alone h e = rw (le-ltb (P .limit) level h, e)
 
-        go : (b : Bool) → eqb (blocks blockBits (length (inputs P M h))) 1 ≡ b
-            → output (P .rounds) (rootOf (levels P n (suc (suc h)) (inputs P M (suc h)))) ≡ bitsOf 64 (rootFrom (topFrom (length M) n (suc (suc h))))
-            → output (P .rounds) (rootOf (levels P (suc n) (suc h) (inputs P M h))) ≡ bitsOf 64 (rootFrom (topFrom (length M) (suc n) (suc h)))
-        go true q up =
-            let N : List Node = parallel P (suc h) true (inputs P M h) in
-            let one : blocks blockBits (length (inputs P M h)) ≡ 1 = eqb-true _ 1 q in
-            let l : length N ≡ 1 = length-parallel P (suc h) true (inputs P M h) ∙ one in
-            rw (levels-one P n (suc h) (inputs P M h) one, flag true q, le-ltb (P .limit) (suc h) (omega arith))
-            (parallel-values h true 0 (rootOf (N ∷ [])) (omega (arith, valid .limitHigh)) (root-place (N ∷ []) 1 0 (refl, sym l)))
-        go false q up =
-            let more : 1 < blocks blockBits (length (inputs P M h)) = omega (arith, eqb-false (blocks blockBits (length (inputs P M h))) 1 q) in
-            let Y : List Bool = joinedOutputs P (parallel P (suc h) false (inputs P M h)) in
-            let T : List (List Node) = levels P n (suc (suc h)) Y in
-            rw (levels-more P n (suc h) (inputs P M h) more, flag false q, rootOf-cons (parallel P (suc h) false (inputs P M h)) T (levels-some P n (suc (suc h)) Y))
-            (rw (inputs-suc P M h) at up)
+  value-sequential : (index : ℕ) → valueAt P (P .limit) M (suc (P .limit)) index ≡ chain P (P .limit) M (suc index)
+  unfolding valueAt
+  value-sequential index = rw (lt-ltb (P .limit) (suc (P .limit)) (omega arith))
 
-    -- the theorem: the node at a place of the levels has as output the bits of the value worked out for that place
-    pub node-by-node : (level index : ℕ) (a : Node) → nodeAt (tree P M) level index ≡ some a
-        → output (P .rounds) a ≡ bitsOf 64 (valueAt (commonOf P) (P .limit) M level index)
-    node-by-node zero index a e = absurd (no-node a e)
-    node-by-node (suc k) index a e =
-        let z : 1 + k ≡ suc k = omega arith in
-        rw z at (levels-values (P .limit) 0 (omega arith) k index a (rw (inputs-zero P M) e))
+  -- the levels from h + 1 up, of which n may be parallel
+  levels-values : (n h : ℕ) → h + n ≡ P .limit → (k i : ℕ) (a : Node) → nodeAt (levels P n (suc h) (inputs P M h)) (suc k) i ≡ some a
+      → output (P .rounds) a ≡ bitsOf 64 (valueAt P (P .limit) M (suc h + k) i)
+  levels-values zero h t zero i a e =
+      let s : h ≡ P .limit = omega arith in
+      let z : suc (P .limit) + 0 ≡ suc (P .limit) = omega arith in
+      let w : getElem? (sequential P (suc (P .limit)) (inputs P M (P .limit))) i ≡ some a = rw s at e in
+      sequential-values (P .limit) i a w ∙ rw (s, z, value-sequential i)
+  levels-values zero h t (suc k) i a e = absurd (no-node a e)
+  levels-values (suc n) h t k i a e = go (eqb (blocks blockBits (length (inputs P M h))) 1) refl k e (levels-values n (suc h) (omega arith))
+    where
+      X : List Bool
+      X = inputs P M h
 
-    -- and the root's output is the root's value
-    pub root-by-node : output (P .rounds) (root P M) ≡ bitsOf 64 (rootValue (commonOf P) (P .limit) M)
-    unfolding rootValue
-    root-by-node = rw (inputs-zero P M) at (levels-root (P .limit) 0 (omega arith))
+      flag : (b : Bool) → eqb (blocks blockBits (length (inputs P M h))) 1 ≡ b → eqb (levelNodes (length M) (suc h)) 1 ≡ b
+      flag b q = rw (← (blocks-inputs h)) q
 
-    -- the words that the next level reads from that output are the value itself
-    below-at : (level index : ℕ) (a : Node) → nodeAt (tree P M) level index ≡ some a → Below (2 ^ 64) (valueAt (commonOf P) (P .limit) M level index)
-    unfolding valueAt
-    below-at zero index a e = absurd (no-node a e)
-    below-at (suc h) index a e = go (ltb (P .limit) (suc h)) refl
-      where
-        z : ℕ
-        z = digit (eqb (levelNodes (length M) (suc h)) 1)
+      first : (b : Bool) → eqb (blocks blockBits (length (inputs P M h))) 1 ≡ b → getElem? (parallel P (suc h) b (inputs P M h)) i ≡ some a
+          → output (P .rounds) a ≡ bitsOf 64 (valueAt P (P .limit) M (suc h + 0) i)
+      first b q w =
+          let z : suc h + 0 ≡ suc h = omega arith in
+          parallel-values h b i a w ∙ rw (z, value-parallel (suc h) i b (omega arith) (flag b q))
 
-        go : (b : Bool) → ltb (P .limit) (suc h) ≡ b
-            → Below (2 ^ 64) (cond b (chain (commonOf P) (P .limit) M (suc index)) (value (commonOf P) M (suc h) index (digit (eqb (levelNodes (length M) (suc h)) 1))))
-        go true t =
-            below-chain (commonOf P) (fair P valid) M small (P .limit) (suc index) (omega (arith, valid .limitHigh)) (omega (arith, tree-index P M (suc h) index a e))
-        go false t =
-            let g : suc h ≤ P .limit = ltb-false (P .limit) (suc h) t in
-            let n = level-nodes P M (suc h) (omega arith) g (omega (arith, level-below (tree P M) h index a e)) in
-            below-value (commonOf P) (fair P valid) M small h index z (omega (arith, valid .limitHigh))
-            (omega (arith, index-below (levelAt (tree P M) (suc h)) index a e, n))
-            (digit-le (eqb (levelNodes (length M) (suc h)) 1))
+      go : (b : Bool) → eqb (blocks blockBits (length (inputs P M h))) 1 ≡ b → (k : ℕ) → nodeAt (above P n (suc h) b (inputs P M h)) (suc k) i ≡ some a
+          → ((k i : ℕ) (a : Node) → nodeAt (levels P n (suc (suc h)) (inputs P M (suc h))) (suc k) i ≡ some a
+          → output (P .rounds) a ≡ bitsOf 64 (valueAt P (P .limit) M (suc (suc h) + k) i))
+          → output (P .rounds) a ≡ bitsOf 64 (valueAt P (P .limit) M (suc h + k) i)
+      go true q zero w up = first true q w
+      go true q (suc k) w up = absurd (no-node a w)
+      go false q zero w up = first false q w
+      go false q (suc k) w up =
+          let z : suc h + suc k ≡ suc (suc h) + k = omega arith in
+          rw z (up k i a (rw (inputs-suc P M h) w))
 
-    length-at : (level index : ℕ) → 0 < level → length (valueAt (commonOf P) (P .limit) M level index) ≡ 16
-    unfolding valueAt
-    length-at zero index h = absurd (omega arith)
-    length-at (suc h) index g = go (ltb (P .limit) (suc h))
-      where
-        go : (b : Bool)
-            → length (cond b (chain (commonOf P) (P .limit) M (suc index)) (value (commonOf P) M (suc h) index (digit (eqb (levelNodes (length M) (suc h)) 1)))) ≡ 16
-        go true = length-chain (commonOf P) (fair P valid .kLength) M (P .limit) (suc index)
-        go false = length-value (commonOf P) (fair P valid .kLength) M h index (digit (eqb (levelNodes (length M) (suc h)) 1))
+  -- the root, with its level
+  abbrev rootFrom : ℕ → List ℕ
+  rootFrom top =
+      cond (ltb (P .limit) top) (chain P (P .limit) M (sequentialNodes (P .limit) (length M))) (value P M top 0 1)
 
-    pub node-words : (level index : ℕ) (a : Node) → nodeAt (tree P M) level index ≡ some a
-        → words 16 (output (P .rounds) a) ≡ valueAt (commonOf P) (P .limit) M level index
-    node-words level index a e =
-        ap (words 16) (node-by-node level index a e)
-        ∙ words-of (valueAt (commonOf P) (P .limit) M level index) (length-at level index (tree-level P M level index a e .0)) (below-at level index a e)
+  levels-root : (n h : ℕ) → h + n ≡ P .limit → output (P .rounds) (rootOf (levels P n (suc h) (inputs P M h))) ≡ bitsOf 64 (rootFrom (topFrom (length M) n (suc h)))
+  unfolding topFrom
+  levels-root zero h t =
+      let s : h ≡ P .limit = omega arith in
+      rw (s, lt-ltb (P .limit) (suc (P .limit)) (omega arith)) (last-of (sequentialNodes (P .limit) (length M)) (sequential-nodes (P .limit)))
+    where
+      S : List Node
+      S = sequential P (suc (P .limit)) (inputs P M (P .limit))
+
+      last-of : (n : ℕ) → n ≡ blocks sequentialBits (length (inputs P M (P .limit)))
+          → output (P .rounds) (rootOf (sequential P (suc (P .limit)) (inputs P M (P .limit)) ∷ [])) ≡ bitsOf 64 (chain P (P .limit) M n)
+      last-of zero e = absurd (omega arith)
+      last-of (suc j) e =
+          sequential-values (P .limit) j (rootOf (S ∷ []))
+          (root-place (S ∷ []) 1 j (refl, e ∙ sym (length-sequential P (suc (P .limit)) (inputs P M (P .limit)))))
+  levels-root (suc n) h t = go (eqb (blocks blockBits (length (inputs P M h))) 1) refl (levels-root n (suc h) (omega arith))
+    where
+      flag : (b : Bool) → eqb (blocks blockBits (length (inputs P M h))) 1 ≡ b → eqb (levelNodes (length M) (suc h)) 1 ≡ b
+      flag b q = rw (← (blocks-inputs h)) q
+
+      go : (b : Bool) → eqb (blocks blockBits (length (inputs P M h))) 1 ≡ b
+          → output (P .rounds) (rootOf (levels P n (suc (suc h)) (inputs P M (suc h)))) ≡ bitsOf 64 (rootFrom (topFrom (length M) n (suc (suc h))))
+          → output (P .rounds) (rootOf (levels P (suc n) (suc h) (inputs P M h))) ≡ bitsOf 64 (rootFrom (topFrom (length M) (suc n) (suc h)))
+      go true q up =
+          let N : List Node = parallel P (suc h) true (inputs P M h) in
+          let one : blocks blockBits (length (inputs P M h)) ≡ 1 = eqb-true _ 1 q in
+          let l : length N ≡ 1 = length-parallel P (suc h) true (inputs P M h) ∙ one in
+          rw (levels-one P n (suc h) (inputs P M h) one, flag true q, le-ltb (P .limit) (suc h) (omega arith))
+          (parallel-values h true 0 (rootOf (N ∷ [])) (root-place (N ∷ []) 1 0 (refl, sym l)))
+      go false q up =
+          let more : 1 < blocks blockBits (length (inputs P M h)) = omega (arith, eqb-false (blocks blockBits (length (inputs P M h))) 1 q) in
+          let Y : List Bool = joinedOutputs P (parallel P (suc h) false (inputs P M h)) in
+          let T : List (List Node) = levels P n (suc (suc h)) Y in
+          rw (levels-more P n (suc h) (inputs P M h) more, flag false q, rootOf-cons (parallel P (suc h) false (inputs P M h)) T (levels-some P n (suc (suc h)) Y))
+          (rw (inputs-suc P M h) at up)
+
+  -- the theorem: the node at a place of the levels has as output the bits of the value worked out for that place
+  node-by-node : (level index : ℕ) (a : Node) → nodeAt (tree P M) level index ≡ some a
+      → output (P .rounds) a ≡ bitsOf 64 (valueAt P (P .limit) M level index)
+  node-by-node zero index a e = absurd (no-node a e)
+  node-by-node (suc k) index a e =
+      let z : 1 + k ≡ suc k = omega arith in
+      rw z at (levels-values (P .limit) 0 (omega arith) k index a (rw (inputs-zero P M) e))
+
+  -- and the root's output is the root's value
+  pub root-by-node : output (P .rounds) (root P M) ≡ bitsOf 64 (rootValue P (P .limit) M)
+  unfolding rootValue
+  root-by-node = rw (inputs-zero P M) at (levels-root (P .limit) 0 (omega arith))
+
+  -- a value is read back from its bits
+  value-exact : (h index : ℕ) → words 16 (bitsOf 64 (valueAt P (P .limit) M (suc h) index)) ≡ valueAt P (P .limit) M (suc h) index
+  unfolding valueAt
+  value-exact h index = go (ltb (P .limit) (suc h))
+    where
+      z : ℕ
+      z = digit (eqb (levelNodes (length M) (suc h)) 1)
+
+      go : (b : Bool) → (let v : List ℕ = cond b (chain P (P .limit) M (suc index)) (value P M (suc h) index z) in words 16 (bitsOf 64 v) ≡ v)
+      go true = chain-value (P .limit) (suc index)
+      go false = numbers-exact 64 16 (below-value P M h index z) (length-value P M h index z)
+
+  -- so the words that the next level reads from that output are the value itself
+  pub node-words : (level index : ℕ) (a : Node) → nodeAt (tree P M) level index ≡ some a
+      → words 16 (output (P .rounds) a) ≡ valueAt P (P .limit) M level index
+  node-words zero index a e = absurd (no-node a e)
+  node-words (suc h) index a e = ap (words 16) (node-by-node (suc h) index a e) ∙ value-exact h index

@@ -9,15 +9,14 @@ use lib.Dec.{eqb}
 use lib.ListN.{length, replicate}
 use lib.Seq.{paste}
 use Rattle.bits.specs.Bits.{digit, filled}
-use Rattle.tree.specs.Tree.{words, sequentialBits, outputBits}
-use Rattle.tree.specs.Refusals.{pieceBits}
-use Rattle.tree.specs.Sizes.{levelNodes}
-use Rattle.node.specs.Words.{Common, nodeWords}
+use Rattle.tree.specs.Tree.{Params, words, sequentialBits, outputBits}
+use Rattle.bits.specs.Piece.{pieceOf, pieceBits, Fits}
+use Rattle.node.specs.Words.{nodeWords}
 use Rattle.nodes.specs.Value.{held, messagePart, childWords, value, sequentialNodes, sequentialPadding, sequentialWords, chain, rootValue, topFrom, topLevel}
-use Rattle.tree.specs.Count.{levelNodes-some}
+use Rattle.tree.specs.Count.{levelNodes, levelNodes-some}
 use Rattle.nodes.specs.ValueLaws.{levelNodes-le, chain-suc}
 use Rattle.node.specs.NodeLaws.{paste-at}
-use Rattle.tree.specs.RefusalLaws.{length-pieceBits}
+use Rattle.bits.specs.PieceLaws.{length-pieceBits}
 use Rattle.nodes.specs.BlockLaws.{filled-part}
 
 -- ---- indices
@@ -49,22 +48,22 @@ padding-children (suc l) bits index h = refl
 
 -- ---- words
 
-pub message-filled : (bytes : List ℕ) (bits index n : ℕ) → bits ≤ 8 * length bytes → index < sequentialNodes 0 bits → n ≡ held sequentialBits bits index
-    → filled (replicate 48 0) 0 bytes (8 * (384 * index) + 0) n ≡ words 48 (messagePart sequentialBits (pieceBits bytes bits) index)
+pub message-filled : (bytes : List ℕ) (bits index n : ℕ) → Fits (pieceOf bytes bits) → index < sequentialNodes 0 bits → n ≡ held sequentialBits bits index
+    → filled (replicate 48 0) 0 bytes (8 * (384 * index) + 0) n ≡ words 48 (messagePart sequentialBits (pieceBits (pieceOf bytes bits)) index)
 message-filled bytes bits index n g i en =
     filled-part bytes bits 48 sequentialBits index (8 * (384 * index) + 0) n refl (message-index bits index i) g (omega arith) en
 
-pub words-message : (C : Common) (limit : ℕ) (M : List Bool) (index : ℕ) → limit ≡ 0
-    → words 48 (messagePart sequentialBits M index) ≡ sequentialWords C limit M index
+pub words-message : (P : Params) (limit : ℕ) (M : List Bool) (index : ℕ) → limit ≡ 0
+    → words 48 (messagePart sequentialBits M index) ≡ sequentialWords P limit M index
 unfolding sequentialWords
-words-message C limit M index e = rw e
+words-message P limit M index e = rw e
 
-pub words-children : (C : Common) (limit : ℕ) (bytes : List ℕ) (bits index n : ℕ) → 0 < limit → bits ≤ 8 * length bytes
+pub words-children : (P : Params) (limit : ℕ) (bytes : List ℕ) (bits index n : ℕ) → 0 < limit → Fits (pieceOf bytes bits)
     → n ≡ held 3 (levelNodes bits limit) index
-    → childWords (λ j. value C (pieceBits bytes bits) limit j 0) 3 (3 * index) n ≡ sequentialWords C limit (pieceBits bytes bits) index
+    → childWords (λ j. value P (pieceBits (pieceOf bytes bits)) limit j 0) 3 (3 * index) n ≡ sequentialWords P limit (pieceBits (pieceOf bytes bits)) index
 unfolding sequentialWords
-words-children C zero bytes bits index n h g en = absurd (omega arith)
-words-children C (suc l) bytes bits index n h g en = rw (length-pieceBits bytes bits g, en)
+words-children P zero bytes bits index n h g en = absurd (omega arith)
+words-children P (suc l) bytes bits index n h g en = rw (length-pieceBits (pieceOf bytes bits) g, en)
 
 -- the chain, and then 48 words, are written to a block
 pub block-made : (before rest : List ℕ) → length before ≡ 16 → length rest ≡ 48
@@ -78,32 +77,32 @@ block-made before rest lb lr =
 
 -- ---- the chain
 
-pub chain-more : (C : Common) (limit : ℕ) (bytes : List ℕ) (bits index z : ℕ) (last : List ℕ) → bits ≤ 8 * length bytes
+pub chain-more : (P : Params) (limit : ℕ) (bytes : List ℕ) (bits index z : ℕ) (last : List ℕ) → Fits (pieceOf bytes bits)
     → z ≡ digit (eqb (suc index) (sequentialNodes limit bits))
-    → last ≡ chain C limit (pieceBits bytes bits) index
-    → nodeWords C (limit + 1) index z (sequentialPadding limit bits index) (last ++ sequentialWords C limit (pieceBits bytes bits) index)
-    ≡ chain C limit (pieceBits bytes bits) (index + 1)
-chain-more C limit bytes bits index z last g ez el =
-    let M : List Bool = pieceBits bytes bits in
-    let l : length M ≡ bits = length-pieceBits bytes bits g in
+    → last ≡ chain P limit (pieceBits (pieceOf bytes bits)) index
+    → nodeWords P (limit + 1) index z (sequentialPadding limit bits index) (last ++ sequentialWords P limit (pieceBits (pieceOf bytes bits)) index)
+    ≡ chain P limit (pieceBits (pieceOf bytes bits)) (index + 1)
+chain-more P limit bytes bits index z last g ez el =
+    let M : List Bool = pieceBits (pieceOf bytes bits) in
+    let l : length M ≡ bits = length-pieceBits (pieceOf bytes bits) g in
     let s : limit + 1 ≡ suc limit = omega arith in
     let t : index + 1 ≡ suc index = omega arith in
-    let e : chain C limit M (suc index)
-    ≡ nodeWords C (suc limit) index (digit (eqb (suc index) (sequentialNodes limit bits))) (sequentialPadding limit bits index) (chain C limit M index ++ sequentialWords C limit M index) =
-    chain-suc C M limit index ∙ rw l in
+    let e : chain P limit M (suc index)
+    ≡ nodeWords P (suc limit) index (digit (eqb (suc index) (sequentialNodes limit bits))) (sequentialPadding limit bits index) (chain P limit M index ++ sequentialWords P limit M index) =
+    chain-suc P M limit index ∙ rw l in
     rw (s, t, ez, el) (sym e)
 
 -- ---- the root
 
-pub root-chain : (C : Common) (limit : ℕ) (bytes : List ℕ) (bits : ℕ) → bits ≤ 8 * length bytes → limit < topLevel limit bits
-    → chain C limit (pieceBits bytes bits) (sequentialNodes limit bits) ≡ rootValue C limit (pieceBits bytes bits)
+pub root-chain : (P : Params) (limit : ℕ) (bytes : List ℕ) (bits : ℕ) → Fits (pieceOf bytes bits) → limit < topLevel limit bits
+    → chain P limit (pieceBits (pieceOf bytes bits)) (sequentialNodes limit bits) ≡ rootValue P limit (pieceBits (pieceOf bytes bits))
 unfolding rootValue
-root-chain C limit bytes bits g h = rw (length-pieceBits bytes bits g, lt-ltb limit (topLevel limit bits) h)
+root-chain P limit bytes bits g h = rw (length-pieceBits (pieceOf bytes bits) g, lt-ltb limit (topLevel limit bits) h)
 
-pub root-parallel : (C : Common) (limit : ℕ) (bytes : List ℕ) (bits : ℕ) → bits ≤ 8 * length bytes → topLevel limit bits ≤ limit
-    → value C (pieceBits bytes bits) (topLevel limit bits) 0 1 ≡ rootValue C limit (pieceBits bytes bits)
+pub root-parallel : (P : Params) (limit : ℕ) (bytes : List ℕ) (bits : ℕ) → Fits (pieceOf bytes bits) → topLevel limit bits ≤ limit
+    → value P (pieceBits (pieceOf bytes bits)) (topLevel limit bits) 0 1 ≡ rootValue P limit (pieceBits (pieceOf bytes bits))
 unfolding rootValue
-root-parallel C limit bytes bits g h = rw (length-pieceBits bytes bits g, le-ltb limit (topLevel limit bits) h)
+root-parallel P limit bytes bits g h = rw (length-pieceBits (pieceOf bytes bits) g, le-ltb limit (topLevel limit bits) h)
 
 -- the root's level counts from 1, and has a node
 pub top-some : (m n level : ℕ) → level ≤ topFrom m n level

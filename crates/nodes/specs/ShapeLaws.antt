@@ -7,9 +7,8 @@ use native.Mathlib.Omega.{arith}
 use borrow.Author.Tests.{eq-eqb, ne-eqb, eqb-true, eqb-false}
 use lib.Dec.{eqb}
 use Rattle.tree.specs.Tree.{blocks, sequentialBits, mostLevels}
-use Rattle.tree.specs.Sizes.{levelNodes}
 use Rattle.nodes.specs.Value.{sequentialNodes, topFrom, topLevel}
-use Rattle.tree.specs.Count.{levelNodes-one, levelNodes-suc, levelNodes-some}
+use Rattle.tree.specs.Count.{levelNodes, levelNodes-one, levelNodes-suc, levelNodes-some}
 
 pub levelNodes-more : (m level : ℕ) → 0 < level → levelNodes m (level + 1) ≡ blocks 4 (levelNodes m level)
 levelNodes-more m zero h = absurd (omega arith)

@@ -7,9 +7,16 @@ use Prim.Native.Nat.{ℕ, zero, suc, _+_, _-_, _*_, min}
 use lib.Dec.{eqb, ltb}
 use lib.ListN.{length, take, drop, replicate}
 use Rattle.bits.specs.Bits.{digit}
-use Rattle.tree.specs.Tree.{words, blockBits, sequentialBits, outputBits, blocks}
-use Rattle.tree.specs.Sizes.{levelNodes}
-use Rattle.node.specs.Words.{Common, nodeWords}
+use Rattle.bits.specs.Piece.{pieceOf, Fits}
+use Rattle.tree.specs.Tree.{Params, words, blockBits, sequentialBits, outputBits, blocks}
+use Rattle.tree.specs.Count.{levelNodes}
+use Rattle.refusals.specs.declared.Params as declared
+use Rattle.node.specs.Words.{nodeWords, Ready}
+
+-- what the code that works out values is given: what every node needs, and a message that has its bits
+pub record Given (message : List ℕ) (bits : ℕ) (k : List ℕ) (params : declared.Params) (table : List ℕ) : Type 0 where
+  pub ready : Ready k params table
+  pub enough : Fits (pieceOf message bits)
 
 -- how many of m things a node takes that stands at an index and takes so many at most
 abbrev pub held : ℕ → ℕ → ℕ → ℕ
@@ -29,13 +36,13 @@ abbrev pub childWords : (ℕ → List ℕ) → ℕ → ℕ → ℕ → List ℕ
 childWords f room index n = joinedValues f index n ++ replicate (16 * (room - n)) 0
 
 -- the value of the node at a parallel level and an index; z is 1 at the root
-unfoldable pub value : Common → List Bool → ℕ → ℕ → ℕ → List ℕ
-value C M zero index z = []
-value C M (suc zero) index z =
-    nodeWords C 1 index z (blockBits - held blockBits (length M) index) (words 64 (messagePart blockBits M index))
-value C M (suc (suc level)) index z =
+unfoldable pub value : Params → List Bool → ℕ → ℕ → ℕ → List ℕ
+value P M zero index z = []
+value P M (suc zero) index z =
+    nodeWords P 1 index z (blockBits - held blockBits (length M) index) (words 64 (messagePart blockBits M index))
+value P M (suc (suc level)) index z =
     let n : ℕ = held 4 (levelNodes (length M) (suc level)) index in
-    nodeWords C (suc (suc level)) index z (outputBits * (4 - n)) (childWords (λ j. value C M (suc level) j 0) 4 (4 * index) n)
+    nodeWords P (suc (suc level)) index z (outputBits * (4 - n)) (childWords (λ j. value P M (suc level) j 0) 4 (4 * index) n)
 
 -- ---- the sequential level, above so many parallel ones
 
@@ -48,17 +55,17 @@ unfoldable pub sequentialPadding : ℕ → ℕ → ℕ → ℕ
 sequentialPadding zero m index = sequentialBits - held sequentialBits m index
 sequentialPadding (suc level) m index = outputBits * (3 - held 3 (levelNodes m (suc level)) index)
 
-unfoldable pub sequentialWords : Common → ℕ → List Bool → ℕ → List ℕ
-sequentialWords C zero M index = words 48 (messagePart sequentialBits M index)
-sequentialWords C (suc level) M index =
-    childWords (λ j. value C M (suc level) j 0) 3 (3 * index) (held 3 (levelNodes (length M) (suc level)) index)
+unfoldable pub sequentialWords : Params → ℕ → List Bool → ℕ → List ℕ
+sequentialWords P zero M index = words 48 (messagePart sequentialBits M index)
+sequentialWords P (suc level) M index =
+    childWords (λ j. value P M (suc level) j 0) 3 (3 * index) (held 3 (levelNodes (length M) (suc level)) index)
 
 -- the chain after n nodes: 16 zero words, and then the value of the node before; z is 1 at the last
-unfoldable pub chain : Common → ℕ → List Bool → ℕ → List ℕ
-chain C limit M zero = replicate 16 0
-chain C limit M (suc index) =
-    nodeWords C (suc limit) index (digit (eqb (suc index) (sequentialNodes limit (length M)))) (sequentialPadding limit (length M) index)
-    (chain C limit M index ++ sequentialWords C limit M index)
+unfoldable pub chain : Params → ℕ → List Bool → ℕ → List ℕ
+chain P limit M zero = replicate 16 0
+chain P limit M (suc index) =
+    nodeWords P (suc limit) index (digit (eqb (suc index) (sequentialNodes limit (length M)))) (sequentialPadding limit (length M) index)
+    (chain P limit M index ++ sequentialWords P limit M index)
 
 -- ---- the whole tree
 
@@ -71,12 +78,12 @@ abbrev pub topLevel : ℕ → ℕ → ℕ
 topLevel limit m = topFrom m limit 1
 
 -- the value of the node at a level and an index of the tree
-unfoldable pub valueAt : Common → ℕ → List Bool → ℕ → ℕ → List ℕ
-valueAt C limit M level index =
-    cond (ltb limit level) (chain C limit M (suc index)) (value C M level index (digit (eqb (levelNodes (length M) level) 1)))
+unfoldable pub valueAt : Params → ℕ → List Bool → ℕ → ℕ → List ℕ
+valueAt P limit M level index =
+    cond (ltb limit level) (chain P limit M (suc index)) (value P M level index (digit (eqb (levelNodes (length M) level) 1)))
 
 -- the root's value
-unfoldable pub rootValue : Common → ℕ → List Bool → List ℕ
-rootValue C limit M =
+unfoldable pub rootValue : Params → ℕ → List Bool → List ℕ
+rootValue P limit M =
     let top : ℕ = topLevel limit (length M) in
-    cond (ltb limit top) (chain C limit M (sequentialNodes limit (length M))) (value C M top 0 1)
+    cond (ltb limit top) (chain P limit M (sequentialNodes limit (length M))) (value P M top 0 1)

@@ -14,12 +14,11 @@ use Rattle.lists.specs.Replicate.{take-replicate}
 use Rattle.lists.specs.Below.{Below, none}
 use Rattle.lists.specs.BelowLaws.{below-append, below-zeros}
 use Rattle.bits.specs.Bits.{digit}
-use Rattle.bits.specs.BitsLaws.{digit-le, length-numbers, numbers-below}
-use Rattle.tree.specs.Tree.{words, blocks, blockBits, sequentialBits, outputBits}
-use Rattle.tree.specs.Sizes.{levelNodes}
-use Rattle.tree.specs.Count.{fourth, levelNodes-one, levelNodes-suc, levelNodes-some}
-use Rattle.node.specs.Words.{Common, nodeWords}
-use Rattle.node.specs.WordLaws.{length-nodeWords, below-nodeWords, Fair}
+use Rattle.bits.specs.BitsLaws.{length-numbers}
+use Rattle.tree.specs.Tree.{Params, words, blocks, blockBits, sequentialBits, outputBits}
+use Rattle.tree.specs.Count.{levelNodes, fourth, levelNodes-one, levelNodes-suc, levelNodes-some}
+use Rattle.node.specs.Words.{nodeWords}
+use Rattle.node.specs.WordLaws.{length-nodeWords, below-nodeWords}
 use Rattle.nodes.specs.Value.{held, messagePart, joinedValues, childWords, value, sequentialNodes, sequentialPadding, sequentialWords, chain}
 
 -- so many elements from n on, of a list that zeros follow
@@ -62,7 +61,7 @@ pub joined-suc : (f : ℕ → List ℕ) (a n : ℕ) → joinedValues f a (suc n)
 unfolding joinedValues
 joined-suc f a n = refl
 
-pub joined-add : (f : ℕ → List ℕ) (a m n : ℕ) → joinedValues f a (m + n) ≡ joinedValues f a m ++ joinedValues f (a + m) n
+joined-add : (f : ℕ → List ℕ) (a m n : ℕ) → joinedValues f a (m + n) ≡ joinedValues f a m ++ joinedValues f (a + m) n
 joined-add f a m zero =
     let e : m + 0 ≡ m = omega arith in
     rw (e, joined-zero f (a + m)) (sym (append-nil (joinedValues f a m)))
@@ -84,10 +83,10 @@ length-joinedValues f a zero h = rw (joined-zero f a) (omega arith)
 length-joinedValues f a (suc n) h =
     rw (joined-suc f a n, length-append, length-joinedValues f a n h, h (a + n)) (omega arith)
 
-pub below-joinedValues : (f : ℕ → List ℕ) (a n : ℕ) → ((j : ℕ) → j < n → Below (2 ^ 64) (f (a + j))) → Below (2 ^ 64) (joinedValues f a n)
+pub below-joinedValues : (f : ℕ → List ℕ) (a n : ℕ) → ((j : ℕ) → Below (2 ^ 64) (f j)) → Below (2 ^ 64) (joinedValues f a n)
 below-joinedValues f a zero h = rw (joined-zero f a) none
 below-joinedValues f a (suc n) h =
-    rw (joined-suc f a n) (below-append (below-joinedValues f a n (λ j l. h j (omega arith))) (h n (omega arith)))
+    rw (joined-suc f a n) (below-append (below-joinedValues f a n h) (h (a + n)))
 
 -- the values that a node at index i takes, of c nodes below it and q at most
 pub joined-part : (f : ℕ → List ℕ) (q c i : ℕ) → ((j : ℕ) → length (f j) ≡ 16) → q * i ≤ c
@@ -129,90 +128,51 @@ levelNodes-le m (suc h) l = rw (levelNodes-suc m h) (omega (arith, levelNodes-le
 
 -- ---- the definitions, one step each
 
-module _ (C : Common) (M : List Bool) where
+module _ (P : Params) (M : List Bool) where
   pub value-one : (index z : ℕ)
-      → value C M 1 index z ≡ nodeWords C 1 index z (blockBits - held blockBits (length M) index) (words 64 (messagePart blockBits M index))
+      → value P M 1 index z ≡ nodeWords P 1 index z (blockBits - held blockBits (length M) index) (words 64 (messagePart blockBits M index))
   unfolding value
   value-one index z = refl
 
   pub value-suc : (h index z : ℕ)
-      → value C M (suc (suc h)) index z
-      ≡ nodeWords C (suc (suc h)) index z (outputBits * (4 - held 4 (levelNodes (length M) (suc h)) index)) (childWords (λ j. value C M (suc h) j 0) 4 (4 * index) (held 4 (levelNodes (length M) (suc h)) index))
+      → value P M (suc (suc h)) index z
+      ≡ nodeWords P (suc (suc h)) index z (outputBits * (4 - held 4 (levelNodes (length M) (suc h)) index)) (childWords (λ j. value P M (suc h) j 0) 4 (4 * index) (held 4 (levelNodes (length M) (suc h)) index))
   unfolding value
   value-suc h index z = refl
 
-  pub chain-zero : (limit : ℕ) → chain C limit M 0 ≡ replicate 16 0
+  pub chain-zero : (limit : ℕ) → chain P limit M 0 ≡ replicate 16 0
   unfolding chain
   chain-zero limit = refl
 
   pub chain-suc : (limit index : ℕ)
-      → chain C limit M (suc index)
-      ≡ nodeWords C (suc limit) index (digit (eqb (suc index) (sequentialNodes limit (length M)))) (sequentialPadding limit (length M) index) (chain C limit M index ++ sequentialWords C limit M index)
+      → chain P limit M (suc index)
+      ≡ nodeWords P (suc limit) index (digit (eqb (suc index) (sequentialNodes limit (length M)))) (sequentialPadding limit (length M) index) (chain P limit M index ++ sequentialWords P limit M index)
   unfolding chain
   chain-suc limit index = refl
 
--- ---- values: 16 words each
+-- ---- values: 16 words each, numbers below 2 ^ 64
 
-module _ (C : Common) (kLength : length (C .k) ≡ 8) where
-  module _ (M : List Bool) where
-    pub length-value : (h index z : ℕ) → length (value C M (suc h) index z) ≡ 16
-    length-value zero index z = rw (value-one C M index z) (length-nodeWords C kLength 1 index z _ _ (length-numbers 64 64 (messagePart blockBits M index)))
-    length-value (suc h) index z =
-        let n : ℕ = held 4 (levelNodes (length M) (suc h)) index in
-        rw (value-suc C M h index z)
-        (length-nodeWords C kLength (suc (suc h)) index z _ _
-        (simp (length-append, length-replicate)
-        (omega (arith, length-joinedValues (λ j. value C M (suc h) j 0) (4 * index) n (λ j. length-value h j 0)))))
+module _ (P : Params) (M : List Bool) where
+  pub length-value : (h index z : ℕ) → length (value P M (suc h) index z) ≡ 16
+  length-value zero index z = rw (value-one P M index z) (length-nodeWords P 1 index z _ _)
+  length-value (suc h) index z = rw (value-suc P M h index z) (length-nodeWords P (suc (suc h)) index z _ _)
 
-    pub length-sequentialWords : (limit index : ℕ) → length (sequentialWords C limit M index) ≡ 48
-    unfolding sequentialWords
-    length-sequentialWords zero index = length-numbers 64 48 (messagePart sequentialBits M index)
-    length-sequentialWords (suc h) index =
-        let n : ℕ = held 3 (levelNodes (length M) (suc h)) index in
-        simp (length-append, length-replicate)
-        (omega (arith, length-joinedValues (λ j. value C M (suc h) j 0) (3 * index) n (λ j. length-value h j 0)))
+  pub below-value : (h index z : ℕ) → Below (2 ^ 64) (value P M (suc h) index z)
+  below-value zero index z = rw (value-one P M index z) (below-nodeWords P 1 index z _ _)
+  below-value (suc h) index z = rw (value-suc P M h index z) (below-nodeWords P (suc (suc h)) index z _ _)
 
-    pub length-chain : (limit index : ℕ) → length (chain C limit M index) ≡ 16
-    length-chain limit zero = rw (chain-zero C M limit)
-    length-chain limit (suc index) =
-        rw (chain-suc C M limit index)
-        (length-nodeWords C kLength (suc limit) index _ _ _
-        (length-append (chain C limit M index) (sequentialWords C limit M index) ∙ omega (arith, length-chain limit index, length-sequentialWords limit index)))
+  pub length-sequentialWords : (limit index : ℕ) → length (sequentialWords P limit M index) ≡ 48
+  unfolding sequentialWords
+  length-sequentialWords zero index = length-numbers 64 48 (messagePart sequentialBits M index)
+  length-sequentialWords (suc h) index =
+      let n : ℕ = held 3 (levelNodes (length M) (suc h)) index in
+      simp (length-append, length-replicate)
+      (omega (arith, length-joinedValues (λ j. value P M (suc h) j 0) (3 * index) n (λ j. length-value h j 0)))
 
--- ---- values are words: numbers below 2 ^ 64
+  pub length-chain : (limit index : ℕ) → length (chain P limit M index) ≡ 16
+  length-chain limit zero = rw (chain-zero P M limit)
+  length-chain limit (suc index) = rw (chain-suc P M limit index) (length-nodeWords P (suc limit) index _ _ _)
 
-sequentialPadding-le : (limit m index : ℕ) → sequentialPadding limit m index ≤ 4096
-unfolding sequentialPadding
-sequentialPadding-le zero m index = omega arith
-sequentialPadding-le (suc h) m index = omega arith
-
-module _ (C : Common) (ok : Fair C) where
-  module _ (M : List Bool) (small : length M < 2 ^ 64) where
-    pub below-value : (h index z : ℕ) → suc h < 256 → index < levelNodes (length M) (suc h) → z ≤ 1 → Below (2 ^ 64) (value C M (suc h) index z)
-    below-value zero index z g i hz =
-        rw (value-one C M index z)
-        (below-nodeWords C ok 1 index z _ _ g (omega (arith, levelNodes-le (length M) zero small)) hz (omega arith) (numbers-below 64 64 (messagePart blockBits M index)))
-    below-value (suc h) index z g i hz =
-        let c : ℕ = levelNodes (length M) (suc h) in
-        let n : ℕ = held 4 c index in
-        rw (value-suc C M h index z)
-        (below-nodeWords C ok (suc (suc h)) index z _ _ g (omega (arith, levelNodes-le (length M) (suc h) small)) hz (omega arith)
-        (below-append
-        (below-joinedValues (λ j. value C M (suc h) j 0) (4 * index) n (λ j b. below-value h (4 * index + j) 0 (omega arith) (omega arith) (omega arith)))
-        (below-zeros (2 ^ 64) (16 * (4 - n)) (omega arith))))
-
-    pub below-sequentialWords : (limit index : ℕ) → suc limit < 256 → Below (2 ^ 64) (sequentialWords C limit M index)
-    unfolding sequentialWords
-    below-sequentialWords zero index g = numbers-below 64 48 (messagePart sequentialBits M index)
-    below-sequentialWords (suc h) index g =
-        let n : ℕ = held 3 (levelNodes (length M) (suc h)) index in
-        below-append
-        (below-joinedValues (λ j. value C M (suc h) j 0) (3 * index) n (λ j b. below-value h (3 * index + j) 0 (omega arith) (omega arith) (omega arith)))
-        (below-zeros (2 ^ 64) (16 * (3 - n)) (omega arith))
-
-    pub below-chain : (limit index : ℕ) → suc limit < 256 → index ≤ 2 ^ 53 → Below (2 ^ 64) (chain C limit M index)
-    below-chain limit zero g h = rw (chain-zero C M limit) (below-zeros (2 ^ 64) 16 (omega arith))
-    below-chain limit (suc index) g h =
-        rw (chain-suc C M limit index)
-        (below-nodeWords C ok (suc limit) index _ _ _ g (omega arith) (digit-le (eqb (suc index) (sequentialNodes limit (length M)))) (sequentialPadding-le limit (length M) index)
-        (below-append (below-chain limit index g (omega arith)) (below-sequentialWords limit index g)))
+  pub below-chain : (limit index : ℕ) → Below (2 ^ 64) (chain P limit M index)
+  below-chain limit zero = rw (chain-zero P M limit) (below-zeros (2 ^ 64) 16 (omega arith))
+  below-chain limit (suc index) = rw (chain-suc P M limit index) (below-nodeWords P (suc limit) index _ _ _)

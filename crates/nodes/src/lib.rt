@@ -1,40 +1,20 @@
 // The nodes of a message: the value of each, its 16 words, worked out from the nodes one level below.
 ghost use mathlib.Core.Path.{_≡_};
 ghost use mathlib.Core.List.{_++_};
-ghost use Prim.Native.Nat.{suc, _+_, _-_, _*_, _≤_, _<_, _^_};
+ghost use Prim.Native.Nat.{suc, _+_, _-_, _*_, _≤_, _<_};
 ghost use lib.Dec.{eqb};
 ghost use lib.ListN.{length};
 ghost use Rattle.bits.specs.Bits.{digit};
 ghost use Rattle.tree.specs.Tree.{words, sequentialBits};
-ghost use Rattle.tree.specs.Refusals.{pieceBits};
-ghost use Rattle.tree.specs.Sizes.{levelNodes};
-ghost use Rattle.node.specs.Words.{nodeWords};
-ghost use Rattle.nodes.specs.Value.{messagePart, value, sequentialNodes, sequentialPadding, sequentialWords, chain, rootValue};
-ghost use Rattle.nodes.specs.Ready.{Ready, shared};
+ghost use Rattle.bits.specs.Piece.{pieceOf, pieceBits, Fits};
+ghost use Rattle.tree.specs.Count.{levelNodes};
+ghost use Rattle.node.specs.Words.{nodeWords, paramsFrom};
+ghost use Rattle.nodes.specs.Value.{Given, messagePart, value, sequentialNodes, sequentialPadding, sequentialWords, chain, rootValue};
 use node::Block;
-use node::Params;
+use node::Place;
+use refusals::Params;
 
 pub mod shape; // shape.rt: how many levels a tree has, and how many nodes each
-
-// The value of the node with this place, z, padding bits and block.
-fn made(
-    params: Params,
-    k: &[u64],
-    table: &[u64],
-    level: u64,
-    index: u64,
-    z: u64,
-    p: u64,
-    block: &[u64],
-) -> [u64; 16]
-    requires { ⌜ Ready params (now k) (now table) × (level < 256) × (index < 2 ^ 56) × (z < 16) × (p < 65536) × (length (now block) ≡ 64) ⌝ }
-    ensures { λ r. ⌜ r ≡ nodeWords (shared (now (k .entry)) params) level index z p (now (block .entry)) ⌝ }
-{
-    let u = node::node_u(level, index);
-    let v = node::node_v(params, z, p);
-    let rounds = params.rounds as usize;
-    node::compress_node(k, u, v, block, table, rounds)
-}
 
 // The value of a node at level 1: its block is filled with message bits.
 fn leaf(
@@ -46,15 +26,18 @@ fn leaf(
     index: u64,
     z: u64,
 ) -> [u64; 16]
-    requires { ⌜ Ready params (now k) (now table) × (bits ≤ 8 * length (now message)) × (index < levelNodes bits 1) × (z < 16) ⌝ }
-    ensures { λ r. ⌜ r ≡ value (shared (now (k .entry)) params) (pieceBits (now (message .entry)) bits) 1 index z ⌝ }
+    requires { ⌜ Given (now message) bits (now k) params (now table) ⌝ }
+    requires { ⌜ (index < levelNodes bits 1) × (z < 16) ⌝ }
+    ensures { λ r. ⌜ r ≡ value (paramsFrom (now (k .entry)) params) (pieceBits (pieceOf (now (message .entry)) bits)) 1 index z ⌝ }
 {
     let n = shape::taken(Block::BITS, bits, index);
     let empty = Block::new();
     let mut block = empty.words;
     let byte = (Block::BYTES * index) as usize;
     bits::fill(&mut block, 0, message, byte, 0, n as usize);
-    made(params, k, table, 1, index, z, Block::BITS - n, &block)
+    let level = 1;
+    let p = Block::BITS - n;
+    node::compress_node(params, k, table, Place { level, index, z, p }, &block)
 }
 
 // The value of the node at a parallel level and an index: at level 1 from the message, above it from the values of its
@@ -69,8 +52,9 @@ pub fn value(
     index: u64,
     z: u64,
 ) -> [u64; 16]
-    requires { ⌜ Ready params (now k) (now table) × (bits ≤ 8 * length (now message)) × (0 < level) × (level < 256) × (index < levelNodes bits level) × (z < 16) ⌝ }
-    ensures { λ r. ⌜ r ≡ value (shared (now (k .entry)) params) (pieceBits (now (message .entry)) bits) level index z ⌝ }
+    requires { ⌜ Given (now message) bits (now k) params (now table) ⌝ }
+    requires { ⌜ (0 < level) × (level < 256) × (index < levelNodes bits level) × (z < 16) ⌝ }
+    ensures { λ r. ⌜ r ≡ value (paramsFrom (now (k .entry)) params) (pieceBits (pieceOf (now (message .entry)) bits)) level index z ⌝ }
 {
     if level == 1 {
         return leaf(message, bits, params, k, table, index, z);
@@ -84,22 +68,14 @@ pub fn value(
         words::copy(&mut block, at, &child);
         j += 1;
     }
-    made(
-        params,
-        k,
-        table,
-        level,
-        index,
-        z,
-        Block::OUTPUT_BITS * (4 - n),
-        &block,
-    )
+    let p = Block::OUTPUT_BITS * (4 - n);
+    node::compress_node(params, k, table, Place { level, index, z, p }, &block)
 }
 
 // With L = 0, the 48 words of message bits that a sequential node takes behind the output of the node before it.
 fn message_words(message: &[u8], bits: u64, index: u64) -> [u64; 48]
-    requires { ⌜ (bits ≤ 8 * length (now message)) × (index < sequentialNodes 0 bits) ⌝ }
-    ensures { λ r. ⌜ r ≡ words 48 (messagePart sequentialBits (pieceBits (now (message .entry)) bits) index) ⌝ }
+    requires { ⌜ Fits (pieceOf (now message) bits) × (index < sequentialNodes 0 bits) ⌝ }
+    ensures { λ r. ⌜ r ≡ words 48 (messagePart sequentialBits (pieceBits (pieceOf (now (message .entry)) bits)) index) ⌝ }
 {
     let n = shape::taken(Block::SEQUENTIAL_BITS, bits, index);
     let mut rest = [0u64; 48];
@@ -117,8 +93,9 @@ fn child_words(
     table: &[u64],
     index: u64,
 ) -> [u64; 48]
-    requires { ⌜ Ready params (now k) (now table) × (bits ≤ 8 * length (now message)) × (0 < params .limit) × (index < sequentialNodes (params .limit) bits) ⌝ }
-    ensures { λ r. ⌜ r ≡ sequentialWords (shared (now (k .entry)) params) (params .limit) (pieceBits (now (message .entry)) bits) index ⌝ }
+    requires { ⌜ Given (now message) bits (now k) params (now table) ⌝ }
+    requires { ⌜ (0 < params .limit) × (index < sequentialNodes (params .limit) bits) ⌝ }
+    ensures { λ r. ⌜ r ≡ sequentialWords (paramsFrom (now (k .entry)) params) (params .limit) (pieceBits (pieceOf (now (message .entry)) bits)) index ⌝ }
 {
     let limit = params.limit;
     let n = shape::taken(3, shape::nodes_at(bits, limit), index);
@@ -142,8 +119,9 @@ fn sequential_words(
     table: &[u64],
     index: u64,
 ) -> [u64; 48]
-    requires { ⌜ Ready params (now k) (now table) × (bits ≤ 8 * length (now message)) × (index < sequentialNodes (params .limit) bits) ⌝ }
-    ensures { λ r. ⌜ r ≡ sequentialWords (shared (now (k .entry)) params) (params .limit) (pieceBits (now (message .entry)) bits) index ⌝ }
+    requires { ⌜ Given (now message) bits (now k) params (now table) ⌝ }
+    requires { ⌜ index < sequentialNodes (params .limit) bits ⌝ }
+    ensures { λ r. ⌜ r ≡ sequentialWords (paramsFrom (now (k .entry)) params) (params .limit) (pieceBits (pieceOf (now (message .entry)) bits)) index ⌝ }
 {
     if params.limit == 0 {
         return message_words(message, bits, index);
@@ -173,8 +151,9 @@ fn sequential_value(
     z: u64,
     before: &[u64],
 ) -> [u64; 16]
-    requires { ⌜ Ready params (now k) (now table) × (bits ≤ 8 * length (now message)) × (index < sequentialNodes (params .limit) bits) × (z < 16) × (length (now before) ≡ 16) ⌝ }
-    ensures { λ r. ⌜ r ≡ nodeWords (shared (now (k .entry)) params) (params .limit + 1) index z (sequentialPadding (params .limit) bits index) (now (before .entry) ++ sequentialWords (shared (now (k .entry)) params) (params .limit) (pieceBits (now (message .entry)) bits) index) ⌝ }
+    requires { ⌜ Given (now message) bits (now k) params (now table) ⌝ }
+    requires { ⌜ (index < sequentialNodes (params .limit) bits) × (z < 16) × (length (now before) ≡ 16) ⌝ }
+    ensures { λ r. ⌜ r ≡ nodeWords (paramsFrom (now (k .entry)) params) (params .limit + 1) index z (sequentialPadding (params .limit) bits index) (now (before .entry) ++ sequentialWords (paramsFrom (now (k .entry)) params) (params .limit) (pieceBits (pieceOf (now (message .entry)) bits)) index) ⌝ }
 {
     let limit = params.limit;
     let rest = sequential_words(message, bits, params, k, table, index);
@@ -182,7 +161,8 @@ fn sequential_value(
     let mut block = [0u64; 64];
     words::copy(&mut block, 0, before);
     words::copy(&mut block, 16, &rest);
-    made(params, k, table, limit + 1, index, z, p, &block)
+    let level = limit + 1;
+    node::compress_node(params, k, table, Place { level, index, z, p }, &block)
 }
 
 // z of the sequential node at an index: 1 at the last.
@@ -198,8 +178,8 @@ fn last_flag(index: u64, nodes: u64) -> u64
 
 // The value of the sequential level's last node, along the chain.
 fn sequential(message: &[u8], bits: u64, params: Params, k: &[u64], table: &[u64]) -> [u64; 16]
-    requires { ⌜ Ready params (now k) (now table) × (bits ≤ 8 * length (now message)) ⌝ }
-    ensures { λ r. ⌜ r ≡ chain (shared (now (k .entry)) params) (params .limit) (pieceBits (now (message .entry)) bits) (sequentialNodes (params .limit) bits) ⌝ }
+    requires { ⌜ Given (now message) bits (now k) params (now table) ⌝ }
+    ensures { λ r. ⌜ r ≡ chain (paramsFrom (now (k .entry)) params) (params .limit) (pieceBits (pieceOf (now (message .entry)) bits)) (sequentialNodes (params .limit) bits) ⌝ }
 {
     let nodes = shape::sequential_nodes(params.limit, bits);
     let mut last = [0u64; 16];
@@ -215,8 +195,8 @@ fn sequential(message: &[u8], bits: u64, params: Params, k: &[u64], table: &[u64
 
 // The root's value.
 pub fn root(message: &[u8], bits: u64, params: Params, k: &[u64], table: &[u64]) -> [u64; 16]
-    requires { ⌜ Ready params (now k) (now table) × (bits ≤ 8 * length (now message)) ⌝ }
-    ensures { λ r. ⌜ r ≡ rootValue (shared (now (k .entry)) params) (params .limit) (pieceBits (now (message .entry)) bits) ⌝ }
+    requires { ⌜ Given (now message) bits (now k) params (now table) ⌝ }
+    ensures { λ r. ⌜ r ≡ rootValue (paramsFrom (now (k .entry)) params) (params .limit) (pieceBits (pieceOf (now (message .entry)) bits)) ⌝ }
 {
     let limit = params.limit;
     let top = shape::top_level(limit, bits);

@@ -1,11 +1,11 @@
 // How many levels a tree has, and how many nodes each.
 ghost use mathlib.Core.Path.{_≡_};
 ghost use Prim.Native.Nat.{_+_, _-_, _*_, _≤_, _<_};
-ghost use Rattle.tree.specs.Sizes.{levelNodes};
+ghost use Rattle.tree.specs.Count.{levelNodes};
 ghost use Rattle.nodes.specs.Value.{held, sequentialNodes, topLevel};
 use node::Block;
-use node::Params;
 use node::count;
+use refusals::Params;
 
 // How many of m things the node at an index takes, of so many that it has room for.
 pub fn taken(size: u64, m: u64, index: u64) -> u64

@@ -3,95 +3,150 @@
 use mathlib.Core.Path.{_≡_, refl, sym, ap, _∙_}
 use mathlib.Core.Bool.{Bool}
 use mathlib.Core.List.{List, [], _∷_, _++_}
-use Prim.Native.Nat.{ℕ, _+_, _-_, _*_, _^_, _≤_, suc}
+use Prim.Native.Nat.{ℕ, _+_, _-_, _*_, _/_, _%_, _^_, _≤_, _<_, suc}
 use native.Mathlib.Omega.{arith}
-use lib.ListN.{length, take, drop, set, length-append}
-use lib.Seq.{sets, take-add, length-sets, length-take-le}
+use lib.ListN.{length, take, drop, set, length-append, take-append-drop}
+use lib.Seq.{sets, take-add, take-all, length-sets, length-take-le}
 use Rattle.lists.specs.Below.{Below}
 use Rattle.lists.specs.BelowLaws.{below-take, below-drop}
+use Rattle.lists.specs.Take.{take-drop-take}
 use Rattle.bits.specs.Bits.{bitsOf, filled}
-use Rattle.bits.specs.BitsLaws.{length-bitsOf}
 use Rattle.bits.specs.FilledLaws.{length-filled}
+use Rattle.bits.specs.Piece.{Piece, pieceBits, Fits}
+use Rattle.bits.specs.PieceLaws.{length-pieceBits}
 use Rattle.tree.specs.Tree.{Params, Node}
-use Rattle.area.specs.Area.{Long, levelWords, levelsUp, levelsOf, withLevels, heldBits}
-use Rattle.area.specs.Calls.{Made, feedBits, nodeLog}
-use Rattle.area.specs.Machine
-use Rattle.area.specs.AreaLaws.{length-levelWords, length-withLevels, levelsOf-withLevels}
-use Rattle.area.specs.CallLaws.{length-nodeLog, nodeLog-append}
-use Rattle.area.specs.FeedLaws.{feedBits-append, withLevels-same}
-use Rattle.area.specs.WriteLaws.{withLevels-again}
-use Rattle.climb.specs.Levels.{withLevel, levels-split, with-first}
-use Rattle.climb.specs.ReceiveLaws.{made}
-use Rattle.climb.specs.FlushLaws.{flushed, Leaves, le-at}
-use Rattle.piece.specs.FeedSteps.{sizeOf, baseOf, firstOf, restOf, freeOf, roomOf, free-place, room-full, held-le, chunk, full-chunk}
+use Rattle.refusals.specs.declared.Params as declared
+use Rattle.calls.specs.Area.{Long, levelWords, levelsUp, levelsOf, withLevels, heldBits}
+use Rattle.calls.specs.Calls.{Made, feedBits, nodeLog}
+use Rattle.calls.specs.Machine
+use Rattle.calls.specs.AreaLaws.{length-levelWords, length-withLevels, levelsOf-withLevels}
+use Rattle.calls.specs.CallLaws.{length-nodeLog, nodeLog-append}
+use Rattle.calls.specs.FeedLaws.{feedBits-append, withLevels-same}
+use Rattle.calls.specs.WriteLaws.{withLevels-again}
+use Rattle.climb.specs.Levels.{withLevel, with-up, levels-split, with-first}
+use Rattle.node.specs.Words.{paramsFrom, Ready}
+use Rattle.climb.specs.MakeLaws.{limit-from}
+use Rattle.climb.specs.ReceiveLaws.{made, Climbed}
+use Rattle.climb.specs.FlushLaws.{flushed, le-at}
+use Rattle.piece.specs.FeedSteps.{sizeOf, baseOf, partBits, firstOf, restOf, freeOf, roomOf, free-place, room-full, held-le, chunk, full-chunk}
 use Rattle.piece.specs.Widths.{Wide, wide-levels, wide-bits, wide-flushed}
+
+-- ---- what the code needs, and what it leaves
+
+-- bits of a piece, from a bit of a byte on, for an area
+pub record Part (area bytes : List ℕ) (byte bit count : ℕ) : Type 0 where
+  pub long : Long area
+  pub low : bit < 8
+  pub inside : 8 * byte + bit + count ≤ 8 * length bytes
+
+-- what they make of its levels after T bits
+abbrev pub fedPart : List ℕ → declared.Params → ℕ → List ℕ → ℕ → ℕ → ℕ → List ℕ → Made
+fedPart key params T bytes byte bit count area = feedBits (paramsFrom key params) T (partBits bytes (8 * byte + bit) count) (levelsOf area)
+
+-- a chunk: those that level 1 takes at once
+pub record Chunk (key : List ℕ) (params : declared.Params) (table : List ℕ) (T : ℕ) (area bytes : List ℕ) (byte bit count : ℕ) (log : List ℕ) (at : ℕ) : Type 0 where
+  pub ready : Ready key params table
+  pub part : Part area bytes byte bit count
+  pub some : 1 ≤ count
+  pub most : count ≤ roomOf (params .limit) T
+  pub room : at + 2 * length (fedPart key params T bytes byte bit count area .nodes) ≤ length log
+
+-- all bits of a piece, and what they make
+abbrev pub fedWhole : List ℕ → declared.Params → ℕ → Piece → List ℕ → Made
+fedWhole key params T piece area = feedBits (paramsFrom key params) T (pieceBits piece) (levelsOf area)
+
+pub record Whole (key : List ℕ) (params : declared.Params) (table : List ℕ) (T : ℕ) (area : List ℕ) (piece : Piece) (log : List ℕ) : Type 0 where
+  pub ready : Ready key params table
+  pub long : Long area
+  pub bits : Fits piece
+  pub total : T + piece .count < 2 ^ 64
+  pub room : 2 * length (fedWhole key params T piece area .nodes) ≤ length log
+
+-- area, log and the place where the log goes on, for levels and nodes that a definition gives
+pub record Leaves (F : Made) (area log : List ℕ) (at : ℕ) (area′ log′ : List ℕ) (at′ : ℕ) : Type 0 where
+  pub levels : area′ ≡ withLevels area (F .levels)
+  pub logged : log′ ≡ sets log at (nodeLog (F .nodes))
+  pub next : at′ ≡ at + 2 * length (F .nodes)
 
 -- ---- a chunk
 
-module _ (P : Params) (limit : ℕ) (same : P .limit ≡ limit) (T start count : ℕ) (area log bytes : List ℕ) (at : ℕ)
-    (long : Long area) (below : Below (2 ^ 64) area) (inside : start + count ≤ 8 * length bytes) where
-  abbrev fedNow : Made
-  fedNow = feedBits P T (take count (drop start (bitsOf 8 bytes))) (levelsOf area)
-
-  level-size : length (levelWords area 1) ≡ 64
-  level-size = length-levelWords area 1 long (omega arith)
-
-  pub chunk-free : (area′ : List ℕ) (free : ℕ) → free ≡ freeOf limit T → count ≤ free
-      → area′ ≡ withLevel area 1 (filled (levelWords area 1) (4096 - free) bytes start count)
-      → Leaves fedNow area log at area′ log at
-  chunk-free area′ free f g ea =
+module _ {area bytes : List ℕ} {byte bit count : ℕ} (part : Part area bytes byte bit count) (below : Below (2 ^ 64) area)
+    (key : List ℕ) (params : declared.Params) (T : ℕ) where
+  pub chunk-free : {area′ : List ℕ} {free : ℕ} (log : List ℕ) (at : ℕ) → free ≡ freeOf (params .limit) T → count ≤ free
+      → area′ ≡ withLevel area 1 (filled (levelWords area 1) (4096 - free) bytes (8 * byte + bit) count)
+      → Leaves (fedPart key params T bytes byte bit count area) area log at area′ log at
+  chunk-free log at f g ea =
+      let P : Params = paramsFrom key params in
+      let limit : ℕ = params .limit in
+      let same : P .limit ≡ limit = limit-from key params in
+      let start : ℕ = 8 * byte + bit in
       let ws : List ℕ = levelWords area 1 in
       let place : ℕ = baseOf limit + heldBits (sizeOf limit) T in
+      let size : length ws ≡ 64 = length-levelWords area 1 (part .long) (omega arith) in
       let fits : heldBits (sizeOf (P .limit)) T + count ≤ sizeOf (P .limit) = rw same (omega (arith, held-le limit T)) in
       let e = ap (λ (x : ℕ). withLevel area 1 (filled ws (4096 - x) bytes start count)) f
       ∙ ap (λ (x : ℕ). withLevel area 1 (filled ws x bytes start count)) (free-place limit T) in
-      let c : fedNow ≡ made (filled ws place bytes start count ∷ levelsUp area 2) [] =
-      ap (feedBits P T (take count (drop start (bitsOf 8 bytes)))) (levels-split area)
-      ∙ chunk P count T start ws bytes (levelsUp area 2) (below-take 64 (below-drop 16 below)) level-size fits inside
+      let c : fedPart key params T bytes byte bit count area ≡ made (filled ws place bytes start count ∷ levelsUp area 2) [] =
+      ap (feedBits P T (partBits bytes start count)) (levels-split area)
+      ∙ chunk P count T start ws bytes (levelsUp area 2) (below-take 64 (below-drop 16 below)) size fits (part .inside)
       ∙ rw same in
-      let l : length (filled ws place bytes start count) ≡ 64 = length-filled ws place bytes start count ∙ level-size in (
-        ea ∙ e ∙ sym (with-first area (filled ws place bytes start count) long l) ∙ sym (ap (λ (x : Made). withLevels area (x .levels)) c),
-        sym (ap (λ (x : Made). sets log at (nodeLog (x .nodes))) c),
-        omega (arith, ap (λ (x : Made). at + 2 * length (x .nodes)) c),
-      )
+      let l : length (filled ws place bytes start count) ≡ 64 = length-filled ws place bytes start count ∙ size in
+      record {
+        levels = ea ∙ e ∙ sym (with-first area (filled ws place bytes start count) (part .long) l) ∙ sym (ap (λ (x : Made). withLevels area (x .levels)) c);
+        logged = sym (ap (λ (x : Made). sets log at (nodeLog (x .nodes))) c);
+        next = omega (arith, ap (λ (x : Made). at + 2 * length (x .nodes)) c);
+      }
 
-  abbrev flushedNow : Made
-  flushedNow = flushed P limit T (levelsOf area)
+-- level 1 is full
+abbrev flushedNow : List ℕ → declared.Params → ℕ → List ℕ → Made
+flushedNow key params T area = flushed (paramsFrom key params) (params .limit) T (levelsOf area)
 
-  module _ (full : freeOf limit T ≤ 0) (some : 1 ≤ count) (most : count ≤ roomOf limit T) where
-    full-is : fedNow ≡ made (filled (firstOf (flushedNow .levels)) (baseOf limit) bytes start count ∷ restOf (flushedNow .levels)) (flushedNow .nodes)
-    full-is =
-        let ws : List ℕ = levelWords area 1 in
-        let e : heldBits (sizeOf (P .limit)) T ≡ sizeOf (P .limit) = rw same (omega (arith, held-le limit T)) in
-        let m : count ≤ sizeOf (P .limit) = rw same (omega (arith, room-full limit T full)) in
-        ap (feedBits P T (take count (drop start (bitsOf 8 bytes)))) (levels-split area)
-        ∙ full-chunk P count T start ws bytes (levelsUp area 2) e some m inside
-        ∙ rw (same, levels-split area)
+module _ {key : List ℕ} {params : declared.Params} {table : List ℕ} {T : ℕ} {area bytes : List ℕ} {byte bit count : ℕ} {log : List ℕ} {at : ℕ}
+    (c : Chunk key params table T area bytes byte bit count log at) (full : freeOf (params .limit) T ≤ 0) where
+  full-is : fedPart key params T bytes byte bit count area
+      ≡ (let F : Made = flushedNow key params T area in made (filled (firstOf (F .levels)) (baseOf (params .limit)) bytes (8 * byte + bit) count ∷ restOf (F .levels)) (F .nodes))
+  full-is =
+      let P : Params = paramsFrom key params in
+      let limit : ℕ = params .limit in
+      let same : P .limit ≡ limit = limit-from key params in
+      let start : ℕ = 8 * byte + bit in
+      let ws : List ℕ = levelWords area 1 in
+      let e : heldBits (sizeOf (P .limit)) T ≡ sizeOf (P .limit) = rw same (omega (arith, held-le limit T)) in
+      let m : count ≤ sizeOf (P .limit) = rw same (omega (arith, room-full limit T full, c .most)) in
+      ap (feedBits P T (partBits bytes start count)) (levels-split area)
+      ∙ full-chunk P count T start ws bytes (levelsUp area 2) e (c .some) m (c .part .inside)
+      ∙ rw (same, levels-split area)
 
-    pub chunk-room : (room : ℕ) → at + 2 * length (fedNow .nodes) ≤ room → at + 2 * length (flushedNow .nodes) ≤ room
-    chunk-room room h = omega (arith, ap (λ (x : Made). at + 2 * length (x .nodes)) full-is)
+  pub chunk-room : at + 2 * length (flushedNow key params T area .nodes) ≤ length log
+  chunk-room = omega (arith, c .room, ap (λ (x : Made). at + 2 * length (x .nodes)) full-is)
 
-    pub chunk-full : (area₁ log′ area′ : List ℕ) (at′ place : ℕ) → Leaves flushedNow area log at area₁ log′ at′ → place ≡ baseOf limit
-        → area′ ≡ withLevel area₁ 1 (filled (levelWords area₁ 1) place bytes start count)
-        → Leaves fedNow area log at area′ log′ at′
-    chunk-full area₁ log′ area′ at′ place F ep ef =
-        let ea = ef ∙ ap (λ (x : ℕ). withLevel area₁ 1 (filled (levelWords area₁ 1) x bytes start count)) ep in
-        let s = wide-flushed P limit T (levelsOf area) (wide-levels area long) in
-        let back : levelsOf area₁ ≡ flushedNow .levels = ap levelsOf (F .0) ∙ levelsOf-withLevels area (flushedNow .levels) long (s .widths) (s .size) in
-        let both : levelWords area₁ 1 ∷ levelsUp area₁ 2 ≡ flushedNow .levels = sym (levels-split area₁) ∙ back in
-        let w : levelWords area₁ 1 ≡ firstOf (flushedNow .levels) = ap firstOf both in
-        let u : levelsUp area₁ 2 ≡ restOf (flushedNow .levels) = ap restOf both in
-        let long₁ : Long area₁ = rw (F .0, length-withLevels area (flushedNow .levels) long (s .widths) (s .size)) long in
-        let new : List ℕ = filled (levelWords area₁ 1) (baseOf limit) bytes start count in
-        let l : length new ≡ 64 = length-filled (levelWords area₁ 1) (baseOf limit) bytes start count ∙ length-levelWords area₁ 1 long₁ (omega arith) in
-        let L : List (List ℕ) = filled (firstOf (flushedNow .levels)) (baseOf limit) bytes start count ∷ restOf (flushedNow .levels) in (
-          ea ∙ sym (with-first area₁ new long₁ l)
-              ∙ ap (λ (x : List (List ℕ)). withLevels area₁ (new ∷ x)) u ∙ ap (λ (x : List ℕ). withLevels area₁ (filled x (baseOf limit) bytes start count ∷ restOf (flushedNow .levels))) w
-              ∙ ap (λ (x : List ℕ). withLevels x L) (F .0) ∙ withLevels-again area (flushedNow .levels) L long (s .widths) (s .size)
-              ∙ sym (ap (λ (x : Made). withLevels area (x .levels)) full-is),
-          F .1 ∙ sym (ap (λ (x : Made). sets log at (nodeLog (x .nodes))) full-is),
-          omega (arith, F .2, ap (λ (x : Made). at + 2 * length (x .nodes)) full-is),
-        )
+  pub chunk-full : {area₁ log′ area′ : List ℕ} {at′ place : ℕ} → Climbed 1 (flushedNow key params T area) area log at area₁ log′ at′ → place ≡ baseOf (params .limit)
+      → area′ ≡ withLevel area₁ 1 (filled (levelWords area₁ 1) place bytes (8 * byte + bit) count)
+      → Leaves (fedPart key params T bytes byte bit count area) area log at area′ log′ at′
+  chunk-full {area₁} F ep ef =
+      let base : ℕ = baseOf (params .limit) in
+      let start : ℕ = 8 * byte + bit in
+      let up : List (List ℕ) = flushedNow key params T area .levels in
+      let long : Long area = c .part .long in
+      let e₁ : area₁ ≡ withLevels area up = F .levels ∙ sym (with-up area up) in
+      let ea = ef ∙ ap (λ (x : ℕ). withLevel area₁ 1 (filled (levelWords area₁ 1) x bytes start count)) ep in
+      let s = wide-flushed (paramsFrom key params) (params .limit) T (levelsOf area) (wide-levels area long) in
+      let back : levelsOf area₁ ≡ up = ap levelsOf e₁ ∙ levelsOf-withLevels area up long (s .widths) (s .size) in
+      let both : levelWords area₁ 1 ∷ levelsUp area₁ 2 ≡ up = sym (levels-split area₁) ∙ back in
+      let w : levelWords area₁ 1 ≡ firstOf up = ap firstOf both in
+      let u : levelsUp area₁ 2 ≡ restOf up = ap restOf both in
+      let long₁ : Long area₁ = rw (e₁, length-withLevels area up long (s .widths) (s .size)) long in
+      let new : List ℕ = filled (levelWords area₁ 1) base bytes start count in
+      let l : length new ≡ 64 = length-filled (levelWords area₁ 1) base bytes start count ∙ length-levelWords area₁ 1 long₁ (omega arith) in
+      let L : List (List ℕ) = filled (firstOf up) base bytes start count ∷ restOf up in
+      record {
+        levels = ea ∙ sym (with-first area₁ new long₁ l)
+            ∙ ap (λ (x : List (List ℕ)). withLevels area₁ (new ∷ x)) u ∙ ap (λ (x : List ℕ). withLevels area₁ (filled x base bytes start count ∷ restOf up)) w
+            ∙ ap (λ (x : List ℕ). withLevels x L) e₁ ∙ withLevels-again area up L long (s .widths) (s .size)
+            ∙ sym (ap (λ (x : Made). withLevels area (x .levels)) full-is);
+        logged = F .logged ∙ sym (ap (λ (x : Made). sets log at (nodeLog (x .nodes))) full-is);
+        next = omega (arith, F .next, ap (λ (x : Made). at + 2 * length (x .nodes)) full-is);
+      }
 
 -- ---- one chunk after the other
 
@@ -102,77 +157,100 @@ sets-append l at (x ∷ xs) ys = let e : at + suc (length xs) ≡ suc at + lengt
 log-append : (log : List ℕ) (at : ℕ) (ms ns : List Node) → sets log at (nodeLog (ms ++ ns)) ≡ sets (sets log at (nodeLog ms)) (at + 2 * length ms) (nodeLog ns)
 log-append log at ms ns = rw (nodeLog-append ms ns, sets-append log at (nodeLog ms) (nodeLog ns), length-nodeLog ms)
 
--- after so many bits of the piece, area and log are those of the definition
-pub record Feeding (P : Params) (T : ℕ) (bytes : List ℕ) (bits : ℕ) (area₀ log₀ area log : List ℕ) (at done : ℕ) : Type 0 where
-  pub within : done ≤ bits
+-- the next bits of a piece, by byte and bit
+next-bits : (piece : Piece) (done c : ℕ) → done + c ≤ piece .count
+    → partBits (piece .bytes) (8 * (done / 8) + done % 8) c ≡ take c (drop done (pieceBits piece))
+next-bits piece done c h =
+    let e : 8 * (done / 8) + done % 8 ≡ done = omega arith in
+    rw e (sym (take-drop-take (piece .count) done c (bitsOf 8 (piece .bytes)) h))
+
+-- after so many of the bits Y, area and log are those of the definition
+pub record Feeding (P : Params) (T : ℕ) (Y : List Bool) (area₀ log₀ area log : List ℕ) (at done : ℕ) : Type 0 where
+  pub within : done ≤ length Y
   pub area-length : length area ≡ length area₀
   pub log-length : length log ≡ length log₀
-  pub area-is : area ≡ withLevels area₀ (feedBits P T (take done (bitsOf 8 bytes)) (levelsOf area₀) .levels)
-  pub log-is : log ≡ sets log₀ 0 (nodeLog (feedBits P T (take done (bitsOf 8 bytes)) (levelsOf area₀) .nodes))
-  pub at-is : at ≡ 2 * length (feedBits P T (take done (bitsOf 8 bytes)) (levelsOf area₀) .nodes)
+  pub left : Leaves (feedBits P T (take done Y) (levelsOf area₀)) area₀ log₀ 0 area log at
 
-pub feeding-none : (P : Params) (T : ℕ) (bytes : List ℕ) (bits : ℕ) (area log : List ℕ) → Feeding P T bytes bits area log area log 0 0
-feeding-none P T bytes bits area log =
+pub feeding-none : (P : Params) (T : ℕ) (Y : List Bool) (area log : List ℕ) → Feeding P T Y area log area log 0 0
+feeding-none P T Y area log =
     let e = Machine.feedBits-none P T (levelsOf area) in
     record {
       within = omega arith;
       area-length = refl;
       log-length = refl;
-      area-is = sym (ap (λ (x : Made). withLevels area (x .levels)) e ∙ withLevels-same area);
-      log-is = sym (ap (λ (x : Made). sets log 0 (nodeLog (x .nodes))) e);
-      at-is = sym (ap (λ (x : Made). 2 * length (x .nodes)) e);
+      left = record {
+        levels = sym (ap (λ (x : Made). withLevels area (x .levels)) e ∙ withLevels-same area);
+        logged = sym (ap (λ (x : Made). sets log 0 (nodeLog (x .nodes))) e);
+        next = omega (arith, ap (λ (x : Made). length (x .nodes)) e);
+      };
     }
 
-module _ {P : Params} {T : ℕ} {bytes : List ℕ} {bits : ℕ} {area₀ log₀ area log : List ℕ} {at done : ℕ}
-    (f : Feeding P T bytes bits area₀ log₀ area log at done) (long : Long area₀) (inside : bits ≤ 8 * length bytes) where
+module _ {key : List ℕ} {params : declared.Params} {table : List ℕ} {T : ℕ} {piece : Piece} {area₀ log₀ area log : List ℕ} {at done : ℕ}
+    (w : Whole key params table T area₀ piece log₀) (f : Feeding (paramsFrom key params) T (pieceBits piece) area₀ log₀ area log at done) where
+  abbrev P : Params
+  P = paramsFrom key params
+
+  abbrev Y : List Bool
+  Y = pieceBits piece
+
   abbrev before : Made
-  before = feedBits P T (take done (bitsOf 8 bytes)) (levelsOf area₀)
+  before = feedBits P T (take done Y) (levelsOf area₀)
+
+  size : length Y ≡ piece .count
+  size = length-pieceBits piece (w .bits)
+
+  longer : Long area
+  longer = le-at refl (sym (f .area-length)) (w .long)
 
   wide : Wide (before .levels)
-  wide = wide-bits P T (take done (bitsOf 8 bytes)) (levelsOf area₀) (wide-levels area₀ long)
+  wide = wide-bits P T (take done Y) (levelsOf area₀) (wide-levels area₀ (w .long))
 
   -- the next c bits
-  next-is : (c : ℕ)
-      → feedBits P T (take (done + c) (bitsOf 8 bytes)) (levelsOf area₀)
-      ≡ (let C : Made = feedBits P (T + done) (take c (drop done (bitsOf 8 bytes))) (levelsOf area) in made (C .levels) (before .nodes ++ C .nodes))
-  next-is c =
-      let B : List Bool = bitsOf 8 bytes in
-      let l : length (take done B) ≡ done = length-take-le done B (rw length-bitsOf (omega (arith, f .within))) in
-      let back : before .levels ≡ levelsOf area = sym (ap levelsOf (f .area-is) ∙ levelsOf-withLevels area₀ (before .levels) long (wide .widths) (wide .size)) in
-      ap (λ (x : List Bool). feedBits P T x (levelsOf area₀)) (take-add done c B)
-      ∙ feedBits-append P T (take done B) (take c (drop done B)) (levelsOf area₀)
-      ∙ rw (l, back)
+  abbrev coming : ℕ → Made
+  coming c = fedPart key params (T + done) (piece .bytes) (done / 8) (done % 8) c area
 
-  pub feeding-room : (c : ℕ) → done + c ≤ bits → 2 * length (feedBits P T (take bits (bitsOf 8 bytes)) (levelsOf area₀) .nodes) ≤ length log₀
-      → at + 2 * length (feedBits P (T + done) (take c (drop done (bitsOf 8 bytes))) (levelsOf area) .nodes) ≤ length log
-  feeding-room c h g =
-      let B : List Bool = bitsOf 8 bytes in
-      let q : bits ≡ done + c + (bits - (done + c)) = omega arith in
-      let r : List Bool = take (bits - (done + c)) (drop (done + c) B) in
-      let L : List (List ℕ) = levelsOf area₀ in
-      let A : Made = feedBits P T (take (done + c) B) L in
-      let whole = ap (λ (n : ℕ). length (feedBits P T (take n B) L .nodes)) q ∙ ap (λ (x : List Bool). length (feedBits P T x L .nodes)) (take-add (done + c) (bits - (done + c)) B)
-      ∙ ap (λ (x : Made). length (x .nodes)) (feedBits-append P T (take (done + c) B) r L)
-      ∙ length-append (A .nodes) (feedBits P (T + length (take (done + c) B)) r (A .levels) .nodes) in
-      let part = ap (λ (x : Made). length (x .nodes)) (next-is c) ∙ length-append (before .nodes) (feedBits P (T + done) (take c (drop done B)) (levelsOf area) .nodes) in
-      omega (arith, whole, part, f .at-is, f .log-length)
+  next-is : (c : ℕ) → done + c ≤ piece .count → feedBits P T (take (done + c) Y) (levelsOf area₀) ≡ made (coming c .levels) (before .nodes ++ coming c .nodes)
+  next-is c h =
+      let back : before .levels ≡ levelsOf area = sym (ap levelsOf (f .left .levels) ∙ levelsOf-withLevels area₀ (before .levels) (w .long) (wide .widths) (wide .size)) in
+      ap (λ (x : List Bool). feedBits P T x (levelsOf area₀)) (take-add done c Y)
+      ∙ feedBits-append P T (take done Y) (take c (drop done Y)) (levelsOf area₀)
+      ∙ rw (length-take-le done Y (f .within), back, next-bits piece done c h)
 
-  pub feeding-more : (c : ℕ) (area′ log′ : List ℕ) (at′ : ℕ) → done + c ≤ bits
-      → Leaves (feedBits P (T + done) (take c (drop done (bitsOf 8 bytes))) (levelsOf area)) area log at area′ log′ at′
-      → Feeding P T bytes bits area₀ log₀ area′ log′ at′ (done + c)
-  feeding-more c area′ log′ at′ h F =
-      let bs : List Bool = take c (drop done (bitsOf 8 bytes)) in
-      let C : Made = feedBits P (T + done) bs (levelsOf area) in
-      let longer : Long area = le-at refl (sym (f .area-length)) long in
-      let w = wide-bits P (T + done) bs (levelsOf area) (wide-levels area longer) in
-      let la = ap length (F .0) ∙ length-withLevels area (C .levels) longer (w .widths) (w .size) in
-      let ll = ap length (F .1) ∙ length-sets log at (nodeLog (C .nodes)) in
-      let z : 0 + 2 * length (before .nodes) ≡ 2 * length (before .nodes) = omega arith in record {
-        within = h;
+  pub next-chunk : {c : ℕ} → done + c ≤ piece .count → 1 ≤ c → c ≤ roomOf (params .limit) (T + done)
+      → Chunk key params table (T + done) area (piece .bytes) (done / 8) (done % 8) c log at
+  next-chunk {c} h some most =
+      let A : Made = feedBits P T (take (done + c) Y) (levelsOf area₀) in
+      let whole = ap (λ (x : List Bool). length (feedBits P T x (levelsOf area₀) .nodes)) (sym (take-append-drop (done + c) Y))
+      ∙ ap (λ (x : Made). length (x .nodes)) (feedBits-append P T (take (done + c) Y) (drop (done + c) Y) (levelsOf area₀))
+      ∙ length-append (A .nodes) (feedBits P (T + length (take (done + c) Y)) (drop (done + c) Y) (A .levels) .nodes) in
+      let some-nodes = ap (λ (x : Made). length (x .nodes)) (next-is c h) ∙ length-append (before .nodes) (coming c .nodes) in
+      record {
+        ready = w .ready;
+        part = record { long = longer; low = omega arith; inside = omega (arith, w .bits) };
+        some = some;
+        most = most;
+        room = omega (arith, w .room, whole, some-nodes, f .left .next, f .log-length);
+      }
+
+  pub feeding-more : (c : ℕ) {area′ log′ : List ℕ} {at′ : ℕ} → done + c ≤ piece .count → Leaves (coming c) area log at area′ log′ at′
+      → Feeding P T Y area₀ log₀ area′ log′ at′ (done + c)
+  feeding-more c h F =
+      let C : Made = coming c in
+      let n = next-is c h in
+      let s = wide-bits P (T + done) (partBits (piece .bytes) (8 * (done / 8) + done % 8) c) (levelsOf area) (wide-levels area longer) in
+      let la = ap length (F .levels) ∙ length-withLevels area (C .levels) longer (s .widths) (s .size) in
+      let ll = ap length (F .logged) ∙ length-sets log at (nodeLog (C .nodes)) in
+      record {
+        within = omega (arith, size);
         area-length = la ∙ f .area-length;
         log-length = ll ∙ f .log-length;
-        area-is = F .0 ∙ ap (λ (x : List ℕ). withLevels x (C .levels)) (f .area-is) ∙ withLevels-again area₀ (before .levels) (C .levels) long (wide .widths) (wide .size) ∙ sym (ap (λ (x : Made). withLevels area₀ (x .levels)) (next-is c));
-        log-is = F .1 ∙ ap (λ (x : List ℕ). sets x at (nodeLog (C .nodes))) (f .log-is) ∙ ap (λ (n : ℕ). sets (sets log₀ 0 (nodeLog (before .nodes))) n (nodeLog (C .nodes))) (f .at-is ∙ sym z)
-            ∙ sym (log-append log₀ 0 (before .nodes) (C .nodes)) ∙ sym (ap (λ (x : Made). sets log₀ 0 (nodeLog (x .nodes))) (next-is c));
-        at-is = omega (arith, F .2, f .at-is, ap (λ (x : Made). length (x .nodes)) (next-is c), length-append (before .nodes) (C .nodes));
+        left = record {
+          levels = F .levels ∙ ap (λ (x : List ℕ). withLevels x (C .levels)) (f .left .levels) ∙ withLevels-again area₀ (before .levels) (C .levels) (w .long) (wide .widths) (wide .size) ∙ sym (ap (λ (x : Made). withLevels area₀ (x .levels)) n);
+          logged = F .logged ∙ ap (λ (x : List ℕ). sets x at (nodeLog (C .nodes))) (f .left .logged) ∙ ap (λ (k : ℕ). sets (sets log₀ 0 (nodeLog (before .nodes))) k (nodeLog (C .nodes))) (f .left .next)
+              ∙ sym (log-append log₀ 0 (before .nodes) (C .nodes)) ∙ sym (ap (λ (x : Made). sets log₀ 0 (nodeLog (x .nodes))) n);
+          next = omega (arith, F .next, f .left .next, ap (λ (x : Made). length (x .nodes)) n, length-append (before .nodes) (C .nodes));
+        };
       }
+
+  pub feeding-all : piece .count ≤ done → Leaves (fedWhole key params T piece area₀) area₀ log₀ 0 area log at
+  feeding-all h = rw (take-all done Y (omega (arith, size))) at (f .left)

@@ -17,11 +17,11 @@ use Rattle.bits.specs.Bits.{bitsOf, filled}
 use Rattle.bits.specs.BitsLaws.{length-bitsOf, numbers-below}
 use Rattle.bits.specs.FilledLaws.{length-filled, filled-below, filled-more}
 use Rattle.tree.specs.Tree.{Params, Node, node, output, blockBits, sequentialBits}
-use Rattle.area.specs.Area.{emptyLevel, doneBlocks, heldBits}
-use Rattle.area.specs.Calls.{Made, withBit, outWords, feedBit, feedBits}
-use Rattle.area.specs.Blocks.{held-most, held-first}
-use Rattle.area.specs.FeedLaws.{withBits-filled, fill-parallel, fill-sequential}
-use Rattle.area.specs.Machine
+use Rattle.calls.specs.Area.{emptyLevel, doneBlocks, heldBits}
+use Rattle.calls.specs.Calls.{Made, withBit, outWords, feedBit, feedBits}
+use Rattle.calls.specs.Blocks.{held-most, held-first}
+use Rattle.calls.specs.FeedLaws.{withBits-filled, fill-parallel, fill-sequential}
+use Rattle.calls.specs.Machine
 use Rattle.climb.specs.Levels.{length-empty}
 use Rattle.climb.specs.ReceiveLaws.{made}
 use Rattle.climb.specs.FlushLaws.{flushed}
@@ -50,15 +50,19 @@ base-size (suc n) = refl
 
 -- ---- bits that fit level 1
 
+-- so many bits of a piece's bytes, from a bit on
+abbrev pub partBits : List ℕ → ℕ → ℕ → List Bool
+partBits bytes start count = take count (drop start (bitsOf 8 bytes))
+
 module _ (P : Params) where
   pub chunk : (count T start : ℕ) (ws bytes : List ℕ) (up : List (List ℕ)) → Below (2 ^ 64) ws → length ws ≡ 64
       → heldBits (sizeOf (P .limit)) T + count ≤ sizeOf (P .limit) → start + count ≤ 8 * length bytes
-      → feedBits P T (take count (drop start (bitsOf 8 bytes))) (ws ∷ up)
+      → feedBits P T (partBits bytes start count) (ws ∷ up)
       ≡ made (filled ws (baseOf (P .limit) + heldBits (sizeOf (P .limit)) T) bytes start count ∷ up) []
   chunk count T start ws bytes up bw lw h g = by (P .limit) refl h
     where
       by : (limit : ℕ) → P .limit ≡ limit → heldBits (sizeOf limit) T + count ≤ sizeOf limit
-          → feedBits P T (take count (drop start (bitsOf 8 bytes))) (ws ∷ up) ≡ made (filled ws (baseOf limit + heldBits (sizeOf limit) T) bytes start count ∷ up) []
+          → feedBits P T (partBits bytes start count) (ws ∷ up) ≡ made (filled ws (baseOf limit + heldBits (sizeOf limit) T) bytes start count ∷ up) []
       by zero e h = fill-sequential P T ws up bytes start count e bw lw h g
       by (suc n) e h =
           let z : 0 + heldBits blockBits T ≡ heldBits blockBits T = omega arith in
@@ -76,7 +80,7 @@ restOf (ws ∷ up) = up
 
 -- the bits of a piece, one and the rest
 bits-cons : (bytes : List ℕ) (start c : ℕ) → start < 8 * length bytes
-    → take (suc c) (drop start (bitsOf 8 bytes)) ≡ getD (bitsOf 8 bytes) start false ∷ take c (drop (suc start) (bitsOf 8 bytes))
+    → partBits bytes start (suc c) ≡ getD (bitsOf 8 bytes) start false ∷ partBits bytes (suc start) c
 bits-cons bytes start c h = rw (drop-cons (bitsOf 8 bytes) start false (rw length-bitsOf (omega arith)))
 
 -- a bit set in words is a bit copied into them
@@ -109,7 +113,7 @@ module _ (P : Params) where
   -- bits that come to a full level 1 and fit the next block
   pub full-chunk : (count T start : ℕ) (ws bytes : List ℕ) (up : List (List ℕ)) → heldBits (sizeOf (P .limit)) T ≡ sizeOf (P .limit) → 1 ≤ count
       → count ≤ sizeOf (P .limit) → start + count ≤ 8 * length bytes
-      → feedBits P T (take count (drop start (bitsOf 8 bytes))) (ws ∷ up)
+      → feedBits P T (partBits bytes start count) (ws ∷ up)
       ≡ (let F : Made = flushed P (P .limit) T (ws ∷ up) in made (filled (firstOf (F .levels)) (baseOf (P .limit)) bytes start count ∷ restOf (F .levels)) (F .nodes))
   full-chunk zero T start ws bytes up e l h g = absurd (omega arith)
   full-chunk (suc c) T start ws bytes up e l h g =
@@ -118,7 +122,7 @@ module _ (P : Params) where
       let S : ℕ = sizeOf (P .limit) in
       let at : ℕ = baseOf (P .limit) in
       let b : Bool = getD (bitsOf 8 bytes) start false in
-      let bs : List Bool = take c (drop (suc start) (bitsOf 8 bytes)) in
+      let bs : List Bool = partBits bytes (suc start) c in
       let room : at + S ≡ blockBits = base-size (P .limit) in
       let lw : length W ≡ 64 = first-size P (P .limit) T ws up in
       let one : withBit at b W ≡ filled W at bytes start 1 = bit-filled W at bytes start (first-below P (P .limit) T ws up) (omega arith) (omega arith) in
@@ -186,14 +190,8 @@ below-left h g = omega arith
 pub some-less : {room all done count : ℕ} → min room (all - done) ≤ count → 1 ≤ room → done < all → 1 ≤ count
 some-less h g f = omega arith
 
-pub le-of : {a b c : ℕ} → a ≤ b → b ≤ c → a ≤ c
-le-of h g = omega arith
-
 pub less-left : {done all count : ℕ} → done < all → 1 ≤ count → all - (done + count) < all - done
 less-left h g = omega arith
-
-pub all-done : {done all : ℕ} → done ≤ all → all ≤ done → done ≡ all
-all-done h g = omega arith
 
 pub fits-sum : (total : ℕ) {all done : ℕ} → total + all < 2 ^ 64 → done < all → Fits w64 (total + done)
 fits-sum total h g = record { fits = omega arith }

@@ -1,31 +1,32 @@
 -- Laws: of `fedBits` in Calls: what the code reads from an open area, and what it leaves there.
 use mathlib.Core.Path.{_≡_, refl, ap, _∙_}
 use mathlib.Core.List.{List, append-nil}
-use Prim.Native.Nat.{ℕ, zero, suc, _+_, _*_, _/_, _^_, _≤_, _<_}
+use Prim.Native.Nat.{ℕ, zero, suc, _+_, _/_, _^_, _≤_, _<_}
 use native.Mathlib.Omega.{arith}
 use lib.ListN.{length, take, drop, getD, set, replicate, length-drop, length-set}
 use lib.Seq.{paste, length-take-le, take-all}
-use Rattle.bits.specs.Bits.{bitsOf}
+use Rattle.bits.specs.Piece.{Piece, pieceBits, Fits}
+use Rattle.bits.specs.PieceLaws.{length-pieceBits}
 use Rattle.tree.specs.Tree.{blockBits}
-use Rattle.tree.specs.Refusals.{pieceBits}
-use Rattle.area.specs.Area.{Long, totalOf, kOf, compressionsOf, paramsOf, levelsOf, withLevels, doneBlocks, openCount, areaWords}
-use Rattle.area.specs.Calls.{Made, feedBits, fedBits, fedArea}
-use Rattle.area.specs.CallLaws.{FeedPassed}
-use Rattle.area.specs.WriteLaws.{set-withLevels}
-use Rattle.sound.specs.CountLaws.{openAbove-le}
-use Rattle.climb.specs.MakeLaws.{paramsFrom}
+use Rattle.calls.specs.Area.{Long, totalOf, kOf, compressionsOf, paramsOf, withLevels, doneBlocks, openCount, areaWords}
+use Rattle.calls.specs.Calls.{Made, fedBits, fedArea, logged}
+use Rattle.calls.specs.CallLaws.{FeedPassed}
+use Rattle.calls.specs.WriteLaws.{set-withLevels}
+use Rattle.area.specs.CountLaws.{openAbove-le}
+use Rattle.node.specs.Words.{paramsFrom}
+use Rattle.climb.specs.ReceiveLaws.{log-written}
 use Rattle.climb.specs.OpenArea.{OpenArea, numbered, open-done, limit-read}
-use Rattle.tree.specs.RefusalLaws.{length-pieceBits}
-use Rattle.area.specs.Accepts.{fed-count}
+use Rattle.calls.specs.Accepts.{fed-count}
+use Rattle.piece.specs.ChunkLaws.{Part, fedWhole, Leaves}
 
 -- the nodes that a feed makes, and those made before
-pub made-count : {area : List ℕ} → OpenArea area → (piece : List ℕ) (n : ℕ) → n ≤ 8 * length piece → totalOf area + n < 2 ^ 64
-    → length (fedBits area (pieceBits piece n) .nodes) + compressionsOf area ≡ openCount (getD area 4 0) (totalOf area + n)
-made-count {area} o piece n h g =
-    let l = length-pieceBits piece n h in
-    let e : totalOf area + length (pieceBits piece n) ≡ totalOf area + n = omega arith in
-    let c = rw (e, limit-read area) at (fed-count area (pieceBits piece n) (rw e g)) in
-    ap (λ (x : ℕ). length (fedBits area (pieceBits piece n) .nodes) + x) (open-done o) ∙ c
+pub made-count : {area : List ℕ} → OpenArea area → (piece : Piece) → Fits piece → totalOf area + piece .count < 2 ^ 64
+    → length (fedBits area (pieceBits piece) .nodes) + compressionsOf area ≡ openCount (getD area 4 0) (totalOf area + piece .count)
+made-count {area} o piece h g =
+    let l = length-pieceBits piece h in
+    let e : totalOf area + length (pieceBits piece) ≡ totalOf area + piece .count = omega arith in
+    let c = rw (e, limit-read area) at (fed-count area (pieceBits piece) (rw e g)) in
+    ap (λ (x : ℕ). length (fedBits area (pieceBits piece) .nodes) + x) (open-done o) ∙ c
 
 -- ---- what the code reads
 
@@ -36,18 +37,19 @@ key-copied area long =
     rw (l, take-all 8 (take 8 (drop 6 area)) (omega arith)) (append-nil (take 8 (drop 6 area)))
 
 -- what the code feeds is what the definition feeds
-pub fed-read : (area piece : List ℕ) (n : ℕ)
-    → feedBits (paramsFrom (kOf area) (numbered area)) (totalOf area) (take n (bitsOf 8 piece)) (levelsOf area) ≡ fedBits area (pieceBits piece n)
+pub fed-read : (area : List ℕ) (piece : Piece)
+    → fedWhole (kOf area) (numbered area) (totalOf area) piece area ≡ fedBits area (pieceBits piece)
 unfolding fedBits paramsFrom paramsOf
-fed-read area piece n = refl
+fed-read area piece = refl
 
-pub half-double : (n : ℕ) → 2 * n / 2 ≡ n
-half-double n = omega arith
+-- the whole piece, from its first bit on
+pub whole-part : {area log : List ℕ} {piece : Piece} → FeedPassed area piece log → Part area (piece .bytes) 0 0 (piece .count)
+whole-part p = record { long = p .opened .long; low = omega arith; inside = omega (arith, p .bits) }
 
 -- ---- what it leaves
 
 -- words 1 and 14 are stored after the levels
-pub fed-written : (area : List ℕ) (n count : ℕ) (made : Made) → Long area → count ≡ length (made .nodes)
+fed-written : (area : List ℕ) (n count : ℕ) (made : Made) → Long area → count ≡ length (made .nodes)
     → set (set (withLevels area (made .levels)) 1 (totalOf area + n)) 14 (compressionsOf area + count) ≡ fedArea area n made
 unfolding fedArea
 fed-written area n count made long e =
@@ -60,12 +62,29 @@ openCount-le : (limit T : ℕ) → openCount limit T ≤ T
 openCount-le zero T = omega arith
 openCount-le (suc n) T = omega (arith, openAbove-le n (doneBlocks blockBits T))
 
--- the count that word 14 gets fits
-pub count-fits : {area piece log : List ℕ} {n count : ℕ} → FeedPassed area piece n log → count ≡ length (fedBits area (pieceBits piece n) .nodes)
-    → compressionsOf area + count < 2 ^ 64
-count-fits {area} {piece} {n = n} p e =
-    let m = made-count (p .opened) piece n (p .bits) (p .total) in
-    fits (compressionsOf area) e m (openCount-le (getD area 4 0) (totalOf area + n)) (p .total)
-  where
-    fits : (a : ℕ) {b c d t : ℕ} → b ≡ d → d + a ≡ c → c ≤ t → t < 2 ^ 64 → a + b < 2 ^ 64
-    fits a e m l h = omega arith
+-- a piece that was fed: the area, the log, and how many nodes it made
+pub record FedPiece (area : List ℕ) (piece : Piece) (log area′ log′ : List ℕ) (count : ℕ) : Type 0 where
+  pub left : area′ ≡ fedArea area (piece .count) (fedBits area (pieceBits piece))
+  pub written : log′ ≡ logged (fedBits area (pieceBits piece) .nodes) log
+  pub made : count ≡ length (fedBits area (pieceBits piece) .nodes)
+
+module _ {area log : List ℕ} {piece : Piece} (p : FeedPassed area piece log) {area′ log′ : List ℕ} {words : ℕ}
+    (l : Leaves (fedBits area (pieceBits piece)) area log 0 area′ log′ words) where
+  half : words / 2 ≡ length (fedBits area (pieceBits piece) .nodes)
+  half = omega (arith, l .next)
+
+  -- the count that word 14 gets fits
+  pub count-fits : compressionsOf area + words / 2 < 2 ^ 64
+  count-fits =
+      fits (compressionsOf area) half (made-count (p .opened) piece (p .bits) (p .total)) (openCount-le (getD area 4 0) (totalOf area + piece .count)) (p .total)
+    where
+      fits : (a : ℕ) {b c d t : ℕ} → b ≡ d → d + a ≡ c → c ≤ t → t < 2 ^ 64 → a + b < 2 ^ 64
+      fits a e m l h = omega arith
+
+  pub fed-piece : FedPiece area piece log (set (set area′ 1 (totalOf area + piece .count)) 14 (compressionsOf area + words / 2)) log′ (words / 2)
+  fed-piece = record {
+    left = ap (λ (x : List ℕ). set (set x 1 (totalOf area + piece .count)) 14 (compressionsOf area + words / 2)) (l .levels)
+        ∙ fed-written area (piece .count) (words / 2) (fedBits area (pieceBits piece)) (p .opened .long) half;
+    written = l .logged ∙ log-written (fedBits area (pieceBits piece) .nodes) log (p .room);
+    made = half;
+  }

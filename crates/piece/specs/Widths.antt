@@ -3,11 +3,11 @@ use mathlib.Core.Path.{ap, _∙_}
 use mathlib.Core.List.{List, [], _∷_}
 use Prim.Native.Nat.{ℕ, zero, suc}
 use Rattle.tree.specs.Tree.{Params, Node, node, blockBits, sequentialBits}
-use Rattle.area.specs.Area.{doneBlocks}
-use Rattle.area.specs.Calls.{outWords}
-use Rattle.area.specs.Machine
-use Rattle.area.specs.Widths.{length-empty, length-outWords, receive-widths}
-pub use Rattle.area.specs.Widths.{Wide, wide-levels, length-chained, wide-bits}
+use Rattle.calls.specs.Area.{doneBlocks}
+use Rattle.calls.specs.Calls.{outWords}
+use Rattle.calls.specs.Machine
+use Rattle.calls.specs.Widths.{length-empty, length-outWords, receive-widths}
+pub use Rattle.calls.specs.Widths.{Wide, wide-levels, length-chained, wide-bits}
 use Rattle.climb.specs.FlushLaws.{flushed}
 
 module _ (P : Params) where

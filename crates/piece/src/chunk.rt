@@ -1,18 +1,16 @@
 // The bits of a piece, as many at a time as level 1 takes.
 ghost use mathlib.Core.Path.{_≡_};
-ghost use Prim.Native.Nat.{_+_, _*_, _≤_, _<_, _^_, min};
-ghost use lib.ListN.{length, take, drop};
-ghost use lib.Seq.{sets};
-ghost use Rattle.bits.specs.Bits.{bitsOf, filled};
-ghost use Rattle.area.specs.Area.{Long, levelWords, levelsOf, withLevels};
-ghost use Rattle.area.specs.Calls.{nodeLog, feedBits};
+ghost use Prim.Native.Nat.{_+_, _*_, _≤_, min};
+ghost use Rattle.bits.specs.Bits.{filled};
+ghost use Rattle.bits.specs.Piece.{pieceOf};
+ghost use Rattle.calls.specs.Area.{levelWords};
 ghost use Rattle.climb.specs.Levels.{withLevel};
-ghost use Rattle.climb.specs.MakeLaws.{paramsFrom, Ready};
 ghost use Rattle.piece.specs.FeedSteps.{sizeOf, freeOf, roomOf};
+ghost use Rattle.piece.specs.ChunkLaws.{Part, fedPart, Chunk, fedWhole, Whole, Leaves};
+use area::Area;
+use area::count;
 use node::Block;
-use node::Params;
-use sound::Area;
-use sound::count;
+use refusals::Params;
 
 // The bits that level 1 takes.
 fn size_of(limit: u64) -> u64
@@ -43,13 +41,11 @@ fn room_of(limit: u64, total: u64) -> u64
     size_of(limit)
 }
 
-// Copies bits of a piece into level 1, through its own part of the area.
-pub fn fill_level(area: &mut [u64], place: u64, piece: &[u8], start: u64, count: u64)
-    requires { ⌜ Long (now area) × (place + count ≤ 4096) × (start + count ≤ 8 * length (now piece)) ⌝ }
-    ensures { λ _. ⌜ now (area .exit) ≡ withLevel (now (area .entry)) 1 (filled (levelWords (now (area .entry)) 1) place (now (piece .entry)) start count) ⌝ }
+// Copies bits of a piece, from a bit of a byte on, into level 1, through its own part of the area.
+pub fn fill_level(area: &mut [u64], place: u64, piece: &[u8], byte: usize, bit: usize, count: u64)
+    requires { ⌜ Part (now area) (now piece) byte bit count × (place + count ≤ 4096) ⌝ }
+    ensures { λ _. ⌜ now (area .exit) ≡ withLevel (now (area .entry)) 1 (filled (levelWords (now (area .entry)) 1) place (now (piece .entry)) (8 * byte + bit) count) ⌝ }
 {
-    let byte = (start / 8) as usize;
-    let bit = (start % 8) as usize;
     bits::fill(
         &mut area[Area::HEAD..Area::FIRST_END],
         place as usize,
@@ -68,26 +64,23 @@ fn feed_chunk(
     table: &[u64],
     total: u64,
     piece: &[u8],
-    start: u64,
+    byte: usize,
+    bit: usize,
     count: u64,
     log: &mut [u64],
     at: usize,
 ) -> usize
-    requires { ⌜ Ready (now key) params (now table) ⌝ }
-    requires { ⌜ Long (now area) × (1 ≤ count) × (count ≤ roomOf (params .limit) total) × (start + count ≤ 8 * length (now piece)) ⌝ }
-    requires { ⌜ at + 2 * length (feedBits (paramsFrom (now key) params) total (take count (drop start (bitsOf 8 (now piece)))) (levelsOf (now area)) .nodes) ≤ length (now log) ⌝ }
-    ensures { λ _. ⌜ now (area .exit) ≡ withLevels (now (area .entry)) (feedBits (paramsFrom (now (key .entry)) params) total (take count (drop start (bitsOf 8 (now (piece .entry))))) (levelsOf (now (area .entry))) .levels) ⌝ }
-    ensures { λ _. ⌜ now (log .exit) ≡ sets (now (log .entry)) at (nodeLog (feedBits (paramsFrom (now (key .entry)) params) total (take count (drop start (bitsOf 8 (now (piece .entry))))) (levelsOf (now (area .entry))) .nodes)) ⌝ }
-    ensures { λ r. ⌜ r ≡ at + 2 * length (feedBits (paramsFrom (now (key .entry)) params) total (take count (drop start (bitsOf 8 (now (piece .entry))))) (levelsOf (now (area .entry))) .nodes) ⌝ }
+    requires { ⌜ Chunk (now key) params (now table) total (now area) (now piece) byte bit count (now log) at ⌝ }
+    ensures { λ r. ⌜ Leaves (fedPart (now (key .entry)) params total (now (piece .entry)) byte bit count (now (area .entry))) (now (area .entry)) (now (log .entry)) at (now (area .exit)) (now (log .exit)) r ⌝ }
 {
     let free = free_of(params.limit, total);
     if 0 < free {
-        fill_level(&mut *area, Block::BITS - free, piece, start, count);
+        fill_level(&mut *area, Block::BITS - free, piece, byte, bit, count);
         return at;
     }
     let next = climb::flush(&mut *area, params, key, table, total, log, at);
     let size = size_of(params.limit);
-    fill_level(&mut *area, Block::BITS - size, piece, start, count);
+    fill_level(&mut *area, Block::BITS - size, piece, byte, bit, count);
     next
 }
 
@@ -102,12 +95,8 @@ pub fn feed_bits(
     bits: u64,
     log: &mut [u64],
 ) -> usize
-    requires { ⌜ Ready (now key) params (now table) ⌝ }
-    requires { ⌜ Long (now area) × (bits ≤ 8 * length (now piece)) × (total + bits < 2 ^ 64) ⌝ }
-    requires { ⌜ 2 * length (feedBits (paramsFrom (now key) params) total (take bits (bitsOf 8 (now piece))) (levelsOf (now area)) .nodes) ≤ length (now log) ⌝ }
-    ensures { λ _. ⌜ now (area .exit) ≡ withLevels (now (area .entry)) (feedBits (paramsFrom (now (key .entry)) params) total (take bits (bitsOf 8 (now (piece .entry)))) (levelsOf (now (area .entry))) .levels) ⌝ }
-    ensures { λ _. ⌜ now (log .exit) ≡ sets (now (log .entry)) 0 (nodeLog (feedBits (paramsFrom (now (key .entry)) params) total (take bits (bitsOf 8 (now (piece .entry)))) (levelsOf (now (area .entry))) .nodes)) ⌝ }
-    ensures { λ r. ⌜ r ≡ 2 * length (feedBits (paramsFrom (now (key .entry)) params) total (take bits (bitsOf 8 (now (piece .entry)))) (levelsOf (now (area .entry))) .nodes) ⌝ }
+    requires { ⌜ Whole (now key) params (now table) total (now area) (pieceOf (now piece) bits) (now log) ⌝ }
+    ensures { λ r. ⌜ Leaves (fedWhole (now (key .entry)) params total (pieceOf (now (piece .entry)) bits) (now (area .entry))) (now (area .entry)) (now (log .entry)) 0 (now (area .exit)) (now (log .exit)) r ⌝ }
 {
     let mut done: u64 = 0;
     let mut at: usize = 0;
@@ -122,7 +111,8 @@ pub fn feed_bits(
             table,
             total + done,
             piece,
-            done,
+            (done / 8) as usize,
+            (done % 8) as usize,
             count,
             log,
             at,

@@ -1,24 +1,20 @@
 // A piece fed to an area that takes it.
-ghost use mathlib.Core.Path.{_≡_};
-ghost use Prim.Native.Nat.{_*_};
-ghost use lib.ListN.{length};
-ghost use Rattle.tree.specs.Refusals.{pieceBits};
-ghost use Rattle.area.specs.Area.{withLevels};
-ghost use Rattle.area.specs.Calls.{fedBits, fedArea, logged};
-ghost use Rattle.area.specs.CallLaws.{FeedPassed};
+ghost use Rattle.bits.specs.Piece.{pieceOf, pieceBits};
+ghost use Rattle.calls.specs.Calls.{fedBits};
+ghost use Rattle.calls.specs.CallLaws.{FeedPassed};
+ghost use Rattle.piece.specs.ChunkLaws.{Leaves};
+ghost use Rattle.piece.specs.PieceLaws.{FedPiece};
+use area::Area;
 use node::Block;
-use node::Params;
-use sound::Area;
+use refusals::Params;
 
 mod chunk; // chunk.rt: the bits of a piece, as many at a time as level 1 takes
 
 // Feeds a piece that nodes are made of, and answers how many words of the log were written. K and the round constants are
 // copied once.
 fn feed_nodes(area: &mut [u64], piece: &[u8], bits: u64, log: &mut [u64]) -> usize
-    requires { ⌜ FeedPassed (now area) (now piece) bits (now log) ⌝ }
-    ensures { λ _. ⌜ now (area .exit) ≡ withLevels (now (area .entry)) (fedBits (now (area .entry)) (pieceBits (now (piece .entry)) bits) .levels) ⌝ }
-    ensures { λ _. ⌜ now (log .exit) ≡ logged (fedBits (now (area .entry)) (pieceBits (now (piece .entry)) bits) .nodes) (now (log .entry)) ⌝ }
-    ensures { λ r. ⌜ r ≡ 2 * length (fedBits (now (area .entry)) (pieceBits (now (piece .entry)) bits) .nodes) ⌝ }
+    requires { ⌜ FeedPassed (now area) (pieceOf (now piece) bits) (now log) ⌝ }
+    ensures { λ r. ⌜ Leaves (fedBits (now (area .entry)) (pieceBits (pieceOf (now (piece .entry)) bits))) (now (area .entry)) (now (log .entry)) 0 (now (area .exit)) (now (log .exit)) r ⌝ }
 {
     let params = Area::params(area);
     let total = area[Area::TOTAL];
@@ -31,25 +27,21 @@ fn feed_nodes(area: &mut [u64], piece: &[u8], bits: u64, log: &mut [u64]) -> usi
 // Feeds a piece to the levels, and answers how many words of the log were written. Bits that level 1 takes before a node is made
 // are only copied into it.
 fn feed_levels(area: &mut [u64], piece: &[u8], bits: u64, log: &mut [u64]) -> usize
-    requires { ⌜ FeedPassed (now area) (now piece) bits (now log) ⌝ }
-    ensures { λ _. ⌜ now (area .exit) ≡ withLevels (now (area .entry)) (fedBits (now (area .entry)) (pieceBits (now (piece .entry)) bits) .levels) ⌝ }
-    ensures { λ _. ⌜ now (log .exit) ≡ logged (fedBits (now (area .entry)) (pieceBits (now (piece .entry)) bits) .nodes) (now (log .entry)) ⌝ }
-    ensures { λ r. ⌜ r ≡ 2 * length (fedBits (now (area .entry)) (pieceBits (now (piece .entry)) bits) .nodes) ⌝ }
+    requires { ⌜ FeedPassed (now area) (pieceOf (now piece) bits) (now log) ⌝ }
+    ensures { λ r. ⌜ Leaves (fedBits (now (area .entry)) (pieceBits (pieceOf (now (piece .entry)) bits))) (now (area .entry)) (now (log .entry)) 0 (now (area .exit)) (now (log .exit)) r ⌝ }
 {
     let free = chunk::free_of(area[Area::LIMIT], area[Area::TOTAL]);
     if free < bits {
         return feed_nodes(area, piece, bits, log);
     }
-    chunk::fill_level(area, Block::BITS - free, piece, 0, bits);
+    chunk::fill_level(area, Block::BITS - free, piece, 0, 0, bits);
     0
 }
 
 // Feeds a piece, and answers how many nodes were made.
 pub fn feed_piece(area: &mut [u64], piece: &[u8], bits: u64, log: &mut [u64]) -> u64
-    requires { ⌜ FeedPassed (now area) (now piece) bits (now log) ⌝ }
-    ensures { λ _. ⌜ now (area .exit) ≡ fedArea (now (area .entry)) bits (fedBits (now (area .entry)) (pieceBits (now (piece .entry)) bits)) ⌝ }
-    ensures { λ _. ⌜ now (log .exit) ≡ logged (fedBits (now (area .entry)) (pieceBits (now (piece .entry)) bits) .nodes) (now (log .entry)) ⌝ }
-    ensures { λ r. ⌜ r ≡ length (fedBits (now (area .entry)) (pieceBits (now (piece .entry)) bits) .nodes) ⌝ }
+    requires { ⌜ FeedPassed (now area) (pieceOf (now piece) bits) (now log) ⌝ }
+    ensures { λ r. ⌜ FedPiece (now (area .entry)) (pieceOf (now (piece .entry)) bits) (now (log .entry)) (now (area .exit)) (now (log .exit)) r ⌝ }
 {
     let total = area[Area::TOTAL];
     let before = area[Area::DONE];

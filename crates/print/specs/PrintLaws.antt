@@ -4,7 +4,7 @@ use mathlib.Core.List.{List, [], _∷_, _++_, append-assoc, append-nil}
 use Prim.Native.Nat.{ℕ, zero, suc, _+_, _*_, _≤_, _<_}
 use native.Mathlib.Numerals.{add-one}
 use native.Mathlib.Omega.{arith}
-use lib.ListN.{length, take, drop, getD, set, length-append}
+use lib.ListN.{length, take, drop, getD, set, length-append, length-take}
 use lib.Seq.{length-take-le, take-suc, getD-drop}
 use Rattle.lists.specs.Flatten.{flatten-append, map-append}
 use Rattle.lists.specs.Part.{put}
@@ -49,7 +49,7 @@ nodeLines-more (suc n) log =
     ap (λ (l : List ℕ). nodeLine (getD log 0 0) (getD log 1 0) ++ l) (nodeLines-more n (drop 2 log) ∙ rw (u, v))
     ∙ sym (append-assoc (nodeLine (getD log 0 0) (getD log 1 0)) (nodeLines n (drop 2 log)) (nodeLine (getD log (2 * suc n) 0) (getD log (2 * suc n + 1) 0)))
 
-length-nodeLines : (n : ℕ) (log : List ℕ) → length (nodeLines n log) ≡ lineBytes * n
+pub length-nodeLines : (n : ℕ) (log : List ℕ) → length (nodeLines n log) ≡ lineBytes * n
 unfolding nodeLines
 length-nodeLines zero log = refl
 length-nodeLines (suc n) log = rw (length-append, length-nodeLine, length-nodeLines n (drop 2 log)) (omega arith)
@@ -87,6 +87,14 @@ bytes-step i text bytes {t = t} h d e e′ =
     let n : length (byteDigits (take i bytes)) ≡ 2 * i = rw (length-byteDigits (take i bytes), length-take-le i bytes (omega arith)) in
     e′ ∙ ap (λ (y : ℕ). put (2 * i) 2 t (hexDigits 2 y)) d ∙ ap (λ (l : List ℕ). put (2 * i) 2 l (hexDigits 2 (getD bytes i 0))) e
     ∙ next-part (2 * i) 2 (byteDigits (take i bytes)) text (hexDigits 2 (getD bytes i 0)) n ∙ rw (a, byteDigits-more bytes i h)
+
+pub length-digestLine : (n : ℕ) (bytes : List ℕ) → n ≤ length bytes → length (digestLine (take n bytes)) ≡ 2 * n + 1
+unfolding digestLine
+length-digestLine n bytes h = rw (length-append, length-byteDigits (take n bytes), length-take-le n bytes h)
+
+pub digestLine-most : (n : ℕ) (bytes : List ℕ) → length (digestLine (take n bytes)) ≤ 2 * n + 1
+unfolding digestLine
+digestLine-most n bytes = rw (length-append, length-byteDigits (take n bytes), length-take) (omega arith)
 
 pub digest-stored : (n : ℕ) (text bytes : List ℕ) → n ≤ length bytes → 2 * n < length text
     → set (put 0 (2 * n) text (byteDigits (take n bytes))) (2 * n) 10 ≡ put 0 (2 * n + 1) text (digestLine (take n bytes))

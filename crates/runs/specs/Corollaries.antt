@@ -7,8 +7,8 @@ use mathlib.Core.List.{List}
 use Prim.Native.Nat.{ℕ}
 use lib.ListN.{length}
 use Rattle.tree.specs.Tree.{Params, Node, order, digest}
-use Rattle.area.specs.Calls
-use Rattle.area.specs.Marks.{allNodes}
+use Rattle.calls.specs.Calls
+use Rattle.calls.specs.Marks.{allNodes}
 use Rattle.collision.specs.Clash.{Different, RootsDiffer, Meeting}
 use Rattle.collision.specs.Collision.{collision}
 use Rattle.runs.specs.Runs.{Run, messageOf}
@@ -61,5 +61,5 @@ pub run-collision : (a b : Run) (e : EndedRun a) (f : EndedRun b) → Different 
 run-collision a b e f different d same =
     let x = demand3 a in
     let y = demand3 b in
-    collision (a .params) (b .params) (messageOf a) (messageOf b) (x .valid) (y .valid) (x .short) (y .short) different d
+    collision (a .params) (b .params) (messageOf a) (messageOf b) (x .valid) (y .valid) (x .messageShort) (y .messageShort) different d
     (sym (x .digest (e .out) (e .is)) ∙ same ∙ y .digest (f .out) (f .is))

@@ -28,7 +28,7 @@ demand3 r = by (run-fits r .1)
           phase = rw (g .output) (g .stands .phase);
           total = h .total;
           params = h .params;
-          short = h .short;
+          messageShort = h .short;
           valid = h .valid;
         }
     by (over g) =
@@ -42,6 +42,6 @@ demand3 r = by (run-fits r .1)
           phase = rw (g .output) (g .closed .phase);
           total = h .total;
           params = h .params;
-          short = h .short;
+          messageShort = h .short;
           valid = h .valid;
         }

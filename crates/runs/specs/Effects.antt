@@ -9,13 +9,14 @@ use native.Mathlib.Omega.{arith}
 use lib.ListN.{length, drop}
 use lib.Seq.{take-at}
 use Rattle.bits.specs.BitsLaws.{length-numbers}
+use Rattle.bits.specs.Piece.{Piece}
 use Rattle.tree.specs.Tree.{Params, order, digest, digestBytes}
-use Rattle.area.specs.Calls.{Opened, Fed, Finished, openNumber, openOf, feedNumber, feedOf, endNumber, endOf}
-use Rattle.area.specs.Calls
-use Rattle.area.specs.Marks.{allNodes, settled}
-use Rattle.area.specs.CallLaws.{open-number, open-refused, feed-number, feed-refused, feed-passed, end-number, end-refused, end-passed}
-use Rattle.area.specs.Stands.{Stands, Closed}
-use Rattle.area.specs.Meets.{feed-one, end-one}
+use Rattle.calls.specs.Calls.{Opened, Fed, Finished, openNumber, openOf, feedNumber, feedOf, endNumber, endOf}
+use Rattle.calls.specs.Calls
+use Rattle.calls.specs.Marks.{allNodes, settled}
+use Rattle.calls.specs.CallLaws.{open-number, open-refused, feed-number, feed-refused, feed-passed, end-number, end-refused, end-passed}
+use Rattle.calls.specs.Stands.{Stands, Closed}
+use Rattle.calls.specs.Meets.{feed-one, end-one}
 use Rattle.text.specs.Text.{Taken, textOf, writeNumber, writeOf, readNumber, readOf}
 use Rattle.text.specs.ReadLaws.{read-number, read-refused, write-number, written-text}
 use Rattle.runs.specs.Runs.{Bytes, Words, Call, feed, end, show, write, read, readInto, reopen, unless, outcomeOf, acceptedRole, roleOf, suspended, Allowed, Share, nothing, acceptedShare, shareOf, digestIn}
@@ -76,30 +77,30 @@ module _ (P : Params) (M : List Bool) (area : List ℕ) (text : Option (List ℕ
 
   -- ---- one lemma a call
 
-  feed-step : {e : Bool} (piece : List ℕ) (n : ℕ) (log : List ℕ) (b : Bytes piece) (s : n < 2 ^ 64) (w : Words log) → At P M area e
-      → Step P M area e text (feed piece n log b s w)
+  feed-step : {e : Bool} (piece : Piece) (log : List ℕ) (b : Bytes (piece .bytes)) (s : piece .count < 2 ^ 64) (w : Words log) → At P M area e
+      → Step P M area e text (feed piece log b s w)
   unfolding outcomeOf
-  feed-step piece n log b s w at = by (feedNumber area piece n log) refl at
+  feed-step piece log b s w at = by (feedNumber area piece log) refl at
     where
       c : Call
-      c = feed piece n log b s w
+      c = feed piece log b s w
 
       f : Fed
-      f = feedOf area piece n log
+      f = feedOf area piece log
 
-      number : f .number ≡ feedNumber area piece n log
-      number = feed-number area piece n log
+      number : f .number ≡ feedNumber area piece log
+      number = feed-number area piece log
 
-      by : {e : Bool} (k : ℕ) → feedNumber area piece n log ≡ k → At P M area e → Step P M area e text c
-      by (suc k) q at = refused c k (number ∙ q) (ap (λ (x : Fed). x .area) (sym (feed-refused area piece n log (suc k) (sym q) (omega arith))))
+      by : {e : Bool} (k : ℕ) → feedNumber area piece log ≡ k → At P M area e → Step P M area e text c
+      by (suc k) q at = refused c k (number ∙ q) (ap (λ (x : Fed). x .area) (sym (feed-refused area piece log (suc k) (sym q) (omega arith))))
       by zero q (isOpen s) =
-          let o = feed-one P M area piece n log s (number ∙ q) in
+          let o = feed-one P M area piece log s (number ∙ q) in
           record {
             after = false;
             effect = fed (rw (share-of c (number ∙ q)) (record { stands = o .stands; log = o .log; count = o .count; output = refl }));
             held = rw (role-of c (number ∙ q)) tt;
           }
-      by zero q (hasEnded s) = absurd (feed-passed area piece n log q .opened .phase (s .phase))
+      by zero q (hasEnded s) = absurd (feed-passed area piece log q .opened .phase (s .phase))
 
   end-step : {e : Bool} (out log : List ℕ) (b : Bytes out) (w : Words log) → At P M area e → Step P M area e text (end out log b w)
   unfolding outcomeOf
@@ -213,7 +214,7 @@ module _ (P : Params) (M : List Bool) (area : List ℕ) (text : Option (List ℕ
 
   -- every call has an effect
   pub step : {e : Bool} (c : Call) → At P M area e → Allowed text (roleOf c (outcomeOf area c)) → Step P M area e text c
-  step (feed piece n log b s w) at a = feed-step piece n log b s w at
+  step (feed piece log b s w) at a = feed-step piece log b s w at
   step (end out log b w) at a = end-step out log b w at
   step (show level) at a = show-step level
   step (write out b) at a = write-step out b

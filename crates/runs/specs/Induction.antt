@@ -7,11 +7,11 @@ use Prim.Native.Nat.{ℕ}
 use native.Mathlib.Nat.{zero-add, add-zero, add-assoc}
 use lib.ListN.{length}
 use Rattle.tree.specs.Tree.{Params, order, digest}
-use Rattle.area.specs.Calls.{openOf}
-use Rattle.area.specs.Calls
-use Rattle.area.specs.Marks.{allNodes, settled}
-use Rattle.area.specs.Stands.{settled-opened, Stands, Closed}
-use Rattle.area.specs.Meets.{open-one}
+use Rattle.calls.specs.Calls.{openOf}
+use Rattle.calls.specs.Calls
+use Rattle.calls.specs.Marks.{allNodes, settled}
+use Rattle.calls.specs.Stands.{settled-opened, Stands, Closed}
+use Rattle.calls.specs.Meets.{open-one}
 use Rattle.runs.specs.Runs.{Call, Outcome, outcomeOf, suspended, roleOf, Goes, Run, Share, nothing, shareOf, firstOf, joinedShares, answered, areaAfter, shares, answersOf, areaOf, digestIn}
 use Rattle.runs.specs.Suspend.{At, isOpen, hasEnded}
 use Rattle.runs.specs.Effects.{Effect, still, fed, ended, moved, Held, step}
@@ -98,7 +98,7 @@ effect-fits {P = P} {s = s} {add = add} (going g) (ended d) = over record {
 
 -- ---- the list
 
-pub list-fits : {e : Bool} (P : Params) (s : Share) (area : List ℕ) (text : Option (List ℕ)) (cs : List Call) → Fits P s area e → Held text area
+list-fits : {e : Bool} (P : Params) (s : Share) (area : List ℕ) (text : Option (List ℕ)) (cs : List Call) → Fits P s area e → Held text area
     → Goes area text cs → (f : Bool) × Fits P (joinedShares s (shares (answered area cs))) (areaAfter area cs) f
 unfolding Goes answered areaAfter shares
 list-fits {e} P s area text [] f h g = (e, rw (joined-none s) f)

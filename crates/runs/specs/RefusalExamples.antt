@@ -7,10 +7,11 @@ use mathlib.Core.List.{List, [], _∷_, _++_, map}
 use Prim.Native.Nat.{ℕ, _-_, _^_}
 use lib.ListN.{take, set, replicate}
 use Rattle.bits.specs.Bits.{numbers}
+use Rattle.bits.specs.Piece.{pieceOf}
 use Rattle.compress.specs.Compress.{grown, compressed}
 use Rattle.tree.specs.Tree.{Params, keyWords, output, noChain}
-use Rattle.area.specs.Area.{areaWords, paramsOf, levelsOf, withLevels, emptyLevel, emptyLevels, sound}
-use Rattle.area.specs.Calls.{withBit, outWords, receive, feedBit, feedBits, closeAbove, closing, openNumber, openedArea, openOf, fedBits, feedNumber, fedArea, feedOf, closedBy, endNumber, endedArea, digestOut, endOf}
+use Rattle.calls.specs.Area.{areaWords, paramsOf, levelsOf, withLevels, emptyLevel, emptyLevels, sound}
+use Rattle.calls.specs.Calls.{withBit, outWords, receive, feedBit, feedBits, closeAbove, closing, openNumber, openedArea, openOf, fedBits, feedNumber, fedArea, feedOf, closedBy, endNumber, endedArea, digestOut, endOf}
 use Rattle.digits.specs.Digits.{hexDigits, speltWords}
 use Rattle.text.specs.Text.{textOf, speltHead, speltArea, same, writeNumber, writeOf, readable, readNumber, readOf}
 use Rattle.text.specs.ReadLaws.{same-eq}
@@ -39,7 +40,7 @@ ended = endOf opened (0 ∷ []) (0 ∷ 0 ∷ []) .area
 
 -- after 4,096 bits: the next bit makes a node
 abbrev full : List ℕ
-full = feedOf opened (replicate 512 255) 4096 [] .area
+full = feedOf opened (pieceOf (replicate 512 255) 4096) [] .area
 
 -- after t bits, all zero, of 2^64 - 4,096 or more: 4,503,599,627,370,495 blocks were compressed at level 1, a quarter of them
 -- rounded down at level 2, and so on
@@ -79,24 +80,24 @@ openRows =
 -- "Feed 7, 10, 5, 6, 8"
 abbrev feedRows : List Row
 feedRows =
-    (feedOf (cut ended) byte 8 [] .number, 7)
-    ∷ (feedOf (set ended 15 1) byte 8 [] .number, 7)
-    ∷ (feedOf ended byte 8 [] .number, 10)
-    ∷ (feedOf ended byte 9 [] .number, 10)
-    ∷ (feedOf opened byte 9 [] .number, 5)
-    ∷ (feedOf (late (2 ^ 64 - 1)) byte 9 [] .number, 5)
-    ∷ (feedOf (late (2 ^ 64 - 1)) byte 1 [] .number, 6)
-    ∷ (feedOf (late (2 ^ 64 - 1)) byte 2 [] .number, 6)
-    ∷ (feedOf full byte 1 [] .number, 8)
+    (feedOf (cut ended) (pieceOf byte 8) [] .number, 7)
+    ∷ (feedOf (set ended 15 1) (pieceOf byte 8) [] .number, 7)
+    ∷ (feedOf ended (pieceOf byte 8) [] .number, 10)
+    ∷ (feedOf ended (pieceOf byte 9) [] .number, 10)
+    ∷ (feedOf opened (pieceOf byte 9) [] .number, 5)
+    ∷ (feedOf (late (2 ^ 64 - 1)) (pieceOf byte 9) [] .number, 5)
+    ∷ (feedOf (late (2 ^ 64 - 1)) (pieceOf byte 1) [] .number, 6)
+    ∷ (feedOf (late (2 ^ 64 - 1)) (pieceOf byte 2) [] .number, 6)
+    ∷ (feedOf full (pieceOf byte 1) [] .number, 8)
     -- edges: 8 times the bytes; 0 bits; the highest total; no node made; a word short of one node
-    ∷ (feedOf opened byte 8 [] .number, 0)
-    ∷ (feedOf full [] 0 [] .number, 0)
-    ∷ (feedOf full [] 1 [] .number, 5)
-    ∷ (feedOf (late (2 ^ 64 - 2)) byte 1 [] .number, 0)
-    ∷ (feedOf (late (2 ^ 64 - 2)) byte 2 [] .number, 6)
-    ∷ (feedOf (late (2 ^ 64 - 1)) byte 0 [] .number, 0)
-    ∷ (feedOf full byte 1 (0 ∷ []) .number, 8)
-    ∷ (feedOf full byte 1 (0 ∷ 0 ∷ []) .number, 0)
+    ∷ (feedOf opened (pieceOf byte 8) [] .number, 0)
+    ∷ (feedOf full (pieceOf [] 0) [] .number, 0)
+    ∷ (feedOf full (pieceOf [] 1) [] .number, 5)
+    ∷ (feedOf (late (2 ^ 64 - 2)) (pieceOf byte 1) [] .number, 0)
+    ∷ (feedOf (late (2 ^ 64 - 2)) (pieceOf byte 2) [] .number, 6)
+    ∷ (feedOf (late (2 ^ 64 - 1)) (pieceOf byte 0) [] .number, 0)
+    ∷ (feedOf full (pieceOf byte 1) (0 ∷ []) .number, 8)
+    ∷ (feedOf full (pieceOf byte 1) (0 ∷ 0 ∷ []) .number, 0)
     ∷ []
 
 -- "End 7, 10, 9, 8"
@@ -140,22 +141,22 @@ readRows =
 -- "Whole message 5, 1, 2, 3, 4, 9"
 abbrev wholeRows : List Row
 wholeRows =
-    (hashOf byte 9 (params 0 0 64 0) room .number, 5)
-    ∷ (hashOf byte 8 (params 0 0 64 0) room .number, 1)
-    ∷ (hashOf byte 8 (params 513 65 64 0) room .number, 1)
-    ∷ (hashOf byte 8 (params 8 65 64 0) room .number, 2)
-    ∷ (hashOf byte 8 (params 8 65 65 0) room .number, 2)
-    ∷ (hashOf byte 8 (params 8 0 65 0) room .number, 3)
-    ∷ (hashOf byte 8 (params 8 0 65 256) room .number, 3)
-    ∷ (hashOf byte 8 (params 8 0 64 256) room .number, 4)
-    ∷ (hashOf byte 8 (params 8 0 64 256) [] .number, 4)
-    ∷ (hashOf byte 8 (params 8 0 64 0) [] .number, 9)
+    (hashOf (pieceOf byte 9) (params 0 0 64 0) room .number, 5)
+    ∷ (hashOf (pieceOf byte 8) (params 0 0 64 0) room .number, 1)
+    ∷ (hashOf (pieceOf byte 8) (params 513 65 64 0) room .number, 1)
+    ∷ (hashOf (pieceOf byte 8) (params 8 65 64 0) room .number, 2)
+    ∷ (hashOf (pieceOf byte 8) (params 8 65 65 0) room .number, 2)
+    ∷ (hashOf (pieceOf byte 8) (params 8 0 65 0) room .number, 3)
+    ∷ (hashOf (pieceOf byte 8) (params 8 0 65 256) room .number, 3)
+    ∷ (hashOf (pieceOf byte 8) (params 8 0 64 256) room .number, 4)
+    ∷ (hashOf (pieceOf byte 8) (params 8 0 64 256) [] .number, 4)
+    ∷ (hashOf (pieceOf byte 8) (params 8 0 64 0) [] .number, 9)
     -- edges: 8 times the bytes and one more; d 1, 512 and 513; key 64; L 64; r 255; the bytes of a digest
-    ∷ (hashOf byte 8 (params 1 64 64 255) byte .number, 0)
-    ∷ (hashOf byte 9 (params 1 64 64 255) byte .number, 5)
-    ∷ (hashOf byte 8 (params 512 0 0 0) (take 64 room) .number, 0)
-    ∷ (hashOf byte 8 (params 512 0 0 0) (take 63 room) .number, 9)
-    ∷ (hashOf byte 8 (params 513 0 0 0) room .number, 1)
+    ∷ (hashOf (pieceOf byte 8) (params 1 64 64 255) byte .number, 0)
+    ∷ (hashOf (pieceOf byte 9) (params 1 64 64 255) byte .number, 5)
+    ∷ (hashOf (pieceOf byte 8) (params 512 0 0 0) (take 64 room) .number, 0)
+    ∷ (hashOf (pieceOf byte 8) (params 512 0 0 0) (take 63 room) .number, 9)
+    ∷ (hashOf (pieceOf byte 8) (params 513 0 0 0) room .number, 1)
     ∷ []
 
 -- "Default rounds: 1"

@@ -8,19 +8,19 @@ use mathlib.Core.List.{List, [], _∷_, _++_, map}
 use Prim.Native.Nat.{ℕ, _-_}
 use native.Mathlib.Omega.{arith}
 use lib.ListN.{take, replicate}
-use Rattle.lists.specs.Below.{none as nil}
 use Rattle.bits.specs.Bits.{numbers}
+use Rattle.bits.specs.Piece.{pieceOf, pieceBits}
 use Rattle.compress.specs.Compress.{grown, compressed}
 use Rattle.tree.specs.Tree.{Params, keyWords, output, noChain, order, digest}
-use Rattle.tree.specs.Refusals.{pieceBits}
-use Rattle.area.specs.Area.{areaWords, paramsOf, levelsOf, withLevels, emptyLevel, emptyLevels, sound}
-use Rattle.area.specs.Calls.{nodeLog, withBit, outWords, receive, feedBit, feedBits, closeAbove, closing, openNumber, openedArea, openOf, fedBits, feedNumber, fedArea, feedOf, closedBy, endNumber, endedArea, digestOut, endOf, shown, levelOf}
+use Rattle.calls.specs.Area.{areaWords, paramsOf, levelsOf, withLevels, emptyLevel, emptyLevels, sound}
+use Rattle.calls.specs.Calls.{nodeLog, withBit, outWords, receive, feedBit, feedBits, closeAbove, closing, openNumber, openedArea, openOf, fedBits, feedNumber, fedArea, feedOf, closedBy, endNumber, endedArea, digestOut, endOf, shown, levelOf}
 use Rattle.digits.specs.Digits.{hexDigits, line, speltWords}
 use Rattle.text.specs.Text.{textOf, speltHead, speltArea, writeNumber, writeOf, readable, readNumber, readOf}
 use Rattle.runs.specs.Runs.{Bytes, feed, end, show, write, read, readInto, outcomeOf, roleOf, Run, Answered, answered, Share, shareOf, joinedShares, shares, answersOf, digestIn}
 use Rattle.runs.specs.Statements.{nodesFor}
 use Rattle.runs.specs.RunTest.{lent, Numbered, callsOf, goesIf, goes-is}
 use Rattle.runs.specs.WorkedRun.{used, other, zeros}
+use Rattle.lists.specs.Below.{none as nil}
 
 -- ---- an example, and what is computed of it
 
@@ -98,15 +98,15 @@ abbrev openExample : Example
 openExample = record {
   params = record { key = []; d = 8; limit = 1; rounds = 0 };
   list =
-      (feed (ones 626) 5003 (log 2) (lent (ones 626) refl) (omega arith) (lent (log 2) refl), 0)
+      (feed (pieceOf (ones 626) 5003) (log 2) (lent (ones 626) refl) (omega arith) (lent (log 2) refl), 0)
       ∷ (write (zeros 2228) (lent (zeros 2228) refl), 0)
-      ∷ (feed (ones 399) 3190 (log 3) (lent (ones 399) refl) (omega arith) (lent (log 3) refl), 0)
+      ∷ (feed (pieceOf (ones 399) 3190) (log 3) (lent (ones 399) refl) (omega arith) (lent (log 3) refl), 0)
       ∷ (write (zeros 2300) (lent (zeros 2300) refl), 0)
       ∷ (readInto short heldText (lent short refl) held-bytes, 7)
-      ∷ (feed (ones 512) 4096 (log 3) (lent (ones 512) refl) (omega arith) (lent (log 3) refl), 8)
+      ∷ (feed (pieceOf (ones 512) 4096) (log 3) (lent (ones 512) refl) (omega arith) (lent (log 3) refl), 8)
       ∷ (show 2, 0)
       ∷ (read heldText held-bytes, 0)
-      ∷ (feed (ones 512) 4096 (log 5) (lent (ones 512) refl) (omega arith) (lent (log 5) refl), 0)
+      ∷ (feed (pieceOf (ones 512) 4096) (log 5) (lent (ones 512) refl) (omega arith) (lent (log 5) refl), 0)
       ∷ [];
   share = openShare;
 }
@@ -128,7 +128,7 @@ ended-bytes = lent endedText refl
 -- V: r 000, L 01, z 0 or 1, p 0000, key bytes 01, d 00c
 abbrev pub endedShare : Share
 endedShare = record {
-  bits = replicate 12272 true ++ pieceBits lastBytes 16;
+  bits = replicate 12272 true ++ pieceBits (pieceOf lastBytes 16);
   log =
       0x0100000000000000 ∷ 0x000001000000100c ∷ 0x0100000000000001 ∷ 0x000001000000100c
       ∷ 0x0100000000000002 ∷ 0x000001000000100c ∷ 0x0200000000000000 ∷ 0x000001100000100c ∷ [];
@@ -140,12 +140,12 @@ abbrev endedExample : Example
 endedExample = record {
   params = record { key = 0x6b ∷ []; d = 12; limit = 1; rounds = 0 };
   list =
-      (feed (ones 1534) 12272 (log 4) (lent (ones 1534) refl) (omega arith) (lent (log 4) refl), 0)
-      ∷ (feed lastBytes 16 [] (lent lastBytes refl) (omega arith) nil, 0)
+      (feed (pieceOf (ones 1534) 12272) (log 4) (lent (ones 1534) refl) (omega arith) (lent (log 4) refl), 0)
+      ∷ (feed (pieceOf lastBytes 16) [] (lent lastBytes refl) (omega arith) nil, 0)
       ∷ (end (log 3) (log 4) (lent (log 3) refl) (lent (log 4) refl), 0)
       ∷ (write (zeros 174) (lent (zeros 174) refl), 0)
       ∷ (readInto other endedText (lent other refl) ended-bytes, 0)
-      ∷ (feed (ones 1) 1 (log 2) (lent (ones 1) refl) (omega arith) (lent (log 2) refl), 10)
+      ∷ (feed (pieceOf (ones 1) 1) (log 2) (lent (ones 1) refl) (omega arith) (lent (log 2) refl), 10)
       ∷ (end (log 3) (log 4) (lent (log 3) refl) (lent (log 4) refl), 10)
       ∷ (show 2, 0)
       ∷ [];

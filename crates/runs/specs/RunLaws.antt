@@ -3,8 +3,9 @@ use mathlib.Core.Path.{_≡_, refl, ap}
 use mathlib.Core.Option.{Option, none, some}
 use mathlib.Core.List.{List, _∷_}
 use Prim.Native.Nat.{ℕ, suc, _^_, _<_}
+use Rattle.bits.specs.Piece.{Piece}
 use Rattle.tree.specs.Tree.{Params}
-use Rattle.area.specs.Calls.{openOf, feedOf}
+use Rattle.calls.specs.Calls.{openOf, feedOf}
 use Rattle.text.specs.Text.{readOf}
 use Rattle.runs.specs.Runs.{Bytes, Words, Call, feed, read, readInto, reopen, unless, outcomeOf, roleOf, suspended, Goes}
 
@@ -29,10 +30,10 @@ module _ (area : List ℕ) (text : Option (List ℕ)) where
   unfolding roleOf outcomeOf
   read-once x b e = rw e refl
 
-  pub feed-ends : (piece : List ℕ) (n : ℕ) (log : List ℕ) (b : Bytes piece) (s : n < 2 ^ 64) (w : Words log) → feedOf area piece n log .number ≡ 0
-      → suspended text (roleOf (feed piece n log b s w) (outcomeOf area (feed piece n log b s w))) ≡ none
+  pub feed-ends : (piece : Piece) (log : List ℕ) (b : Bytes (piece .bytes)) (s : piece .count < 2 ^ 64) (w : Words log) → feedOf area piece log .number ≡ 0
+      → suspended text (roleOf (feed piece log b s w) (outcomeOf area (feed piece log b s w))) ≡ none
   unfolding roleOf outcomeOf
-  feed-ends piece n log b s w e = rw e refl
+  feed-ends piece log b s w e = rw e refl
 
 -- a refused read into another area leaves the stream where it was; an accepted one moves it there
 module _ (area other x : List ℕ) (w : Words other) (b : Bytes x) where

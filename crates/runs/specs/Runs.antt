@@ -7,9 +7,9 @@ use mathlib.Core.List.{List, [], _∷_, _++_}
 use Prim.Native.Nat.{ℕ, zero, suc, _+_, _*_, _^_, _<_}
 use lib.ListN.{take}
 use Rattle.lists.specs.Below.{Below}
+use Rattle.bits.specs.Piece.{Piece, pieceBits}
 use Rattle.tree.specs.Tree.{Params, digestBytes}
-use Rattle.tree.specs.Refusals.{pieceBits}
-use Rattle.area.specs.Calls.{Opened, Fed, Finished, openOf, feedOf, endOf, levelOf}
+use Rattle.calls.specs.Calls.{Opened, Fed, Finished, openOf, feedOf, endOf, levelOf}
 use Rattle.text.specs.Text.{Written, Taken, writeOf, readOf}
 
 -- lent bytes and lent words
@@ -24,7 +24,7 @@ Words = Below (2 ^ 64)
 -- "Then come, in any order and number, feed, end, show a level, write and read, and open where it is refused": a call with its
 -- arguments and all that is lent to it but the stream's area; "a read may get another area, of any contents"
 pub data Call : Type 0 where
-  feed : (piece : List ℕ) (n : ℕ) (log : List ℕ) → Bytes piece → n < 2 ^ 64 → Words log → Call
+  feed : (piece : Piece) (log : List ℕ) → Bytes (piece .bytes) → piece .count < 2 ^ 64 → Words log → Call
   end : (digest log : List ℕ) → Bytes digest → Words log → Call
   show : (level : ℕ) → Call
   write : (text : List ℕ) → Bytes text → Call
@@ -48,8 +48,8 @@ unless (suc n) refused accepted = refused
 -- a call on an area. Showing a level has no number; a refused read into another area leaves the stream where it is, and
 -- "once it is accepted the next call gets that one".
 unfoldable pub outcomeOf : List ℕ → Call → Outcome
-outcomeOf area (feed piece n log _ _ _) =
-    let f : Fed = feedOf area piece n log in
+outcomeOf area (feed piece log _ _ _) =
+    let f : Fed = feedOf area piece log in
     record { number = f .number; count = f .count; area = f .area; log = f .log; output = [] }
 outcomeOf area (end digest log _ _) =
     let e : Finished = endOf area digest log in
@@ -82,7 +82,7 @@ pub data Role : Type 0 where
 -- of an accepted call: which of them may stand inside a suspension is said here alone; a write's text is the first c bytes
 -- of its output, c its count
 abbrev pub acceptedRole : Call → Outcome → Role
-acceptedRole (feed piece n log _ _ _) o = outside
+acceptedRole (feed piece log _ _ _) o = outside
 acceptedRole (end digest log _ _) o = outside
 acceptedRole (show level) o = between
 acceptedRole (write text _) o = writes (take (o .count) (o .output))
@@ -158,8 +158,8 @@ nothing = record { bits = []; log = []; count = 0; output = none }
 -- an accepted call: "The message of a run is the bits of its accepted feeds"; "Its log joins, in order, the logs of its accepted
 -- feeds and end: of each the first 2c words as the call left them, c being the count it returned."
 abbrev pub acceptedShare : Call → Outcome → Share
-acceptedShare (feed piece n log _ _ _) o =
-    record { bits = pieceBits piece n; log = take (2 * o .count) (o .log); count = o .count; output = none }
+acceptedShare (feed piece log _ _ _) o =
+    record { bits = pieceBits piece; log = take (2 * o .count) (o .log); count = o .count; output = none }
 acceptedShare (end digest log _ _) o =
     record { bits = []; log = take (2 * o .count) (o .log); count = o .count; output = some (o .output) }
 acceptedShare (show level) o = nothing

@@ -7,12 +7,12 @@ use mathlib.Core.Option.{Option, none, some}
 use mathlib.Core.List.{List, [], _∷_, _++_}
 use Prim.Native.Nat.{ℕ, _+_, _-_, _^_, _≤_, _<_}
 use lib.ListN.{length}
+use Rattle.bits.specs.Piece.{Piece, pieceBits}
 use Rattle.tree.specs.Tree.{Params, Valid, Node, Mark, mostLevels, order, digest}
-use Rattle.tree.specs.Refusals.{pieceBits, firstRefusal, paramTests, outputTest}
-use Rattle.area.specs.Area.{areaWords, phaseOf, totalOf, paramsOf, levelWords, sound}
-use Rattle.area.specs.Calls.{shortTest, openOf, feedTests, feedOf, endTests, endOf, levelOf}
-use Rattle.area.specs.Calls
-use Rattle.area.specs.Marks.{allNodes, settled}
+use Rattle.refusals.specs.Refusals.{firstRefusal, paramTests, outputTest}
+use Rattle.calls.specs.Area.{areaWords, phaseOf, totalOf, paramsOf, levelWords, sound}
+use Rattle.calls.specs.Calls.{nodeLog, shortTest, openOf, feedTests, feedOf, endTests, endOf, levelOf}
+use Rattle.calls.specs.Marks.{allNodes, settled}
 use Rattle.text.specs.Text.{textOf, writeOf, readable, readOf}
 use Rattle.runs.specs.Runs.{Run, areaOf, messageOf, logOf, countOf, outputOf, digestIn}
 
@@ -34,7 +34,7 @@ phaseFor (some out) = 2
 
 pub record Demand3 (r : Run) : Type 0 where
   -- "After every run, ended or not, the log is U and V, in the order of nodes, of the nodes of its tree"
-  pub log : logOf r ≡ Calls.nodeLog (nodesOf r)
+  pub log : logOf r ≡ nodeLog (nodesOf r)
   -- "The count is the number of these nodes."
   pub count : countOf r ≡ length (nodesOf r)
   -- "After an accepted end the digest is the tree's."
@@ -47,7 +47,7 @@ pub record Demand3 (r : Run) : Type 0 where
   pub total : totalOf (areaOf r) ≡ length (messageOf r)
   pub params : paramsOf (areaOf r) ≡ r .params
   -- number 6 and the accepted open give these
-  pub short : length (messageOf r) < 2 ^ 64
+  pub messageShort : length (messageOf r) < 2 ^ 64
   pub valid : Valid (r .params)
 
 -- ---- which calls are accepted
@@ -69,8 +69,8 @@ endMakes P M = length (order P M) - length (settled (order P M))
 -- stream's own area is neither short nor unsound.
 pub record Table (r : Run) : Type 0 where
   -- "Feed 7, 10, 5, 6, 8"
-  pub feed : (piece : List ℕ) (n : ℕ) (log : List ℕ) → feedOf (areaOf r) piece n log .number
-      ≡ firstRefusal (endedTest (outputOf r) ∷ feedTests (length (messageOf r)) (feedMakes (r .params) (messageOf r) (pieceBits piece n)) piece n log)
+  pub feed : (piece : Piece) (log : List ℕ) → feedOf (areaOf r) piece log .number
+      ≡ firstRefusal (endedTest (outputOf r) ∷ feedTests (length (messageOf r)) (feedMakes (r .params) (messageOf r) (pieceBits piece)) piece log)
   -- "End 7, 10, 9, 8"
   pub end : (out log : List ℕ) → endOf (areaOf r) out log .number
       ≡ firstRefusal (endedTest (outputOf r) ∷ endTests (r .params .d) (endMakes (r .params) (messageOf r)) out log)

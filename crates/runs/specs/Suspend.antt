@@ -9,9 +9,9 @@ use lib.ListN.{length, take, drop, length-append}
 use lib.Seq.{take-at, take-take, length-take-le}
 use Rattle.lists.specs.Below.{Below}
 use Rattle.tree.specs.Tree.{Params}
-use Rattle.area.specs.Area.{areaWords, sound}
-use Rattle.area.specs.Stands.{Head, Stands, Closed, stands-sound, closed-sound}
-use Rattle.area.specs.Moved.{stands-moved, closed-moved, stands-below, closed-below}
+use Rattle.calls.specs.Area.{areaWords, sound}
+use Rattle.calls.specs.Stands.{Head, Stands, Closed, stands-sound, closed-sound}
+use Rattle.calls.specs.Moved.{stands-moved, closed-moved, stands-below, closed-below}
 use Rattle.text.specs.Text.{textOf, speltArea, readNumber, readOf}
 use Rattle.text.specs.LayoutLaws.{sound-front, text-front}
 use Rattle.text.specs.TextLaws.{spells-back, length-speltArea}
@@ -23,7 +23,7 @@ pub data At (P : Params) (M : List Bool) (area : List ℕ) : Bool → Type 0 whe
   isOpen : Stands P M area → At P M area false
   hasEnded : Closed P M area → At P M area true
 
-pub at-head : {P : Params} {M : List Bool} {area : List ℕ} {e : Bool} → At P M area e → Head P M area
+at-head : {P : Params} {M : List Bool} {area : List ℕ} {e : Bool} → At P M area e → Head P M area
 at-head (isOpen s) = s .head
 at-head (hasEnded s) = s .head
 

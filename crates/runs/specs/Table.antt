@@ -8,15 +8,16 @@ use native.Mathlib.Omega.{arith}
 use borrow.Author.Tests.{ltb-false, le-ltb, lt-leb}
 use lib.Dec.{leb, ltb}
 use lib.ListN.{length, length-append, length-map}
+use Rattle.bits.specs.Piece.{Piece, pieceBits, bitsTest}
+use Rattle.bits.specs.PieceLaws.{length-pieceBits, bits-there}
 use Rattle.tree.specs.Tree.{Params, Mark, mostLevels, order}
-use Rattle.tree.specs.Refusals.{pieceBits, firstRefusal, bitsTest}
-use Rattle.area.specs.Area.{areaWords, sound}
-use Rattle.area.specs.Calls.{totalTest, logTest, openNumber, fedBits, feedTests, feedOf, closedBy, endTests, endOf, shown, levelOf}
-use Rattle.area.specs.Marks.{settled}
-use Rattle.area.specs.CallLaws.{open-number, feed-number, end-number}
-use Rattle.tree.specs.RefusalLaws.{length-pieceBits}
-use Rattle.area.specs.Stands.{Stands}
-use Rattle.area.specs.Accepts.{feed-tests, end-tests, feed-nodes, end-nodes, feed-ended, end-ended, level-shown}
+use Rattle.refusals.specs.Refusals.{firstRefusal}
+use Rattle.calls.specs.Area.{areaWords, sound}
+use Rattle.calls.specs.Calls.{totalTest, logTest, openNumber, fedBits, feedTests, feedOf, closedBy, endTests, endOf, shown, levelOf}
+use Rattle.calls.specs.Marks.{settled}
+use Rattle.calls.specs.CallLaws.{open-number, feed-number, end-number}
+use Rattle.calls.specs.Stands.{Stands}
+use Rattle.calls.specs.Accepts.{feed-tests, end-tests, feed-nodes, end-nodes, feed-ended, end-ended, level-shown}
 use Rattle.text.specs.Text.{writeNumber, readNumber}
 use Rattle.text.specs.ReadLaws.{write-number, read-number}
 use Rattle.runs.specs.Runs.{Run, shares, answersOf, areaOf, messageOf, outputOf}
@@ -41,17 +42,17 @@ module _ {P : Params} {M : List Bool} {area : List ℕ} (s : Stands P M area) wh
       let m = length-map (order P M) (λ (x : Mark). x .node) in
       omega arith
 
-  feed-number-is : (piece : List ℕ) (n : ℕ) (log : List ℕ)
-      → feedOf area piece n log .number ≡ firstRefusal (feedTests (length M) (feedMakes P M (pieceBits piece n)) piece n log)
-  feed-number-is piece n log =
-      let made : ℕ = length (fedBits area (pieceBits piece n) .nodes) in
-      let makes : ℕ = feedMakes P M (pieceBits piece n) in
-      let total : Bool × ℕ = totalTest (length M) n in
-      feed-number area piece n log ∙ feed-tests s piece n log
-      ∙ later-eq (bitsTest piece n) (total ∷ logTest made log ∷ []) (total ∷ logTest makes log ∷ []) (λ b. later-eq total (logTest made log ∷ []) (logTest makes log ∷ []) (λ t.
-      let l : length (pieceBits piece n) ≡ n = length-pieceBits piece n (ltb-false _ _ b) in
-      let small = ltb-false (2 ^ 64 - 1) (length M + n) t in
-      ap (λ (m : ℕ). firstRefusal (logTest m log ∷ [])) (feed-made (pieceBits piece n) (omega arith))))
+  feed-number-is : (piece : Piece) (log : List ℕ)
+      → feedOf area piece log .number ≡ firstRefusal (feedTests (length M) (feedMakes P M (pieceBits piece)) piece log)
+  feed-number-is piece log =
+      let made : ℕ = length (fedBits area (pieceBits piece) .nodes) in
+      let makes : ℕ = feedMakes P M (pieceBits piece) in
+      let total : Bool × ℕ = totalTest (length M) (piece .count) in
+      feed-number area piece log ∙ feed-tests s piece log
+      ∙ later-eq (bitsTest piece) (total ∷ logTest made log ∷ []) (total ∷ logTest makes log ∷ []) (λ b. later-eq total (logTest made log ∷ []) (logTest makes log ∷ []) (λ t.
+      let l : length (pieceBits piece) ≡ piece .count = length-pieceBits piece (bits-there piece b) in
+      let small = ltb-false (2 ^ 64 - 1) (length M + piece .count) t in
+      ap (λ (m : ℕ). firstRefusal (logTest m log ∷ [])) (feed-made (pieceBits piece) (omega arith))))
 
   end-number-is : (out log : List ℕ) → endOf area out log .number ≡ firstRefusal (endTests (P .d) (endMakes P M) out log)
   end-number-is out log = end-number area out log ∙ end-tests s out log ∙ rw end-made refl
@@ -73,7 +74,7 @@ level-none area level (inr high) = rw (not-shown area level (inr (lt-leb level m
 pub table : (r : Run) → Table r
 unfolding writeNumber readNumber openNumber
 table r = record {
-  feed = λ piece n log. feeds piece n log (run-fits r .1);
+  feed = λ piece log. feeds piece log (run-fits r .1);
   end = λ out log. ends out log (run-fits r .1);
   write = λ out. write-number area out ∙ rw (long, d .sound) refl;
   read = λ text. read-number area text ∙ rw long refl;
@@ -98,10 +99,10 @@ table r = record {
     long : ltb (length area) areaWords ≡ false
     long = le-ltb (length area) areaWords (d .long)
 
-    feeds : {e : Bool} (piece : List ℕ) (n : ℕ) (log : List ℕ) → Fits P (shares (answersOf r)) area e → feedOf area piece n log .number
-        ≡ firstRefusal (endedTest (outputOf r) ∷ feedTests (length M) (feedMakes P M (pieceBits piece n)) piece n log)
-    feeds piece n log (going g) = rw (g .output) (feed-number-is (g .stands) piece n log)
-    feeds piece n log (over g) = rw (g .output) (feed-number area piece n log ∙ feed-ended (g .closed) piece n log)
+    feeds : {e : Bool} (piece : Piece) (log : List ℕ) → Fits P (shares (answersOf r)) area e → feedOf area piece log .number
+        ≡ firstRefusal (endedTest (outputOf r) ∷ feedTests (length M) (feedMakes P M (pieceBits piece)) piece log)
+    feeds piece log (going g) = rw (g .output) (feed-number-is (g .stands) piece log)
+    feeds piece log (over g) = rw (g .output) (feed-number area piece log ∙ feed-ended (g .closed) piece log)
 
     ends : {e : Bool} (out log : List ℕ) → Fits P (shares (answersOf r)) area e → endOf area out log .number
         ≡ firstRefusal (endedTest (outputOf r) ∷ endTests (P .d) (endMakes P M) out log)

@@ -7,18 +7,18 @@ use mathlib.Core.List.{List, [], _∷_, _++_, map}
 use Prim.Native.Nat.{ℕ, _+_, _*_}
 use native.Mathlib.Omega.{arith}
 use lib.ListN.{replicate}
-use Rattle.lists.specs.Below.{none as nil}
 use Rattle.bits.specs.Bits.{numbers}
+use Rattle.bits.specs.Piece.{pieceOf, pieceBits}
 use Rattle.compress.specs.Compress.{grown, compressed}
 use Rattle.tree.specs.Tree.{Params, keyWords, output, noChain, order, digest}
-use Rattle.tree.specs.Refusals.{pieceBits}
-use Rattle.area.specs.Area.{areaWords, paramsOf, levelsOf, withLevels, emptyLevel, emptyLevels, sound}
-use Rattle.area.specs.Marks.{allNodes}
-use Rattle.area.specs.Calls.{nodeLog, withBit, outWords, receive, feedBit, feedBits, closeAbove, closing, openNumber, openedArea, openOf, fedBits, feedNumber, fedArea, feedOf, closedBy, endNumber, endedArea, digestOut, endOf, shown, levelOf}
+use Rattle.calls.specs.Area.{areaWords, paramsOf, levelsOf, withLevels, emptyLevel, emptyLevels, sound}
+use Rattle.calls.specs.Marks.{allNodes}
+use Rattle.calls.specs.Calls.{nodeLog, withBit, outWords, receive, feedBit, feedBits, closeAbove, closing, openNumber, openedArea, openOf, fedBits, feedNumber, fedArea, feedOf, closedBy, endNumber, endedArea, digestOut, endOf, shown, levelOf}
 use Rattle.digits.specs.Digits.{hexDigits, speltWords}
 use Rattle.text.specs.Text.{textOf, speltHead, speltArea, writeNumber, writeOf, readable, readNumber, readOf}
 use Rattle.runs.specs.Runs.{feed, end, show, write, read, readInto, reopen, outcomeOf, roleOf, Run, Answered, answered, shareOf, joinedShares, shares, answersOf}
 use Rattle.runs.specs.RunTest.{lent, Numbered, callsOf, goesIf, goes-is}
+use Rattle.lists.specs.Below.{none as nil}
 
 -- ---- what is lent
 
@@ -60,8 +60,8 @@ piece2 = replicate 767 60
 -- each call with its number; a level shown has none and counts as accepted
 abbrev list : List Numbered
 list =
-    (feed piece1 17 [] (lent piece1 refl) (omega arith) nil, 5)
-    ∷ (feed piece1 13 (9 ∷ []) (lent piece1 refl) (omega arith) (lent (9 ∷ []) refl), 0)
+    (feed (pieceOf piece1 17) [] (lent piece1 refl) (omega arith) nil, 5)
+    ∷ (feed (pieceOf piece1 13) (9 ∷ []) (lent piece1 refl) (omega arith) (lent (9 ∷ []) refl), 0)
     ∷ (reopen (record { key = []; d = 0; limit = 0; rounds = 0 }) nil, 1)
     ∷ (write (replicate 1200 0) (lent (replicate 1200 0) refl), 9)
     ∷ (write (replicate 1210 0) (lent (replicate 1210 0) refl), 0)
@@ -69,10 +69,10 @@ list =
     ∷ (end [] [] nil nil, 9)
     ∷ (readInto used (10 ∷ suspendedText) (lent used refl) (lent (10 ∷ suspendedText) refl), 11)
     ∷ (readInto other suspendedText (lent other refl) (lent suspendedText refl), 0)
-    ∷ (feed piece2 6131 (9 ∷ 9 ∷ 9 ∷ []) (lent piece2 refl) (omega arith) (lent (9 ∷ 9 ∷ 9 ∷ []) refl), 0)
+    ∷ (feed (pieceOf piece2 6131) (9 ∷ 9 ∷ 9 ∷ []) (lent piece2 refl) (omega arith) (lent (9 ∷ 9 ∷ 9 ∷ []) refl), 0)
     ∷ (end (1 ∷ 2 ∷ []) (9 ∷ []) (lent (1 ∷ 2 ∷ []) refl) (lent (9 ∷ []) refl), 8)
     ∷ (end (1 ∷ 2 ∷ 3 ∷ []) (9 ∷ 9 ∷ 9 ∷ []) (lent (1 ∷ 2 ∷ 3 ∷ []) refl) (lent (9 ∷ 9 ∷ 9 ∷ []) refl), 0)
-    ∷ (feed piece1 13 [] (lent piece1 refl) (omega arith) nil, 10)
+    ∷ (feed (pieceOf piece1 13) [] (lent piece1 refl) (omega arith) nil, 10)
     ∷ (end (1 ∷ 2 ∷ 3 ∷ []) (9 ∷ 9 ∷ []) (lent (1 ∷ 2 ∷ 3 ∷ []) refl) (lent (9 ∷ 9 ∷ []) refl), 10)
     ∷ (write (replicate 174 0) (lent (replicate 174 0) refl), 0)
     ∷ (read endedText (lent endedText refl), 0)
@@ -101,7 +101,7 @@ unfolding workedRun
 worked-numbers = goes-is (openOf used params .area) none list works .1
 
 abbrev message : List Bool
-message = pieceBits piece1 13 ++ pieceBits piece2 6131
+message = pieceBits (pieceOf piece1 13) ++ pieceBits (pieceOf piece2 6131)
 
 -- U and V of two nodes, the second of them the root: 6,144 bits at L = 0
 abbrev log : List ℕ

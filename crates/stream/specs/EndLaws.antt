@@ -13,16 +13,23 @@ use Rattle.bits.specs.BitsLaws.{bitsOf-numbers}
 use Rattle.tree.specs.Tree.{Params, Node, node, output, lastOr, noNode, digestBytes, blockBits, sequentialBits, outputBits}
 use Rattle.tree.specs.TreeLaws.{length-output-node}
 use Rattle.tree.specs.Count.{treeNodes-bound}
-use Rattle.area.specs.Area.{areaWords, totalOf, compressionsOf, paramsOf, levelWords, levelsFrom, levelsOf, withLevels, emptyLevel, emptyLevels, doneBlocks, heldBits, areaLevels, headWords, levelsUp, Long}
-use Rattle.area.specs.Calls.{outWords, joinParallel, joinSequential, closeAbove, closing, closedBy, endedArea, digestOut}
-use Rattle.area.specs.CallLaws.{EndPassed}
-use Rattle.area.specs.Machine
-use Rattle.area.specs.Close
-use Rattle.area.specs.AreaLaws.{length-levelWords}
-use Rattle.area.specs.Widths.{length-joined}
+use Rattle.calls.specs.Area.{areaWords, totalOf, compressionsOf, paramsOf, levelWords, levelsFrom, levelsOf, withLevels, emptyLevel, emptyLevels, doneBlocks, heldBits, areaLevels, headWords, levelsUp, Long}
+use Rattle.calls.specs.Calls.{outWords, joinParallel, joinSequential, closeAbove, closing, closedBy, endedArea, digestOut, logged}
+use Rattle.calls.specs.CallLaws.{EndPassed}
+use Rattle.calls.specs.Machine
+use Rattle.calls.specs.Close
+use Rattle.calls.specs.AreaLaws.{length-levelWords}
+use Rattle.calls.specs.Widths.{length-joined}
 use Rattle.climb.specs.ReceiveLaws.{length-outWords}
 use Rattle.climb.specs.OpenArea.{OpenArea, size-read}
 use Rattle.stream.specs.NumberLaws.{count-left}
+
+-- a stream that ended: the area, the digest, the log, and how many nodes the end made
+pub record EndedStream (area out log area′ out′ log′ : List ℕ) (count : ℕ) : Type 0 where
+  pub left : area′ ≡ endedArea area (closedBy area)
+  pub digest : out′ ≡ digestOut area (closedBy area) out
+  pub written : log′ ≡ logged (closedBy area) log
+  pub made : count ≡ length (closedBy area)
 
 -- ---- the root's output has 1,024 bits, so that its words are these bits
 

@@ -7,8 +7,14 @@ use lib.Dec.{leb}
 use lib.ListN.{length}
 use borrow.Author.Tests.{lt-leb, le-leb, leb-true}
 use Rattle.lists.specs.And.{and-parts}
-use Rattle.area.specs.Area.{areaWords, levelWords, sound, areaLevels, Long}
-use Rattle.area.specs.Calls.{shown, levelOf}
+use Rattle.calls.specs.Area.{areaWords, levelWords, sound, areaLevels, Long}
+use Rattle.calls.specs.Calls.{shown, levelOf}
+
+-- a level of an area
+pub record There (area : List ℕ) (level : ℕ) : Type 0 where
+  pub long : Long area
+  pub low : 1 ≤ level
+  pub high : level ≤ areaLevels
 
 module _ (area : List ℕ) (level : ℕ) where
   pub shown-short : length area < areaWords → false ≡ shown area level
@@ -28,13 +34,13 @@ module _ (area : List ℕ) (level : ℕ) where
   shown-high h s l = rw (le-leb areaWords (length area) h, s, le-leb 1 level l)
 
   -- what is shown is there
-  pub shown-there : shown area level ≡ true → (Long area) × (1 ≤ level) × (level ≤ areaLevels)
+  pub shown-there : shown area level ≡ true → There area level
   unfolding shown
   shown-there e =
       let a = and-parts (leb areaWords (length area)) (sound area && (leb 1 level && leb level areaLevels)) e in
       let b = and-parts (sound area) (leb 1 level && leb level areaLevels) (a .1) in
       let c = and-parts (leb 1 level) (leb level areaLevels) (b .1) in
-      (leb-true areaWords (length area) (a .0), leb-true 1 level (c .0), leb-true level areaLevels (c .1))
+      record { long = leb-true areaWords (length area) (a .0); low = leb-true 1 level (c .0); high = leb-true level areaLevels (c .1) }
 
   pub level-hidden : shown area level ≡ false → [] ≡ levelOf area level
   unfolding levelOf

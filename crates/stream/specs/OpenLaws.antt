@@ -10,10 +10,10 @@ use Rattle.lists.specs.Part.{put}
 use Rattle.lists.specs.PartLaws.{next-part, first-stores}
 use Rattle.bits.specs.Bits.{filled}
 use Rattle.tree.specs.Tree.{Params, keyWords}
-use Rattle.tree.specs.Refusals.{firstRefusal, paramTests}
+use Rattle.refusals.specs.Refusals.{firstRefusal, paramTests}
 use Rattle.node.specs.DigestLaws.{key-filled}
-use Rattle.area.specs.Area.{emptyLevel, emptyLevels, areaWords, headWords, Long}
-use Rattle.area.specs.Calls.{openNumber, openedArea}
+use Rattle.calls.specs.Area.{emptyLevel, emptyLevels, areaWords, headWords, Long}
+use Rattle.calls.specs.Calls.{openNumber, openedArea}
 
 -- the area after the first six words were stored, the rest cleared, and K written
 pub open-written : (area key : List ℕ) (d limit rounds : ℕ) → Long area → length key ≤ 64

@@ -1,12 +1,13 @@
 // The end of a stream: a closing, which makes the last nodes and only reads the area, and then a wipe.
 ghost use mathlib.Core.Path.{_≡_};
-ghost use lib.ListN.{length, set};
-ghost use Rattle.area.specs.Area.{areaLevels, Long, withLevels, emptyLevels};
-ghost use Rattle.area.specs.Calls.{logged, closedBy, endedArea, digestOut, endOf};
-ghost use Rattle.area.specs.CallLaws.{EndPassed};
+ghost use lib.ListN.{set};
+ghost use Rattle.calls.specs.Area.{areaLevels, Long, withLevels, emptyLevels};
+ghost use Rattle.calls.specs.Calls.{endOf};
+ghost use Rattle.calls.specs.CallLaws.{EndPassed};
+ghost use Rattle.stream.specs.EndLaws.{EndedStream};
 use super::number;
-use node::Answer;
-use sound::Area;
+use area::Area;
+use refusals::Answer;
 
 // The second half: word 0 says that the stream has ended, word 14 counts all nodes of its tree, and the levels hold nothing.
 fn wipe(area: &mut [u64], nodes: u64)
@@ -21,10 +22,7 @@ fn wipe(area: &mut [u64], nodes: u64)
 // Makes the nodes that are left, writes the digest, and wipes the area; answers how many nodes were made.
 fn finish(area: &mut [u64], digest: &mut [u8], log: &mut [u64]) -> u64
     requires { ⌜ EndPassed (now area) (now digest) (now log) ⌝ }
-    ensures { λ _. ⌜ now (area .exit) ≡ endedArea (now (area .entry)) (closedBy (now (area .entry))) ⌝ }
-    ensures { λ _. ⌜ now (digest .exit) ≡ digestOut (now (area .entry)) (closedBy (now (area .entry))) (now (digest .entry)) ⌝ }
-    ensures { λ _. ⌜ now (log .exit) ≡ logged (closedBy (now (area .entry))) (now (log .entry)) ⌝ }
-    ensures { λ r. ⌜ r ≡ length (closedBy (now (area .entry))) ⌝ }
+    ensures { λ r. ⌜ EndedStream (now (area .entry)) (now (digest .entry)) (now (log .entry)) (now (area .exit)) (now (digest .exit)) (now (log .exit)) r ⌝ }
 {
     let nodes = number::nodes_left(area);
     let root = closing::closing(area, log);

@@ -1,14 +1,15 @@
 // A message that comes in pieces of any number of bits: an area of words that holds what is not compressed yet, and a log of
 // every node. Document 01, "The stream's area".
 ghost use mathlib.Core.Path.{_≡_};
-ghost use Prim.Native.Nat.{_≤_};
+ghost use mathlib.Core.Bool.{true};
+ghost use Prim.Native.Nat.{_≤_, _+_, _*_};
 ghost use lib.ListN.{length};
-ghost use Rattle.area.specs.Area.{Long};
-ghost use Rattle.area.specs.Calls.{openedArea, openOf, feedOf, shown, levelOf, logWordsOf};
-use node::Answer;
+ghost use Rattle.calls.specs.Area.{Long, levelStart};
+ghost use Rattle.calls.specs.Calls.{openedArea, openOf, feedOf, shown, levelOf, logWordsOf};
+use area::Area;
 use node::Block;
-use node::Params;
-use sound::Area;
+use refusals::Answer;
+use refusals::Params;
 
 mod number; // number.rt: the numbers that refuse a feed and an end
 mod close; // close.rt: the end of a stream
@@ -59,7 +60,7 @@ pub fn open(area: &mut [u64], key: &[u8], d: u64, limit: u64, rounds: u64) -> An
         return Answer::refused(7);
     }
     let params = Params::new(key.len() as u64, d, limit, rounds);
-    let number = node::number::params_number(params);
+    let number = refusals::params_number(params);
     if number != 0 {
         return Answer::refused(number);
     }
@@ -74,7 +75,7 @@ fn is_shown(area: &[u64], level: u64) -> bool
     if area.len() < Area::WORDS {
         return false;
     }
-    if !sound::is_sound(area) {
+    if !area::is_sound(area) {
         return false;
     }
     if level < 1 {
@@ -83,21 +84,21 @@ fn is_shown(area: &[u64], level: u64) -> bool
     level <= Params::LEVELS
 }
 
-// That level's part of the caller's area, or an empty part if the area is short or unsound or there is no such level.
+// That level's part of the caller's area, or an empty part if the area is short or unsound or there is no such level. A part
+// is told by what it holds, and by its address: the lent allocation, and a place in it in bytes, 8 a word.
 pub fn level(area: &[u64], level: u64) -> &[u64]
     ensures { λ r. ⌜ now r ≡ levelOf (now (area .entry)) level ⌝ }
+    ensures { λ r. ⌜ (r .ptr .0 ≡ area .entry .ptr .0) × (shown (now (area .entry)) level ≡ true → r .ptr .1 ≡ levelStart level * 8 + area .entry .ptr .1) ⌝ }
 {
     if !is_shown(area, level) {
         return &area[0..0];
     }
-    let a = Area::HEAD + Area::LEVEL * (level as usize - 1);
-    let e = a + Area::LEVEL;
-    &area[a..e]
+    Area::level(area, level as usize)
 }
 
 // Feeds the first bits of a piece of bytes, and logs U and V of each node that is made.
 pub fn feed(area: &mut [u64], piece: &[u8], bits: u64, log: &mut [u64]) -> Answer
-    ensures { λ o. ⌜ record { number = o .number; count = o .count; area = now (area .exit); log = now (log .exit) } ≡ feedOf (now (area .entry)) (now (piece .entry)) bits (now (log .entry)) ⌝ }
+    ensures { λ o. ⌜ record { number = o .number; count = o .count; area = now (area .exit); log = now (log .exit) } ≡ feedOf (now (area .entry)) (record { bytes = now (piece .entry); count = bits }) (now (log .entry)) ⌝ }
 {
     let number = number::feed_number(area, piece, bits, log);
     if number != 0 {

@@ -58,10 +58,10 @@ fn report(
     log: &[u64],
     log_before: &[u64],
 ) {
-    show::answer(number, count);
-    show::same(area, area_before, 0);
-    show::same(area, area_before, 1744);
-    show::same(log, log_before, node_words(count));
+    test_print::answer(number, count);
+    test_print::same(area, area_before, 0);
+    test_print::same(area, area_before, 1744);
+    test_print::same(log, log_before, node_words(count));
     io::write_all(STDOUT_FILENO, b"\n");
     print_nodes(log, node_words(count));
 }
@@ -112,7 +112,7 @@ fn end_log(area: &mut [u64], digest: &mut [u8], log: &mut [u64]) {
         &*log,
         &log_before,
     );
-    show::bytes(&*digest);
+    test_print::bytes(&*digest);
     io::write_all(STDOUT_FILENO, b"\n");
 }
 

@@ -8,7 +8,7 @@ use native.Mathlib.Omega.{arith}
 use borrow.Rule.Slice.PartMut.{putMid}
 use lib.ListN.{length, drop}
 use lib.Seq.{paste, take-all}
-use Rattle.area.specs.Area.{areaWords, sound}
+use Rattle.calls.specs.Area.{areaWords, sound}
 use Rattle.text.specs.Text.{textOf, speltArea, readable, Written, writeOf, Taken, readOf}
 use Rattle.text.specs.TextLaws.{length-speltArea}
 use Rattle.text.specs.ReadLaws.{read-accepted, write-accepted}

@@ -9,7 +9,7 @@ use lib.Dec.{eqb, ltb}
 use lib.Pow.{shr-shr}
 use lib.ListN.{getD, replicate}
 use Rattle.tree.specs.Tree.{blockBits, sequentialBits, outputBits}
-use Rattle.area.specs.Area.{phaseOf, totalOf, doneBlocks, heldBits, parallelHold, holdsAbove, openHolds, areaLevels}
+use Rattle.calls.specs.Area.{phaseOf, totalOf, doneBlocks, heldBits, parallelHold, holdsAbove, openHolds, areaLevels}
 use Rattle.text.specs.Text.{hasLine, heldLevels}
 use Rattle.text.specs.Lines.{hasLineAt}
 

@@ -7,23 +7,23 @@ use Prim.Native.Nat.{ℕ, zero, suc, _+_, _-_, _*_, _≤_, _<_}
 use native.Mathlib.Omega.{arith}
 use borrow.Rule.Slice.PartMut.{midOf, putMid, mid-len}
 use lib.ListN.{length, take, drop, getD, set, replicate, length-append, drop-of-length-le}
-use lib.Seq.{drop-cons, set-at, take-take, take-nil}
+use lib.Seq.{drop-cons, set-at, take-take}
 use Rattle.lists.specs.Append.{cons-eq}
 use Rattle.lists.specs.Part.{put}
 use Rattle.lists.specs.Take.{drop-take}
-use Rattle.area.specs.Area.{headWords, kOf, levelWords, Long, areaLevels}
+use Rattle.calls.specs.Area.{headWords, kOf, levelWords, Long, areaLevels}
 use Rattle.digits.specs.Digits.{hexDigits, wordDigits, spelt, speltWords, allSpelt, line}
 use Rattle.text.specs.Text.{line1Fields, fieldDigits, line1, line2, levelLine, digitsIn, line1Bytes, levelBytes, headBytes, withSpelt, speltFields, speltHead}
 use Rattle.text.specs.FieldLaws.{fieldWords, fieldSizes, length-fields, digits-some, field-more, digits-more}
 use Rattle.digits.specs.DigitLaws.{length-digits, length-wordDigits}
-use Rattle.area.specs.AreaLaws.{length-levelWords}
+use Rattle.calls.specs.AreaLaws.{length-levelWords}
 use Rattle.text.specs.LayoutLaws.{length-keyOf}
 use Rattle.text.specs.LengthLaws.{length-line1}
 use Rattle.text.specs.Lines.{values, levelSpelt, LevelSpelt}
 use Rattle.digits.specs.Loops.{lent-next, lent-digits}
 
 -- the last byte of a line is stored
-pub line-end : (P part : List ℕ) (n : ℕ) → length P ≡ n → length part ≡ suc n → set (P ++ drop n part) n 10 ≡ line P
+line-end : (P part : List ℕ) (n : ℕ) → length P ≡ n → length part ≡ suc n → set (P ++ drop n part) n 10 ≡ line P
 line-end P part n p h =
     rw (drop-cons part n 0 (omega arith), drop-of-length-le part {i = suc n} (omega arith)) (set-at P (getD part n 0) [] 10 n p)
 
@@ -88,10 +88,10 @@ words-front (suc n) text =
 
 -- the answer of a call that spells words, by cases
 module _ (r : Bool) (ys : List ℕ) (xs : List (Option ℕ)) (h : cond r (some ys) none ≡ allSpelt xs) where
-  pub told-yes : r ≡ true → allSpelt xs ≡ some ys
+  told-yes : r ≡ true → allSpelt xs ≡ some ys
   told-yes e = sym h ∙ ap (λ (b : Bool). cond b (some ys) none) e
 
-  pub told-no : r ≡ false → allSpelt xs ≡ none
+  told-no : r ≡ false → allSpelt xs ≡ none
   told-no e = sym h ∙ ap (λ (b : Bool). cond b (some ys) none) e
 
 pub level-spelt : (area line ys : List ℕ) (level : ℕ) (r : Bool) → Long area → level ≤ areaLevels

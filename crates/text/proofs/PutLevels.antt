@@ -7,10 +7,10 @@ use native.Mathlib.Omega.{arith}
 use borrow.Rule.Slice.PartMut.{midOf, putMid, mid-len}
 use lib.ListN.{length, take, drop, replicate, length-append, length-replicate}
 use lib.Seq.{drop-length, take-all, take-at}
-use Rattle.area.specs.Area.{areaWords, levelWords, Long, areaLevels}
+use Rattle.calls.specs.Area.{areaWords, levelWords, Long, areaLevels}
 use Rattle.text.specs.Text.{line1Fields, line1, line2, levelLine, textOf, levelBytes, headBytes}
 use Rattle.text.specs.LengthLaws.{length-levelLine, mostText, text-most}
-use Rattle.area.specs.AreaLaws.{length-levelWords}
+use Rattle.calls.specs.AreaLaws.{length-levelWords}
 use Rattle.text.specs.Lines.{hasLineAt, linesAbove, above-yes, above-no, length-yes, above-all, text-lines, length-head, length-text, above-most}
 use Rattle.lists.specs.PartLaws.{put-take, put-length}
 use Rattle.digits.specs.Loops.{lent-next}

@@ -8,7 +8,7 @@ use native.Mathlib.Omega.{arith}
 use borrow.Rule.Slice.PartMut.{putMid}
 use lib.ListN.{length, take, drop, replicate, length-append, length-drop, length-replicate}
 use lib.Seq.{take-all, take-at, drop-at}
-use Rattle.area.specs.Area.{headWords, areaWords, sound, areaLevels, blockWords}
+use Rattle.calls.specs.Area.{headWords, areaWords, sound, areaLevels, blockWords}
 use Rattle.digits.specs.Digits.{allSpelt}
 use Rattle.text.specs.Text.{line1Fields, heldOf, textOf, levelBytes, headBytes, speltHead, speltLevels, speltArea, same, textIs, readable}
 use Rattle.text.specs.LengthLaws.{lines, text-length}

@@ -11,7 +11,7 @@ use lib.Seq.{take-at, drop-at, drop-cons, drop-drop, take-add, take-all, take-ta
 use Rattle.lists.specs.Flatten.{map-append}
 use Rattle.lists.specs.Part.{put}
 use Rattle.lists.specs.PartLaws.{put-take, put-drop, put-length}
-use Rattle.area.specs.Area.{headWords, blockWords, areaWords, phaseOf, totalOf, emptyLevel, Long, areaLevels}
+use Rattle.calls.specs.Area.{headWords, blockWords, areaWords, phaseOf, totalOf, emptyLevel, Long, areaLevels}
 use Rattle.digits.specs.Digits.{speltWords, allSpelt}
 use Rattle.text.specs.Text.{heldOf, levelBytes, speltLevels}
 use Rattle.digits.specs.DigitLaws.{length-speltWords, all-known, known-all, all-part}

@@ -13,8 +13,8 @@ use Rattle.lists.specs.Below.{Below, none, more}
 use Rattle.lists.specs.BelowLaws.{below-at, below-all}
 use Rattle.lists.specs.Table.{every, at}
 use Rattle.lists.specs.Flatten.{flatten-append, map-append}
-use Rattle.area.specs.Area.{headWords}
-use Rattle.area.specs.Block.{below-set}
+use Rattle.calls.specs.Area.{headWords}
+use Rattle.calls.specs.Block.{below-set}
 use Rattle.digits.specs.Digits.{hexDigits, spelt}
 use Rattle.digits.specs.DigitLaws.{length-digits, digits-back, take-digits, drop-digits, spelt-lt}
 use Rattle.text.specs.Text.{Field, fieldOf, line1Fields, digitsOf, fieldDigits, digitsIn, withSpelt, speltFields}

@@ -13,11 +13,11 @@ use Rattle.lists.specs.BelowLaws.{below-zeros}
 use Rattle.bits.specs.Bits.{bitsOf}
 use Rattle.bits.specs.BitsLaws.{length-bitsOf, bitsOf-zeros, bitsOf-inj}
 use Rattle.tree.specs.Tree.{mostKeyBytes, mostDigestBits, mostLimit, mostRounds}
-use Rattle.area.specs.Area.{Hold, blockWords, phaseOf, totalOf, keyBytesOf, levelsOf, paramsOf, emptyLevel, holdsFor, allFalse, clean, cleanAll, sound, soundLevels, areaLevels}
-use Rattle.area.specs.AreaLaws.{allFalse-is}
+use Rattle.calls.specs.Area.{Hold, blockWords, phaseOf, totalOf, keyBytesOf, levelsOf, paramsOf, emptyLevel, holdsFor, allFalse, clean, cleanAll, sound, soundLevels, areaLevels}
+use Rattle.calls.specs.AreaLaws.{allFalse-is}
 use Rattle.lists.specs.And.{and-parts}
-use Rattle.area.specs.Rows.{AllLen}
-use Rattle.area.specs.Moved.{sound-tests, sound-valid, length-key, Words, cons}
+use Rattle.calls.specs.Rows.{AllLen}
+use Rattle.calls.specs.Moved.{sound-tests, sound-valid, length-key, Words, cons}
 use Rattle.text.specs.Text.{hasLine}
 
 -- ---- words 0 to 5 and word 15

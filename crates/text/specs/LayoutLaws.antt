@@ -7,8 +7,8 @@ use native.Mathlib.Omega.{arith}
 use lib.ListN.{length, take, drop, getD, length-drop}
 use lib.Seq.{take-add, drop-drop, drop-cons, take-take, length-take-le}
 use Rattle.lists.specs.Append.{cons-eq}
-use Rattle.area.specs.Area.{headWords, areaWords, kOf, sound, Long}
-use Rattle.area.specs.Moved.{Same, same-front, same-sound}
+use Rattle.calls.specs.Area.{headWords, areaWords, kOf, sound, Long}
+use Rattle.calls.specs.Moved.{Same, same-front, same-sound}
 use Rattle.text.specs.Text.{line1Fields, textOf}
 use Rattle.text.specs.FieldLaws.{words-head, fields-same}
 

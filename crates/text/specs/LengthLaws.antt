@@ -7,13 +7,13 @@ use native.Mathlib.Omega.{arith}
 use lib.Dec.{eqb}
 use lib.ListN.{length, getD, replicate, length-append, length-map, length-replicate}
 use Rattle.tree.specs.Tree.{blockBits, mostLevels}
-use Rattle.area.specs.Area.{Hold, headWords, blockWords, Long, phaseOf, totalOf, kOf, doneBlocks, parallelHold, holdsAbove, openHolds, holdsFor, levelWords, levelsFrom, levelsOf, areaLevels, areaWords}
+use Rattle.calls.specs.Area.{Hold, headWords, blockWords, Long, phaseOf, totalOf, kOf, doneBlocks, parallelHold, holdsAbove, openHolds, holdsFor, levelWords, levelsFrom, levelsOf, areaLevels, areaWords}
 use Rattle.digits.specs.Digits.{hexDigits, wordDigits}
 use Rattle.text.specs.Text.{Field, line1Fields, fieldDigits, line1, line2, levelLine, hasLine, heldLevels, heldOf, levelLines, textOf, line1Bytes, line2Bytes, levelBytes, headBytes}
 use Rattle.digits.specs.DigitLaws.{length-digits, length-wordDigits}
 use Rattle.text.specs.FieldLaws.{length-fields}
 use Rattle.text.specs.LayoutLaws.{length-keyOf}
-use Rattle.area.specs.AreaLaws.{length-levelWords}
+use Rattle.calls.specs.AreaLaws.{length-levelWords}
 
 pub length-line1 : (fs : List Field) (area : List ℕ) → length (line1 fs area) ≡ line1Bytes fs
 length-line1 fs area = rw (length-append (fieldDigits fs area) (10 ∷ []), length-fields fs area)
@@ -38,7 +38,7 @@ lines [] = 0
 lines (true ∷ hs) = suc (lines hs)
 lines (false ∷ hs) = lines hs
 
-pub lines-le : (hs : List Bool) → lines hs ≤ length hs
+lines-le : (hs : List Bool) → lines hs ≤ length hs
 lines-le [] = omega arith
 lines-le (true ∷ hs) = omega (arith, lines-le hs)
 lines-le (false ∷ hs) = omega (arith, lines-le hs)
@@ -83,8 +83,8 @@ pub text-length : (area : List ℕ) → areaWords ≤ length area → length (te
 unfolding textOf levelsOf
 text-length area h =
     rw (
-      length-append (line1 line1Fields area) (line2 area ++ levelLines 1 (heldOf area) (levelsFrom area 27 1)),
-      length-append (line2 area) (levelLines 1 (heldOf area) (levelsFrom area 27 1)),
+      length-append (line1 line1Fields area) (line2 area ++ levelLines 1 (heldOf area) (levelsFrom area areaLevels 1)),
+      length-append (line2 area) (levelLines 1 (heldOf area) (levelsFrom area areaLevels 1)),
       length-line1 line1Fields area,
       length-line2 area (omega arith),
       length-levelLines area (heldOf area) areaLevels 1 1 h (length-heldLevels (phaseOf area) (getD area 4 0) (totalOf area)) (omega arith),

@@ -9,10 +9,10 @@ use native.Mathlib.Omega.{arith}
 use lib.ListN.{length, drop, getD, replicate, length-append, drop-of-length-le}
 use lib.Seq.{drop-cons}
 use Rattle.lists.specs.Part.{put}
-use Rattle.area.specs.Area.{headWords, blockWords, Long, phaseOf, totalOf, levelWords, levelsFrom, levelsOf, areaLevels}
+use Rattle.calls.specs.Area.{headWords, blockWords, Long, phaseOf, totalOf, levelWords, levelsFrom, levelsOf, areaLevels}
 use Rattle.digits.specs.Digits.{speltWords, allSpelt}
 use Rattle.text.specs.Text.{line1Fields, line1, line2, levelLine, heldOf, levelLines, textOf, levelBytes, headBytes, speltArea, readable}
-use Rattle.area.specs.AreaLaws.{length-levelWords}
+use Rattle.calls.specs.AreaLaws.{length-levelWords}
 use Rattle.text.specs.LengthLaws.{length-line1, length-line2, length-levelLine, length-heldLevels, text-most}
 
 -- whether a level of an area has a line

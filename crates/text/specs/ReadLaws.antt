@@ -14,11 +14,11 @@ use lib.Seq.{take-at}
 use Rattle.lists.specs.Append.{cons-eq}
 use Rattle.lists.specs.Below.{Below}
 use Rattle.lists.specs.BelowLaws.{below-append, below-drop}
-use Rattle.tree.specs.Refusals.{outputTest}
-use Rattle.area.specs.Area.{areaWords, sound, Long}
+use Rattle.refusals.specs.Refusals.{outputTest}
+use Rattle.calls.specs.Area.{areaWords, sound, Long}
 use Rattle.lists.specs.And.{and-intro, and-parts}
-use Rattle.tree.specs.RefusalLaws.{passed, answer-number, answer-refused}
-use Rattle.area.specs.Calls.{shortTest, areaTests}
+use Rattle.refusals.specs.RefusalLaws.{passed, answer-number, answer-refused}
+use Rattle.calls.specs.Calls.{shortTest, areaTests}
 use Rattle.text.specs.Text.{textOf, speltArea, same, textIs, readable, Written, writeNumber, writeOf, Taken, readNumber, readOf}
 use Rattle.text.specs.LayoutLaws.{sound-front, text-front}
 use Rattle.text.specs.TextLaws.{spells-back, length-speltArea, speltArea-below}
@@ -26,7 +26,7 @@ use Rattle.text.specs.Terms.{SoundArea, WrittenBy}
 
 -- ---- tests
 
-pub same-refl : (xs : List ℕ) → same xs xs ≡ true
+same-refl : (xs : List ℕ) → same xs xs ≡ true
 same-refl [] = refl
 same-refl (x ∷ xs) = and-intro (eq-eqb x x refl) (same-refl xs)
 
@@ -71,7 +71,7 @@ pub record WritePassed (area out : List ℕ) : Type 0 where
   pub is-sound : sound area ≡ true
   pub room : length (textOf area) ≤ length out
 
-pub write-passed : (area out : List ℕ) → writeNumber area out ≡ 0 → WritePassed area out
+write-passed : (area out : List ℕ) → writeNumber area out ≡ 0 → WritePassed area out
 unfolding writeNumber
 write-passed area out e =
     let p = passed (areaTests area ++ (outputTest (length (textOf area)) out ∷ [])) refl e in
@@ -92,7 +92,7 @@ written-text area out e =
     (take-at (textOf area) (drop (length (textOf area)) out) (length (textOf area)) refl)
 
 -- a sound area's text is readable
-pub text-readable : (area : List ℕ) → SoundArea area → readable (textOf area) ≡ true
+text-readable : (area : List ℕ) → SoundArea area → readable (textOf area) ≡ true
 unfolding readable
 text-readable area s =
     rw (spells-back area s) (and-intro (sound-front area (s .long) ∙ s .is-sound)

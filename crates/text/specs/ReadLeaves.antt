@@ -1,13 +1,13 @@
 -- Laws: what a read leaves. "words from 1,744 on are never touched", of every area and text; an accepted read leaves a sound
--- area of the length that it had. The laws of open, feed and end: Tails and Leaves of `area`.
+-- area of the length that it had. The laws of open, feed and end: Tails and Leaves of `calls`.
 use mathlib.Core.Path.{_≡_, refl, sym, ap, _∙_}
 use mathlib.Core.List.{List, _++_}
 use Prim.Native.Nat.{ℕ, zero, suc}
 use native.Mathlib.Omega.{arith}
 use lib.ListN.{length, drop, length-append, length-drop}
 use lib.Seq.{take-at, drop-at}
-use Rattle.area.specs.Area.{areaWords, sound, Long}
-use Rattle.area.specs.Terms.{LeavesSound}
+use Rattle.calls.specs.Area.{areaWords, sound, Long}
+use Rattle.calls.specs.Terms.{LeavesSound}
 use Rattle.text.specs.Text.{readNumber, readOf}
 use Rattle.text.specs.LayoutLaws.{sound-front}
 use Rattle.text.specs.TextLaws.{length-speltArea}

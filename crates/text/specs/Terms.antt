@@ -4,7 +4,7 @@ use mathlib.Core.Bool.{true}
 use mathlib.Core.List.{List}
 use Prim.Native.Nat.{ℕ, _^_}
 use Rattle.lists.specs.Below.{Below}
-use Rattle.area.specs.Area.{Long, sound}
+use Rattle.calls.specs.Area.{Long, sound}
 use Rattle.text.specs.Text.{textOf}
 
 -- an area as a caller lends it, long enough and sound

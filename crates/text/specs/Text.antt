@@ -7,9 +7,9 @@ use lib.Dec.{eqb}
 use lib.ListN.{length, take, drop, getD, set, replicate}
 use Rattle.lists.specs.Part.{put}
 use Rattle.digits.specs.Digits.{hexDigits, line, wordDigits, spelt, speltWords, allSpelt}
-use Rattle.tree.specs.Refusals.{firstRefusal, answerOf, outputTest}
-use Rattle.area.specs.Area.{Hold, headWords, blockWords, areaWords, phaseOf, totalOf, kOf, levelsOf, emptyLevel, holdsFor, sound, areaLevels}
-use Rattle.area.specs.Calls.{shortTest, areaTests}
+use Rattle.refusals.specs.Refusals.{firstRefusal, answerOf, outputTest}
+use Rattle.calls.specs.Area.{Hold, headWords, blockWords, areaWords, phaseOf, totalOf, kOf, levelsOf, emptyLevel, holdsFor, sound, areaLevels}
+use Rattle.calls.specs.Calls.{shortTest, areaTests}
 
 -- ---- the text of an area
 

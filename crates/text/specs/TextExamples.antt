@@ -8,10 +8,11 @@ use Prim.Native.Char.{code}
 use Prim.Native.String as string
 use lib.ListN.{take, drop, replicate}
 use Rattle.bits.specs.Bits.{numbers}
+use Rattle.bits.specs.Piece.{pieceOf}
 use Rattle.compress.specs.Compress.{grown, compressed}
 use Rattle.tree.specs.Tree.{Params, keyWords, output}
-use Rattle.area.specs.Area.{areaWords, blockWords, paramsOf, levelsOf, withLevels, emptyLevel, emptyLevels, sound}
-use Rattle.area.specs.Calls.{withBit, outWords, receive, feedBit, feedBits, closeAbove, closing, openNumber, openedArea, openOf, fedBits, feedNumber, fedArea, feedOf, closedBy, endNumber, endedArea, digestOut, endOf}
+use Rattle.calls.specs.Area.{areaWords, blockWords, paramsOf, levelsOf, withLevels, emptyLevel, emptyLevels, sound}
+use Rattle.calls.specs.Calls.{withBit, outWords, receive, feedBit, feedBits, closeAbove, closing, openNumber, openedArea, openOf, fedBits, feedNumber, fedArea, feedOf, closedBy, endNumber, endedArea, digestOut, endOf}
 use Rattle.digits.specs.Digits.{hexDigits, speltWords}
 use Rattle.text.specs.Text.{textOf, speltHead, speltArea, readable, writeNumber, writeOf, readNumber, readOf}
 
@@ -54,7 +55,7 @@ opened-read = refl
 -- ---- areas that hold bits
 
 abbrev ones : ℕ → Params → List ℕ
-ones n P = feedOf (openOf used P .area) (replicate (n + 1) 255) n out .area
+ones n P = feedOf (openOf used P .area) (pieceOf (replicate (n + 1) 255) n) out .area
 
 -- line 2 of an area without a key
 abbrev noKey : List ℕ

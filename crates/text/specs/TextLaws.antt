@@ -7,21 +7,21 @@ use Prim.Native.Nat.{ℕ, suc, _+_, _*_, _^_, _≤_}
 use native.Mathlib.Omega.{arith}
 use lib.ListN.{length, take, drop, getD, replicate, length-append, length-map}
 use lib.Seq.{drop-at, drop-drop, getD-take}
-use Rattle.area.specs.Keeps.{levelsOf-words}
-use Rattle.area.specs.WriteLaws.{levelsOf-widths}
+use Rattle.calls.specs.Keeps.{levelsOf-words}
+use Rattle.calls.specs.WriteLaws.{levelsOf-widths}
 use Rattle.lists.specs.Below.{Below, none, more}
 use Rattle.lists.specs.BelowLaws.{below-append, below-zeros, below-at, below-take, below-drop}
 use Rattle.lists.specs.Part.{put}
 use Rattle.lists.specs.PartLaws.{put-length}
 use Rattle.lists.specs.Flatten.{map-append}
-use Rattle.area.specs.Area.{headWords, blockWords, areaWords, phaseOf, totalOf, kOf, levelsOf, emptyLevel, holdsFor, areaLevels}
-use Rattle.area.specs.Moved.{area-front}
+use Rattle.calls.specs.Area.{headWords, blockWords, areaWords, phaseOf, totalOf, kOf, levelsOf, emptyLevel, holdsFor, areaLevels}
+use Rattle.calls.specs.Moved.{area-front}
 use Rattle.digits.specs.Digits.{hexDigits, wordDigits, speltWords, allSpelt}
 use Rattle.text.specs.Text.{Field, line1Fields, fieldDigits, line1, line2, levelLine, heldLevels, heldOf, levelLines, textOf, line1Bytes, line2Bytes, levelBytes, headBytes, withSpelt, speltFields, speltHead, speltLevels, speltArea}
 use Rattle.digits.specs.DigitLaws.{drop-digits, length-speltWords, words-exact, all-known, known-all, known-front, Fits, no-word, one-more, fits-append, fits-below, speltWords-fits}
 use Rattle.text.specs.FieldLaws.{fieldSizes, sizes-word, FieldsFit, told, fields-back, spelt-parts, Spells, fields-spelt}
 use Rattle.text.specs.LayoutLaws.{head-words, length-keyOf}
-use Rattle.area.specs.AreaLaws.{length-levelsOf}
+use Rattle.calls.specs.AreaLaws.{length-levelsOf}
 use Rattle.text.specs.HeldLaws.{Ranges, ranges, Fit, none, line, bare, fit-levels}
 use Rattle.text.specs.LengthLaws.{length-line1, length-line2, length-levelLine, length-holdsFor, length-heldLevels}
 use Rattle.text.specs.Terms.{SoundArea}

@@ -2,14 +2,14 @@
 ghost use mathlib.Core.Path.{_≡_};
 ghost use Prim.Native.Nat.{_≤_};
 ghost use lib.ListN.{length};
-ghost use Rattle.area.specs.Area.{headWords, Long, areaLevels};
+ghost use Rattle.calls.specs.Area.{headWords, Long, areaLevels};
 ghost use Rattle.text.specs.Text.{textOf};
 ghost use Rattle.text.specs.Lines.{hasLineAt};
 use super::lines;
+use area::Area;
+use area::count;
 use node::Block;
-use node::Params;
-use sound::Area;
-use sound::count;
+use refusals::Params;
 
 // Whether a level holds bits or has a sequential output.
 pub fn has_line(area: &[u64], level: u64) -> bool

@@ -1,8 +1,8 @@
 // A suspended stream as text. Document 01, "Suspended text".
 ghost use mathlib.Core.Path.{_≡_};
 ghost use Rattle.text.specs.Text.{writeOf, readOf};
-use node::Answer;
-use sound::Area;
+use area::Area;
+use refusals::Answer;
 
 mod held; // held.rt: which levels have a line
 mod lines; // lines.rt: the lines of a text
@@ -16,7 +16,7 @@ pub fn write(area: &[u64], text: &mut [u8]) -> Answer
     if area.len() < Area::WORDS {
         return Answer::refused(7);
     }
-    if !sound::is_sound(area) {
+    if !area::is_sound(area) {
         return Answer::refused(7);
     }
     let bytes = held::text_bytes(area);

@@ -3,10 +3,10 @@ ghost use mathlib.Core.Path.{_≡_};
 ghost use mathlib.Core.List.{_++_};
 ghost use Prim.Native.Nat.{_≤_};
 ghost use lib.ListN.{length};
-ghost use Rattle.area.specs.Area.{headWords, levelWords, Long, areaLevels};
+ghost use Rattle.calls.specs.Area.{headWords, levelWords, Long, areaLevels};
 ghost use Rattle.text.specs.Text.{line1Fields, line1, line2, levelLine, line1Bytes, levelBytes, headBytes};
-use node::Params;
-use sound::Area;
+use area::Area;
+use refusals::Params;
 
 // The byte that ends a line.
 const END: u8 = 10;
@@ -14,7 +14,7 @@ const END: u8 = 10;
 // The fields of line 1 in their order: the area's word that each tells, and its digits.
 pub const FIELDS: usize = 7;
 
-pub const FIELD_WORD: [usize; 7] = [
+pub const FIELD_WORD: [usize; FIELDS] = [
     Area::PHASE,
     Area::ROUNDS,
     Area::LIMIT,
@@ -24,16 +24,19 @@ pub const FIELD_WORD: [usize; 7] = [
     Area::DONE,
 ];
 
-pub const FIELD_DIGITS: [usize; 7] = [2, 2, 2, 2, 4, 16, 16];
+pub const FIELD_DIGITS: [usize; FIELDS] = [2, 2, 2, 2, 4, 16, 16];
 
-// The digits of each line: of line 1, of line 2, of a level's number, and of that and the level's words.
+// The digits of each line: of line 1, those of its fields; of line 2, 128; of a level's number; and of that and the level's
+// words, 1,026.
 const LINE1_DIGITS: usize = 44;
 
-const LINE2_DIGITS: usize = 128;
+const WORD_DIGITS: usize = 16;
+
+const LINE2_DIGITS: usize = WORD_DIGITS * (Area::KEY_END - Area::KEY);
 
 pub const NUMBER_DIGITS: usize = 2;
 
-pub const LEVEL_DIGITS: usize = 1026;
+pub const LEVEL_DIGITS: usize = NUMBER_DIGITS + WORD_DIGITS * Area::LEVEL;
 
 // The bytes of line 1 with its end, of the first two lines without and with the end of the second, of a level's line, and of
 // the longest text.

@@ -1,12 +1,12 @@
 // An area's text into a part of its length.
 ghost use mathlib.Core.Path.{_≡_};
 ghost use lib.ListN.{length};
-ghost use Rattle.area.specs.Area.{Long};
+ghost use Rattle.calls.specs.Area.{Long};
 ghost use Rattle.text.specs.Text.{textOf};
 ghost use Rattle.text.specs.Lines.{linesAbove};
 use super::held;
 use super::lines;
-use node::Params;
+use refusals::Params;
 
 // The lines of the levels that have one.
 fn put_levels(part: &mut [u8], area: &[u64])

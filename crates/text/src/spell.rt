@@ -5,16 +5,16 @@ ghost use mathlib.Core.List.{_++_, map};
 ghost use mathlib.Core.Option.{none, some};
 ghost use Prim.Native.Nat.{_≤_};
 ghost use lib.ListN.{length, take, drop, replicate};
-ghost use Rattle.area.specs.Area.{headWords, areaWords, Long, areaLevels};
+ghost use Rattle.calls.specs.Area.{headWords, areaWords, Long, areaLevels};
 ghost use Rattle.digits.specs.Digits.{allSpelt};
 ghost use Rattle.text.specs.Text.{line1Fields, heldOf, textOf, levelBytes, headBytes, speltHead, speltLevels, speltArea, same, readable};
 ghost use Rattle.text.specs.Lines.{zeroLevels, linesAbove, LevelSpelt, Spelt};
 use super::held;
 use super::lines;
 use super::put;
+use area::Area;
 use digits::Reading;
-use node::Params;
-use sound::Area;
+use refusals::Params;
 
 // Words 0 to 15 from the first two lines, into words that are zero. Answers false at the first byte that is no digit.
 fn spell_head(head: &mut [u64], text: &[u8]) -> bool
@@ -126,7 +126,7 @@ pub fn is_readable(area: &mut [u64], text: &[u8]) -> bool
     if !spell_area(area, text) {
         return false;
     }
-    let fits = sound::is_sound(area);
+    let fits = area::is_sound(area);
     if !writes(area, text) {
         return false;
     }

@@ -40,8 +40,8 @@ fn print_name(name: &[u8]) {
 fn read(area: &mut [u64], text: &[u8], count: u64, expected: &[u64]) {
     let n = bytes_of(text, count);
     let answer = text::read(&mut *area, &text[..n]);
-    show::answer(answer.number, answer.count);
-    show::same(&*area, expected, 0);
+    test_print::answer(answer.number, answer.count);
+    test_print::same(&*area, expected, 0);
     io::write_all(STDOUT_FILENO, b"\n");
 }
 
@@ -57,7 +57,7 @@ fn suspend(name: &[u8], area: &[u64]) {
     let mut other = [JUNK; 1750];
     let answer = text::write(area, &mut text);
     print_name(name);
-    show::answer(answer.number, answer.count);
+    test_print::answer(answer.number, answer.count);
     io::write_all(STDOUT_FILENO, b" ");
     read(&mut other, &text, answer.count, area);
     print_text(&text, answer.count);
@@ -249,9 +249,9 @@ fn exact_area() {
 fn write(name: &[u8], area: &[u64], text: &mut [u8]) {
     let answer = text::write(area, &mut *text);
     print_name(name);
-    show::answer(answer.number, answer.count);
+    test_print::answer(answer.number, answer.count);
     io::write_all(STDOUT_FILENO, b" ");
-    show::bytes(&*text);
+    test_print::bytes(&*text);
     io::write_all(STDOUT_FILENO, b"\n");
 }
 

@@ -10,7 +10,7 @@ use lib.Dec.{eqb}
 use lib.ListN.{length, getD, replicate, length-map, length-replicate}
 use Rattle.bits.specs.Bits.{digit}
 use Rattle.tree.specs.Tree.{Params, Node, Mark, blockBits, sequentialBits, outputBits, mostLevels, blocks, levels, tree, order}
-use Rattle.tree.specs.Sizes.{levelNodes, nodesFrom, treeNodes}
+use Rattle.tree.specs.Sizes.{nodesFrom, treeNodes}
 use Rattle.tree.specs.Place.{levelAt}
 use Rattle.tree.specs.TreeLaws.{counts, levels-counts}
 use Rattle.tree.specs.Height.{Above, no-level, sequential-level, parallel-level, Levels, sequential-tree, parallel-tree, tree-levels, tree-enough}
@@ -30,7 +30,7 @@ total-perm f (List·Permᴰ·swap e q) = omega (arith, ap f e, ap f q)
 total-perm f (List·Permᴰ·trans p q) = total-perm f p ∙ total-perm f q
 
 -- whatever is counted of the nodes in their order is counted level by level
-pub order-total : (f : Mark → ℕ) (P : Params) (M : List Bool) → total f (order P M) ≡ total (λ (ns : List Node). total f (marked ns)) (tree P M)
+order-total : (f : Mark → ℕ) (P : Params) (M : List Bool) → total f (order P M) ≡ total (λ (ns : List Node). total f (marked ns)) (tree P M)
 unfolding flatten
 order-total f P M = total-perm f (order-levels P M) ∙ by-level (tree P M)
   where
@@ -39,7 +39,7 @@ order-total f P M = total-perm f (order-levels P M) ∙ by-level (tree P M)
     by-level (ns ∷ T) = total-append f (marked ns) (flatten (map marked T)) ∙ ap (λ (k : ℕ). total f (marked ns) + k) (by-level T)
 
 -- the order is as long as the levels together
-pub order-length : (P : Params) (M : List Bool) → length (order P M) ≡ total length (tree P M)
+order-length : (P : Params) (M : List Bool) → length (order P M) ≡ total length (tree P M)
 order-length P M = sym (ones (order P M)) ∙ order-total (λ (m : Mark). 1) P M ∙ all (tree P M)
   where
     ones : (ms : List Mark) → total (λ (m : Mark). 1) ms ≡ length ms
@@ -82,6 +82,12 @@ fourth c h = omega arith
 pub third : (c : ℕ) → 0 < c → blocks sequentialBits (outputBits * c) ≡ blocks 3 c
 third c h = omega arith
 
+-- the nodes of a parallel level, for a message of m bits: four outputs fill a block; levels count from 1
+unfoldable pub levelNodes : ℕ → ℕ → ℕ
+levelNodes m zero = 0
+levelNodes m (suc zero) = blocks blockBits m
+levelNodes m (suc (suc k)) = blocks 4 (levelNodes m (suc k))
+
 pub levelNodes-one : (m : ℕ) → levelNodes m 1 ≡ blocks blockBits m
 unfolding levelNodes
 levelNodes-one m = refl
@@ -95,7 +101,7 @@ levelNodes-some m zero = rw (levelNodes-one m) (omega arith)
 levelNodes-some m (suc k) = rw (levelNodes-suc m k) (omega arith)
 
 -- fewer than twice the nodes of the level itself, so that the count of any tree is a word
-pub nodesFrom-bound : (n c : ℕ) → 0 < c → nodesFrom n c < 2 * c
+nodesFrom-bound : (n c : ℕ) → 0 < c → nodesFrom n c < 2 * c
 nodesFrom-bound zero c h = go (eqb c 1) (eqb-false c 1)
   where
     go : (b : Bool) → (b ≡ false → c ≡ 1 → ⊥) → cond b c (c + blocks 3 c) < 2 * c
@@ -160,7 +166,7 @@ level-nodes P M level h g l = go (tree-levels P M) level h g l
 
 -- ---- the number of levels by a formula
 
-pub levels-tall : (P : Params) (n level : ℕ) (M : List Bool) → length (levels P n level M) ≡ treeHeight n (length M)
+levels-tall : (P : Params) (n level : ℕ) (M : List Bool) → length (levels P n level M) ≡ treeHeight n (length M)
 levels-tall P n level M = sym (length-map (levels P n level M) length) ∙ ap length (levels-counts P n level M) ∙ all n (length M)
   where
     if : (b : Bool) (c : ℕ) (above : List ℕ) (k : ℕ) → length above ≡ k → length (cond b (c ∷ []) (c ∷ above)) ≡ cond b 1 (suc k)

@@ -21,7 +21,7 @@ some M e = omega (arith, eqb-false (blocks blockBits (length M)) 1 e)
 
 module _ (P : Params) where
   -- a level over at most 4 ^ k blocks has at most k levels above it
-  pub levels-bound : (n k level : ℕ) (M : List Bool) → length M ≤ blockBits * 4 ^ k → length (levels P n level M) ≤ suc k
+  levels-bound : (n k level : ℕ) (M : List Bool) → length M ≤ blockBits * 4 ^ k → length (levels P n level M) ≤ suc k
   levels-bound zero k level M h = omega arith
   levels-bound (suc n) zero level M h = rw (levels-one P n level M (omega arith)) (omega arith)
   levels-bound (suc n) (suc k) level M h = go (eqb (blocks blockBits (length M)) 1) refl (levels-bound n k)
@@ -35,7 +35,7 @@ module _ (P : Params) where
           (omega (arith, up (suc level) (joinedOutputs P (parallel P level false M)) (quarter k (length M) _ h (length-joined-parallel P level false M))))
 
   -- so the number of levels that may be parallel says nothing once it is more than k
-  pub levels-enough : (n k level : ℕ) (M : List Bool) → length M ≤ blockBits * 4 ^ k → k < n → levels P n level M ≡ levels P (suc k) level M
+  levels-enough : (n k level : ℕ) (M : List Bool) → length M ≤ blockBits * 4 ^ k → k < n → levels P n level M ≡ levels P (suc k) level M
   levels-enough zero k level M h g = absurd (omega arith)
   levels-enough (suc n) zero level M h g = rw (levels-one P n level M (omega arith), levels-one P 0 level M (omega arith))
   levels-enough (suc n) (suc k) level M h g = go (eqb (blocks blockBits (length M)) 1) refl (levels-enough n k)
@@ -77,7 +77,7 @@ pub data Levels : ℕ → ℕ → List (List Node) → Type 0 where
   parallel-tree : {n m : ℕ} {ns : List Node} {above : List (List Node)} → length ns ≡ blocks blockBits m → Above n (length ns) above → Levels (suc n) m (ns ∷ above)
 
 module _ (P : Params) where
-  pub levels-above : (n level c : ℕ) (M : List Bool) → length M ≡ outputBits * c → 1 < c → Above n c (levels P n level M)
+  levels-above : (n level c : ℕ) (M : List Bool) → length M ≡ outputBits * c → 1 < c → Above n c (levels P n level M)
   levels-above zero level c M h g = sequential-level {c = c} {ns = sequential P level M} record { held = omega (arith, length-sequential P level M); needed = omega (arith, length-sequential P level M) }
   levels-above (suc n) level c M h g = go (eqb (blocks blockBits (length M)) 1) refl (levels-above n)
     where

@@ -9,8 +9,6 @@ pub mod OrderExamples
 pub mod OrderLaws
 pub mod Place
 pub mod Places
-pub mod RefusalLaws
-pub mod Refusals
 pub mod Shape
 pub mod Sizes
 pub mod Terms

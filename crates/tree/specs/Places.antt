@@ -90,7 +90,7 @@ module _ (P : Params) where
       rw s at (seq-stands level (padding 3072 (length M)) 0 noChain (blocks 3072 (length M)) (padded 3072 M) j a (omega arith) e)
 
   -- in the levels from one up, l levels above it
-  pub levels-stands : (n level : ℕ) (M : List Bool) (l i : ℕ) (a : Node) → nodeAt (levels P n level M) (suc l) i ≡ some a → AtPlace P (level + l) i a
+  levels-stands : (n level : ℕ) (M : List Bool) (l i : ℕ) (a : Node) → nodeAt (levels P n level M) (suc l) i ≡ some a → AtPlace P (level + l) i a
   levels-stands zero level M zero i a e =
       let s : level + 0 ≡ level = omega arith in
       rw s (sequential-stands level M i a e)
@@ -141,7 +141,7 @@ module _ (P : Params) where
       go false f = omega (arith, f (joinedOutputs P (parallel P level false M)))
 
   -- no level has more nodes than 3,072 bits a node need
-  pub levels-width : (n level : ℕ) (M : List Bool) (l : ℕ) → length (levelAt (levels P n level M) (suc l)) ≤ blocks 3072 (length M)
+  levels-width : (n level : ℕ) (M : List Bool) (l : ℕ) → length (levelAt (levels P n level M) (suc l)) ≤ blocks 3072 (length M)
   levels-width zero level M zero = omega (arith, length-sequential P level M)
   levels-width zero level M (suc l) = omega arith
   levels-width (suc n) level M l = go (eqb (blocks 4096 (length M)) 1) l (λ Y k. levels-width n (suc level) Y k)
@@ -154,11 +154,11 @@ module _ (P : Params) where
       go false (suc l) f = omega (arith, f (joinedOutputs P (parallel P level false M)) l, length-joined-parallel P level false M)
 
   -- a place of a tree is no higher than the levels that L allows; its index is below the nodes that 3,072 bits a node need
-  pub tree-level : (M : List Bool) (level index : ℕ) (a : Node) → nodeAt (tree P M) level index ≡ some a → (1 ≤ level) × (level ≤ suc (P .limit))
+  tree-level : (M : List Bool) (level index : ℕ) (a : Node) → nodeAt (tree P M) level index ≡ some a → (1 ≤ level) × (level ≤ suc (P .limit))
   tree-level M zero index a e = absurd (no-node a e)
   tree-level M (suc l) index a e = (omega arith, omega (arith, level-below (tree P M) l index a e, levels-height (P .limit) 1 M))
 
-  pub tree-index : (M : List Bool) (level index : ℕ) (a : Node) → nodeAt (tree P M) level index ≡ some a → index < blocks 3072 (length M)
+  tree-index : (M : List Bool) (level index : ℕ) (a : Node) → nodeAt (tree P M) level index ≡ some a → index < blocks 3072 (length M)
   tree-index M zero index a e = absurd (no-node a e)
   tree-index M (suc l) index a e = omega (arith, index-below (levelAt (tree P M) (suc l)) index a e, levels-width (P .limit) 1 M l)
 
@@ -178,7 +178,7 @@ module _ (P : Params) where
       (record {
         k = keyWords-below (P .key);
         u = nodeU-below level index (omega (arith, l .1, vp .limitHigh)) (omega (arith, tree-index M level index a e));
-        v = nodeV-below P (s .z) (s .p) vp (s .flag) (s .pads);
+        v = nodeV-below P (s .z) (s .p) vp (omega (arith, s .flag)) (omega (arith, s .pads));
         block = s .blockWords;
       })
 
@@ -216,7 +216,7 @@ pub root-place : (T : List (List Node)) (level index : ℕ) → RootAt T level i
 root-place T zero index h = absurd (omega arith)
 root-place T (suc l) index h = rw (← (last-level [] T l (h .0))) (last-node noNode (getD T l []) index (h .1))
 
-pub root-at-levels : (P : Params) (n level : ℕ) (M : List Bool) → RootAt (levels P n level M) (rootLevel (levels P n level M)) (rootIndex (levels P n level M))
+root-at-levels : (P : Params) (n level : ℕ) (M : List Bool) → RootAt (levels P n level M) (rootLevel (levels P n level M)) (rootIndex (levels P n level M))
 root-at-levels P n level M = (refl, go (levels P n level M) (levels-some P n level M) (λ l h. levels-filled P n level M l h))
   where
     go : (T : List (List Node)) → 0 < length T → ((l : ℕ) → l < length T → 0 < length (levelAt T (suc l))) → suc (rootIndex T) ≡ length (levelAt T (rootLevel T))

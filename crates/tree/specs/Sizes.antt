@@ -5,12 +5,6 @@ use Prim.Native.Nat.{ℕ, zero, suc, _+_}
 use lib.Dec.{eqb}
 use Rattle.tree.specs.Tree.{blockBits, sequentialBits, blocks}
 
--- the nodes of a parallel level, for a message of m bits: four outputs fill a block; levels count from 1
-unfoldable pub levelNodes : ℕ → ℕ → ℕ
-levelNodes m zero = 0
-levelNodes m (suc zero) = blocks blockBits m
-levelNodes m (suc (suc k)) = blocks 4 (levelNodes m (suc k))
-
 -- the nodes from a level of c nodes up; n of the levels above it may be parallel, and the one above those is sequential;
 -- "One node only: it is the root"
 abbrev pub nodesFrom : ℕ → ℕ → ℕ

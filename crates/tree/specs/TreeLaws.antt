@@ -11,11 +11,11 @@ use borrow.Author.Tests.{eqb-true, eqb-false, ne-eqb}
 use lib.Dec.{eqb, eqb→eq, eqb·suc-suc, lit<, T}
 use lib.ListN.{length, drop, replicate, getElem?, length-append, length-replicate}
 use lib.Seq.{drop-drop, take-all}
-use Rattle.lists.specs.Append.{append-split, cons-eq}
+use Rattle.lists.specs.Append.{cons-eq}
 use Rattle.lists.specs.Below.{Below, none, more}
-use Rattle.lists.specs.BelowLaws.{below-append, below-zeros}
-use Rattle.bits.specs.Bits.{digit, bitsOf}
-use Rattle.bits.specs.BitsLaws.{length-numbers, length-bitsOf, numbers-inj, bitsOf-inj, numbers-below, numbers-bitsOf}
+use Rattle.lists.specs.BelowLaws.{below-append}
+use Rattle.bits.specs.Bits.{digit, bitsOf, numbers}
+use Rattle.bits.specs.BitsLaws.{length-numbers, length-bitsOf, bitsOf-append, bitsOf-zeros, bitsOf-numbers, numbers-below, numbers-bitsOf}
 use Rattle.compress.specs.Compress.{Q, compressed, windowOf}
 use Rattle.compress.specs.CompressLaws.{length-compressed, compressed-below}
 use Rattle.tree.specs.Tree.{Params, Valid, Node, words, keyWords, nodeU, nodeV, node, output, blocks, padding, padded, par, seq, noChain, parallel, sequential, joinedOutputs, levels, rootOf}
@@ -30,28 +30,22 @@ pub keyWords-below : (key : List ℕ) → Below (2 ^ 64) (keyWords key)
 unfolding keyWords
 keyWords-below key = numbers-below 64 8 (bitsOf 8 (key ++ replicate (64 - length key) 0))
 
--- K and the number of key bytes determine the key
-pub keyWords-inj : (k l : List ℕ) → Below 256 k → Below 256 l → length k ≤ 64 → length k ≡ length l → keyWords k ≡ keyWords l → k ≡ l
+-- K is the key's bits, and zero bits after them
+pub key-bits : (key : List ℕ) → length key ≤ 64 → bitsOf 64 (keyWords key) ≡ bitsOf 8 key ++ replicate ((64 - length key) * 8) false
 unfolding keyWords
-keyWords-inj k l bk bl h e w =
-    let m : length l ≤ 64 = omega arith in
-    let a = size k h in
-    let b = size l m in
-    let t = numbers-inj 64 8 (bitsOf 8 (full k)) (bitsOf 8 (full l)) (omega arith) (omega arith) w in
-    let s : bitsOf 8 (full k) ≡ bitsOf 8 (full l) = cc (t, take-all 512 (bitsOf 8 (full k)) (omega arith), take-all 512 (bitsOf 8 (full l)) (omega arith)) in
-    append-split k l _ _ e (bitsOf-inj 8 (bytes bk) (bytes bl) (length-full k h ∙ sym (length-full l m)) s) .0
-  where
-    full : List ℕ → List ℕ
-    full x = x ++ replicate (64 - length x) 0
+key-bits key h =
+    let z : List ℕ = replicate (64 - length key) 0 in
+    let l : length (bitsOf 8 (key ++ z)) ≡ 512 = length-bitsOf 8 (key ++ z) ∙ rw (length-append key z, length-replicate {A = ℕ} (64 - length key) 0) (omega arith) in
+    bitsOf-numbers 64 8 (bitsOf 8 (key ++ z)) (omega arith) ∙ take-all 512 (bitsOf 8 (key ++ z)) (omega arith) ∙ bitsOf-append 8 key z
+    ∙ rw (bitsOf-zeros 8 (64 - length key)) refl
 
-    length-full : (x : List ℕ) → length x ≤ 64 → length (full x) ≡ 64
-    length-full x g = simp (length-append, length-replicate) (omega arith)
+-- the key's bytes are read back from K
+pub key-back : (key : List ℕ) → Below 256 key → length key ≤ 64 → numbers 8 (length key) (bitsOf 64 (keyWords key)) ≡ key
+key-back key b h = rw (key-bits key h) (numbers-bitsOf 8 (replicate ((64 - length key) * 8) false) b)
 
-    size : (x : List ℕ) → length x ≤ 64 → length (bitsOf 8 (full x)) ≡ 512
-    size x g = simp length-bitsOf (omega (arith, length-full x g))
-
-    bytes : {x : List ℕ} → Below 256 x → Below 256 (full x)
-    bytes {x} q = below-append q (below-zeros 256 (64 - length x) (omega arith))
+-- so K and the number of key bytes determine the key
+keyWords-inj : (k l : List ℕ) → Below 256 k → Below 256 l → length k ≤ 64 → length k ≡ length l → keyWords k ≡ keyWords l → k ≡ l
+keyWords-inj k l bk bl h e w = sym (key-back k bk h) ∙ rw (e, w) (key-back l bl (omega arith))
 
 -- ---- U and V
 
@@ -64,11 +58,11 @@ pub nodeU-below : (level index : ℕ) → level < 256 → index < 2 ^ 56 → nod
 nodeU-below level index h g = omega arith
 
 -- V determines the rounds, the height limit, z, p, the number of key bytes and the digest size
-pub nodeV-inj : (P Q : Params) (z p z′ p′ : ℕ) → Valid P → Valid Q → z ≤ 1 → z′ ≤ 1 → p ≤ 4096 → p′ ≤ 4096 → nodeV P z p ≡ nodeV Q z′ p′
+nodeV-inj : (P Q : Params) (z p z′ p′ : ℕ) → Valid P → Valid Q → z ≤ 1 → z′ ≤ 1 → p ≤ 4096 → p′ ≤ 4096 → nodeV P z p ≡ nodeV Q z′ p′
     → record { rounds : P .rounds ≡ Q .rounds; limit : P .limit ≡ Q .limit; z : z ≡ z′; p : p ≡ p′; key : length (P .key) ≡ length (Q .key); d : P .d ≡ Q .d }
 nodeV-inj P Q z p z′ p′ vp vq hz hz′ hp hp′ e = omega arith
 
-pub nodeV-below : (P : Params) (z p : ℕ) → Valid P → z ≤ 1 → p ≤ 4096 → nodeV P z p < 2 ^ 64
+pub nodeV-below : (P : Params) (z p : ℕ) → Valid P → z < 16 → p < 65536 → nodeV P z p < 2 ^ 64
 nodeV-below P z p vp hz hp = omega arith
 
 -- so a node's input determines the parameters: K and V stand in it
@@ -84,7 +78,7 @@ node-params P Q level index z p level′ index′ z′ p′ B B′ vp vq hz hz�
 pub length-window : (n : Node) → length (n .k) ≡ 8 → length (n .block) ≡ 64 → length (windowOf (n .k) (n .u) (n .v) (n .block)) ≡ 89
 length-window n hk hb = simp length-append (omega arith)
 
-pub length-output : (r : ℕ) (n : Node) → length (n .k) ≡ 8 → length (n .block) ≡ 64 → length (output r n) ≡ 1024
+length-output : (r : ℕ) (n : Node) → length (n .k) ≡ 8 → length (n .block) ≡ 64 → length (output r n) ≡ 1024
 unfolding output
 length-output r n hk hb =
     let N : List ℕ = windowOf (n .k) (n .u) (n .v) (n .block) in
@@ -103,7 +97,7 @@ Q-below =
     (more (lit< tt) (more (lit< tt) (more (lit< tt) (more (lit< tt) (more (lit< tt)
     (more (lit< tt) (more (lit< tt) (more (lit< tt) (more (lit< tt) (more (lit< tt) none))))))))))))))
 
-pub window-below : (n : Node) → Words n → Below (2 ^ 64) (windowOf (n .k) (n .u) (n .v) (n .block))
+window-below : (n : Node) → Words n → Below (2 ^ 64) (windowOf (n .k) (n .u) (n .v) (n .block))
 window-below n w = below-append Q-below (below-append (w .k) (more (w .u) (more (w .v) (w .block))))
 
 -- the words that the next level reads from an output are those that the compression gave
@@ -157,14 +151,14 @@ length-joined P (cons {a = a} {ns = ns} h hs) = length-append (output (P .rounds
 abbrev pub lastOnly : ℕ → ℕ → ℕ → ℕ
 lastOnly n j x = cond (eqb (suc j) n) x 0
 
-pub lastOnly-before : (n j x : ℕ) → suc j < n → lastOnly n j x ≡ 0
+lastOnly-before : (n j x : ℕ) → suc j < n → lastOnly n j x ≡ 0
 lastOnly-before n j x h = go (eqb (suc j) n) (eqb→eq (suc j) n)
   where
     go : (b : Bool) → (T b → suc j ≡ n) → cond b x 0 ≡ 0
     go true f = absurd (omega (arith, f tt))
     go false f = refl
 
-pub lastOnly-suc : (n j x : ℕ) → lastOnly (suc n) (suc j) x ≡ lastOnly n j x
+lastOnly-suc : (n j x : ℕ) → lastOnly (suc n) (suc j) x ≡ lastOnly n j x
 lastOnly-suc n j x = ap (λ (b : Bool). cond b x 0) (eqb·suc-suc (suc j) n)
 
 pub lastOnly-le : (n j x : ℕ) → lastOnly n j x ≤ x

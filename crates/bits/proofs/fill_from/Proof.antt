@@ -7,24 +7,6 @@ use Rattle.bits.specs.FilledLaws.{filled-then}
 use Rattle.bits.proofs.fill_from.Statement.{statement}
 use Rattle.bits.proofs.fill_from.Tie as tie
 
-fill-words-requires : tie.Need-fill-words-requires
-fill-words-requires c κs = search needs
-
-add-fill-part : tie.Need-add-fill-part
-add-fill-part c = search needs
-
-mul-fill-part : tie.Need-mul-fill-part
-mul-fill-part c = search needs
-
-add-fill-part-2 : tie.Need-add-fill-part-2
-add-fill-part-2 c = search needs
-
-fill-part-requires : tie.Need-fill-part-requires
-fill-part-requires c κs = search needs
-
-same-length : tie.Need-same-length
-same-length c = search needs
-
 returns : tie.Need-returns
 returns c =
     let a = c .before .before .before .before .before .before .before .before .before .before .args in
@@ -35,10 +17,5 @@ pub fill-from-spec : {M : Type 1} → statement M
 fill-from-spec =
     tie.close
     (tie.spec
-    fill-words-requires
-    add-fill-part
-    mul-fill-part
-    add-fill-part-2
-    fill-part-requires
-    same-length
-    returns)
+    (λ c κs. search needs) (λ c. search needs) (λ c. search needs) (λ c. search needs) (λ c κs. search needs)
+    (λ c. search needs) returns)

@@ -17,41 +17,11 @@ returns c =
     let below = words-below (now (s .args .block)) (c .before .before .slice-known .given) in
     rw (c .if1 .taken) (sym (filled-none (64 * s .args .word + s .args .offset) (now (s .args .bytes)) (8 * s .args .byte + s .args .bit) below))
 
-word-at-requires : tie.Need-word-at-requires
-word-at-requires c κs = search needs
-
-sub-v : tie.Need-sub-v
-sub-v c = search needs
-
-shr-v : tie.Need-shr-v
-shr-v c = search needs
-
-mul-put-bits : tie.Need-mul-put-bits
-mul-put-bits c = search needs
-
-slice-read-put-bits : tie.Need-slice-read-put-bits
-slice-read-put-bits c = search needs
-
-sub-put-bits : tie.Need-sub-put-bits
-sub-put-bits c = search needs
-
-sub-put-bits-2 : tie.Need-sub-put-bits-2
-sub-put-bits-2 c = search needs
-
 put-bits-requires : tie.Need-put-bits-requires
 put-bits-requires c κs =
     let n = c .before .before .before .before .before .args .count in
     let e : n + (64 - n) ≡ 64 = omega arith in
     (search needs, search needs, search needs, shr-lt n (64 - n) (rw e (omega arith)))
-
-mul-block : tie.Need-mul-block
-mul-block c = search needs
-
-slice-write-block : tie.Need-slice-write-block
-slice-write-block c = search needs
-
-same-length : tie.Need-same-length
-same-length c = search needs
 
 returns-2 : tie.Need-returns-2
 returns-2 c =
@@ -65,16 +35,6 @@ pub fill-part-spec : {M : Type 1} → statement M
 fill-part-spec =
     tie.close
     (tie.spec
-    returns
-    word-at-requires
-    sub-v
-    shr-v
-    mul-put-bits
-    slice-read-put-bits
-    sub-put-bits
-    sub-put-bits-2
-    put-bits-requires
-    mul-block
-    slice-write-block
-    same-length
-    returns-2)
+    returns (λ c κs. search needs) (λ c. search needs) (λ c. search needs) (λ c. search needs)
+    (λ c. search needs) (λ c. search needs) (λ c. search needs) put-bits-requires (λ c. search needs)
+    (λ c. search needs) (λ c. search needs) returns-2)

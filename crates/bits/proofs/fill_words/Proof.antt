@@ -24,31 +24,10 @@ loop-holds c =
     let below = words-below (now (s .args .block)) (c .before .slice-known .given) in
     (omega arith, sym (filled-none (64 * s .args .word) (now (s .args .bytes)) (8 * s .args .byte + s .args .bit) below))
 
-mul-whole-at : tie.Need-mul-whole-at Inv-loop μ-loop
-mul-whole-at c = search needs
-
-add-whole-at : tie.Need-add-whole-at Inv-loop μ-loop
-add-whole-at c = search needs
-
-whole-at-requires : tie.Need-whole-at-requires Inv-loop μ-loop
-whole-at-requires c κs = search needs
-
-add-block : tie.Need-add-block Inv-loop μ-loop
-add-block c = search needs
-
-mul-block : tie.Need-mul-block Inv-loop μ-loop
-mul-block c = search needs
-
 slice-write-block : tie.Need-slice-write-block Inv-loop μ-loop
 slice-write-block c =
     let s = c .before .before .before .before .before in
     omega (arith, ap length (c .before .before .loop .inv .1), length-filled (now (s .args .block)) (64 * s .args .word) (now (s .args .bytes)) (8 * s .args .byte + s .args .bit) (64 * c .before .before .loop .i))
-
-add-i : tie.Need-add-i Inv-loop μ-loop
-add-i c = search needs
-
-loop-less : tie.Need-loop-less Inv-loop μ-loop
-loop-less c = search needs
 
 loop-again : tie.Need-loop-again Inv-loop μ-loop
 loop-again c =
@@ -72,17 +51,6 @@ pub fill-words-spec : {M : Type 1} → statement M
 fill-words-spec =
     tie.close
     (tie.spec
-    Inv-loop
-    μ-loop
-    loop-holds
-    mul-whole-at
-    add-whole-at
-    whole-at-requires
-    add-block
-    mul-block
-    slice-write-block
-    add-i
-    loop-less
-    loop-again
-    same-length
-    returns)
+    Inv-loop μ-loop loop-holds (λ c. search needs) (λ c. search needs) (λ c κs. search needs)
+    (λ c. search needs) (λ c. search needs) slice-write-block (λ c. search needs) (λ c. search needs)
+    loop-again same-length returns)

@@ -6,22 +6,13 @@ use Rattle.bits.proofs.Shift.{shifted-in}
 use Rattle.bits.proofs.shifted.Statement.{statement}
 use Rattle.bits.proofs.shifted.Tie as tie
 
-shl-result : tie.Need-shl-result
-shl-result c = search needs
-
-wide-requires : tie.Need-wide-requires
-wide-requires c κs = search needs
-
-sub-result : tie.Need-sub-result
-sub-result c = search needs
-
-shr-result : tie.Need-shr-result
-shr-result c = search needs
-
 returns : tie.Need-returns
 returns c =
     let b = c .before .args .bit in
     rw (c .wide .ensures) (shifted-in 64 8 (c .before .args .word) (c .before .args .next) b (8 - b) (omega arith) (omega arith) (omega arith))
 
 pub shifted-spec : {M : Type 1} → statement M
-shifted-spec = tie.close (tie.spec shl-result wide-requires sub-result shr-result returns)
+shifted-spec =
+    tie.close
+    (tie.spec
+    (λ c. search needs) (λ c κs. search needs) (λ c. search needs) (λ c. search needs) returns)

@@ -10,24 +10,12 @@ use Rattle.bits.proofs.Reading.{eight-read, word-read}
 use Rattle.bits.proofs.whole_at.Statement.{statement}
 use Rattle.bits.proofs.whole_at.Tie as tie
 
-load-requires : tie.Need-load-requires
-load-requires c κs = search needs
-
 returns : tie.Need-returns
 returns c =
     let s = c .before .before in
     let j = s .before .args .byte in
     let below = bytes-below (now (s .before .args .bytes)) (s .shared-slice-known .given) in
     rw (c .if1 .taken, add-zero (8 * j)) (c .before .load .ensures ∙ eight-read j below (omega arith))
-
-add-shifted : tie.Need-add-shifted
-add-shifted c = search needs
-
-shared-slice-read-shifted : tie.Need-shared-slice-read-shifted
-shared-slice-read-shifted c = search needs
-
-shifted-requires : tie.Need-shifted-requires
-shifted-requires c κs = search needs
 
 returns-2 : tie.Need-returns-2
 returns-2 c =
@@ -39,9 +27,4 @@ pub whole-at-spec : {M : Type 1} → statement M
 whole-at-spec =
     tie.close
     (tie.spec
-    load-requires
-    returns
-    add-shifted
-    shared-slice-read-shifted
-    shifted-requires
-    returns-2)
+    (λ c κs. search needs) returns (λ c. search needs) (λ c. search needs) (λ c κs. search needs) returns-2)

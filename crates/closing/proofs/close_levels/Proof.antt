@@ -9,20 +9,11 @@ close-first-requires c κs =
     let start = c .before .before .before .before .before .before in
     (start .pre .ready, omega (arith, first-room (start .pre), start .fits))
 
-same-length : tie.Need-same-length
-same-length c = omega arith
-
 returns : tie.Need-returns
 returns c =
     let first = c .before .before in
     let test = first .before .before in
     first-sequential (test .before .before .before .before .before .pre) (test .if1 .taken) (first .close-first .ensures)
-
-done-blocks-requires : tie.Need-done-blocks-requires
-done-blocks-requires c κs = omega arith
-
-root-flag-requires : tie.Need-root-flag-requires
-root-flag-requires c κs = omega arith
 
 close-first-requires-2 : tie.Need-close-first-requires-2
 close-first-requires-2 c κs =
@@ -30,9 +21,6 @@ close-first-requires-2 c κs =
     let done = flag .before in
     let start = done .before .before .before .before .before .before in
     (start .pre .ready, omega (arith, first-room (start .pre), flag-most (done .done-blocks .result) (flag .root-flag .ensures), start .fits))
-
-same-length-2 : tie.Need-same-length-2
-same-length-2 c = omega arith
 
 returns-2 : tie.Need-returns-2
 returns-2 c =
@@ -54,9 +42,6 @@ close-above-requires c κs =
     let d = done .done-blocks .ensures in
     first-rising (start .pre) (test .if1 .left) d (flag .root-flag .ensures) (first .close-first2 .ensures) (test2 .if2 .left) (omega (arith, d, start .fits))
 
-same-length-3 : tie.Need-same-length-3
-same-length-3 c = omega arith
-
 returns-3 : tie.Need-returns-3
 returns-3 c =
     let above = c .before .before in
@@ -72,14 +57,5 @@ pub close-levels-spec : {M : Type 1} → statement M
 close-levels-spec =
     tie.close
     (tie.spec
-    close-first-requires
-    same-length
-    returns
-    done-blocks-requires
-    root-flag-requires
-    close-first-requires-2
-    same-length-2
-    returns-2
-    close-above-requires
-    same-length-3
-    returns-3)
+    close-first-requires (λ c. omega arith) returns (λ c κs. omega arith) (λ c κs. omega arith)
+    close-first-requires-2 (λ c. omega arith) returns-2 close-above-requires (λ c. omega arith) returns-3)

@@ -18,12 +18,6 @@ Inv-loop window table rounds a₀ at₀ k₀ a at k = (k ≤ rounds) × (length 
 abbrev μ-loop : tie.MeasureT-loop
 μ-loop window table rounds a₀ at₀ k₀ a at k = rounds - k
 
-slice-aggregate-copy : tie.Need-slice-aggregate-copy Inv-loop μ-loop
-slice-aggregate-copy c = search needs
-
-copy-requires : tie.Need-copy-requires Inv-loop μ-loop
-copy-requires c κs = search needs
-
 loop-holds : tie.Need-loop-holds Inv-loop μ-loop
 loop-holds c =
     let N = c .before .before .before .before .before .args .window .now in
@@ -35,33 +29,6 @@ loop-holds c =
       refl,
       ap (take 89) (c .before .copy .ensures ∙ ap (paste (replicate 345 0) 0 N) size) ∙ take-paste (replicate 345 0) 0 N 89 zero-le (omega arith) ∙ take-all 89 N (omega arith) ∙ rw grown-zero,
     )
-
-slice-aggregate-room : tie.Need-slice-aggregate-room Inv-loop μ-loop
-slice-aggregate-room c = search needs
-
-room-requires : tie.Need-room-requires Inv-loop μ-loop
-room-requires c κs = search needs
-
-slice-aggregate-round : tie.Need-slice-aggregate-round Inv-loop μ-loop
-slice-aggregate-round c = search needs
-
-mul-round : tie.Need-mul-round Inv-loop μ-loop
-mul-round c = search needs
-
-shared-slice-read-round : tie.Need-shared-slice-read-round Inv-loop μ-loop
-shared-slice-read-round c = search needs
-
-round-requires : tie.Need-round-requires Inv-loop μ-loop
-round-requires c κs = search needs
-
-add-at : tie.Need-add-at Inv-loop μ-loop
-add-at c = search needs
-
-add-k : tie.Need-add-k Inv-loop μ-loop
-add-k c = search needs
-
-loop-less : tie.Need-loop-less Inv-loop μ-loop
-loop-less c = search needs
 
 loop-again : tie.Need-loop-again Inv-loop μ-loop
 loop-again c =
@@ -77,30 +44,9 @@ loop-again c =
       search needs,
       search needs,
       omega arith,
-      ap (before (m .room .result + 16)) (c .before .round .ensures ∙ ap (λ (v : ℕ). putRound 16 (m .room .result) v (m .room .last .0)) s)
-          ∙ round-window N (m .room .last .0) (m .room .result) k size (omega arith) (omega arith) (m .room .ensures .3 ∙ z .loop .inv .5),
+      ap (before (m .next-place .result + 16)) (c .before .round .ensures ∙ ap (λ (v : ℕ). putRound 16 (m .next-place .result) v (m .next-place .last .0)) s)
+          ∙ round-window N (m .next-place .last .0) (m .next-place .result) k size (omega arith) (omega arith) (m .next-place .ensures .3 ∙ z .loop .inv .5),
     )
-
-sub-e : tie.Need-sub-e Inv-loop μ-loop
-sub-e c = search needs
-
-slice-aggregate-copy-2 : tie.Need-slice-aggregate-copy-2 Inv-loop μ-loop
-slice-aggregate-copy-2 c = search needs
-
-mul-copy : tie.Need-mul-copy Inv-loop μ-loop
-mul-copy c = search needs
-
-sub-copy : tie.Need-sub-copy Inv-loop μ-loop
-sub-copy c = search needs
-
-part-copy-start : tie.Need-part-copy-start Inv-loop μ-loop
-part-copy-start c = search needs
-
-part-copy-end : tie.Need-part-copy-end Inv-loop μ-loop
-part-copy-end c = search needs
-
-copy-requires-2 : tie.Need-copy-requires-2 Inv-loop μ-loop
-copy-requires-2 c κs = search needs
 
 returns : tie.Need-returns Inv-loop μ-loop
 returns c =
@@ -117,26 +63,8 @@ pub compress-spec : {M : Type 1} → statement M
 compress-spec =
     tie.close
     (tie.spec
-    Inv-loop
-    μ-loop
-    slice-aggregate-copy
-    copy-requires
-    loop-holds
-    slice-aggregate-room
-    room-requires
-    slice-aggregate-round
-    mul-round
-    shared-slice-read-round
-    round-requires
-    add-at
-    add-k
-    loop-less
-    loop-again
-    sub-e
-    slice-aggregate-copy-2
-    mul-copy
-    sub-copy
-    part-copy-start
-    part-copy-end
-    copy-requires-2
-    returns)
+    Inv-loop μ-loop (λ c. search needs) (λ c κs. search needs) loop-holds (λ c. search needs)
+    (λ c κs. search needs) (λ c. search needs) (λ c. search needs) (λ c. search needs) (λ c κs. search needs)
+    (λ c. search needs) (λ c. search needs) (λ c. search needs) loop-again (λ c. search needs)
+    (λ c. search needs) (λ c. search needs) (λ c. search needs) (λ c. search needs) (λ c. search needs)
+    (λ c κs. search needs) returns)

@@ -21,23 +21,8 @@ loop-holds : tie.Need-loop-holds Inv-loop μ-loop
 unfolding putRound
 loop-holds c = (search needs, refl, refl, refl)
 
-add-put : tie.Need-add-put Inv-loop μ-loop
-add-put c = search needs
-
-mul-put : tie.Need-mul-put Inv-loop μ-loop
-mul-put c = search needs
-
-array-read-put : tie.Need-array-read-put Inv-loop μ-loop
-array-read-put c = search needs
-
-mul-put-2 : tie.Need-mul-put-2 Inv-loop μ-loop
-mul-put-2 c = search needs
-
-array-read-put-2 : tie.Need-array-read-put-2 Inv-loop μ-loop
-array-read-put-2 c = search needs
-
-put-requires : tie.Need-put-requires Inv-loop μ-loop
-put-requires c κs =
+add-word-requires : tie.Need-add-word-requires Inv-loop μ-loop
+add-word-requires c κs =
     let start = c .before .before .before .before in
     let j = c .before .before .loop .j in
     let long : length (c .before .before .loop .a) ≡ length (start .args .a .now) =
@@ -46,18 +31,12 @@ put-requires c κs =
     let left : getD shiftsT j 0 < 64 = small-shift shiftsT tt j (omega arith) in
     (omega arith, omega arith, omega arith, omega arith)
 
-add-j : tie.Need-add-j Inv-loop μ-loop
-add-j c = search needs
-
-loop-less : tie.Need-loop-less Inv-loop μ-loop
-loop-less c = search needs
-
 loop-again : tie.Need-loop-again Inv-loop μ-loop
 unfolding putRound
 loop-again c =
     let z = c .before .before .before .before .before in (
       search needs,
-      c .before .before .put .ensures ∙ rw (add-one, z .loop .inv .1),
+      c .before .before .add-word .ensures ∙ rw (add-one, z .loop .inv .1),
       refl,
       refl,
     )
@@ -76,17 +55,5 @@ pub round-spec : {M : Type 1} → statement M
 round-spec =
     tie.close
     (tie.spec
-    Inv-loop
-    μ-loop
-    loop-holds
-    add-put
-    mul-put
-    array-read-put
-    mul-put-2
-    array-read-put-2
-    put-requires
-    add-j
-    loop-less
-    loop-again
-    same-length
-    returns)
+    Inv-loop μ-loop loop-holds (λ c. search needs) (λ c. search needs) (λ c. search needs) (λ c. search needs)
+    (λ c. search needs) add-word-requires (λ c. search needs) (λ c. search needs) loop-again same-length returns)

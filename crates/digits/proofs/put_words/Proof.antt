@@ -9,9 +9,6 @@ use borrow.Author.Needs.{needs}
 use native.Mathlib.Omega.{arith}
 use Rattle.digits.proofs.put_words.Statement.{statement}
 use Rattle.digits.proofs.put_words.Tie as tie
-use Rattle.digits.proofs.put_words.Reads as reads
-use Rattle.digits.proofs.put_words.Lts as lts
-use Rattle.digits.proofs.put_digits.Reads as put-digits-reads
 
 abbrev Inv-loop : tie.InvT-loop
 Inv-loop part₀ words i₀ part i = (i ≤ length words) × (part ≡ wordDigits (take i words) ++ drop (16 * i) part₀) × (length part ≡ length part₀)
@@ -23,36 +20,6 @@ loop-holds : tie.Need-loop-holds Inv-loop μ-loop
 unfolding mathlib.Core.List.flatten
 loop-holds c = (omega arith, refl, refl)
 
-mul-a : tie.Need-mul-a Inv-loop μ-loop
-mul-a c = search needs
-
-add-e : tie.Need-add-e Inv-loop μ-loop
-add-e c = search needs
-
-sub-put-digits : tie.Need-sub-put-digits Inv-loop μ-loop
-sub-put-digits c = search needs
-
-part-put-digits-start : tie.Need-part-put-digits-start Inv-loop μ-loop
-part-put-digits-start c = search needs
-
-part-put-digits-end : tie.Need-part-put-digits-end Inv-loop μ-loop
-part-put-digits-end c = search needs
-
-mul-put-digits : tie.Need-mul-put-digits Inv-loop μ-loop
-mul-put-digits c = search needs
-
-shared-slice-read-put-digits : tie.Need-shared-slice-read-put-digits Inv-loop μ-loop
-shared-slice-read-put-digits c = search needs
-
-put-digits-requires : tie.Need-put-digits-requires Inv-loop μ-loop
-put-digits-requires c κs = search needs
-
-add-i : tie.Need-add-i Inv-loop μ-loop
-add-i c = search needs
-
-loop-less : tie.Need-loop-less Inv-loop μ-loop
-loop-less c = search needs
-
 loop-again : tie.Need-loop-again Inv-loop μ-loop
 loop-again c =
     let z = c .before .before .before .before .before .before in
@@ -61,9 +28,6 @@ loop-again c =
     let i = z .loop .i in
     let e = words-step ws p (z .loop .part) (c .before .before .put-digits .last .0) i (omega arith) (omega arith) (z .loop .inv .1) (c .before .before .put-digits .ensures) in
     (omega arith, e, ap length e ∙ words-length ws p (i + 1) (omega arith) (omega arith))
-
-same-length : tie.Need-same-length Inv-loop μ-loop
-same-length c = search needs
 
 returns : tie.Need-returns Inv-loop μ-loop
 returns c =
@@ -76,19 +40,6 @@ pub put-words-spec : {M : Type 1} → statement M
 put-words-spec =
     tie.close
     (tie.spec
-    Inv-loop
-    μ-loop
-    loop-holds
-    mul-a
-    add-e
-    sub-put-digits
-    part-put-digits-start
-    part-put-digits-end
-    mul-put-digits
-    shared-slice-read-put-digits
-    put-digits-requires
-    add-i
-    loop-less
-    loop-again
-    same-length
-    returns)
+    Inv-loop μ-loop loop-holds (λ c. search needs) (λ c. search needs) (λ c. search needs) (λ c. search needs)
+    (λ c. search needs) (λ c. search needs) (λ c. search needs) (λ c κs. search needs) (λ c. search needs)
+    (λ c. search needs) loop-again (λ c. search needs) returns)

@@ -11,9 +11,6 @@ use borrow.Author.Needs.{needs}
 use native.Mathlib.Omega.{arith}
 use Rattle.digits.proofs.spell_words.Statement.{statement}
 use Rattle.digits.proofs.spell_words.Tie as tie
-use Rattle.digits.proofs.spell_words.Reads as reads
-use Rattle.digits.proofs.spell_words.Lts as lts
-use Rattle.digits.proofs.number.Reads as number-reads
 
 abbrev Inv-loop : tie.InvT-loop
 Inv-loop words₀ part i₀ words i = (i ≤ length words₀) × (take i (speltWords (length words₀) part) ≡ map some (take i words)) × (length words ≡ length words₀)
@@ -30,39 +27,6 @@ abbrev μ-loop : tie.MeasureT-loop
 loop-holds : tie.Need-loop-holds Inv-loop μ-loop
 loop-holds c = (omega arith, refl, refl)
 
-mul-a : tie.Need-mul-a Inv-loop μ-loop
-mul-a c = search needs
-
-add-e : tie.Need-add-e Inv-loop μ-loop
-add-e c = search needs
-
-sub-number : tie.Need-sub-number Inv-loop μ-loop
-sub-number c = search needs
-
-part-number-start : tie.Need-part-number-start Inv-loop μ-loop
-part-number-start c = search needs
-
-part-number-end : tie.Need-part-number-end Inv-loop μ-loop
-part-number-end c = search needs
-
-number-requires : tie.Need-number-requires Inv-loop μ-loop
-number-requires c κs = search needs
-
-enum-known-w : tie.Need-enum-known-w Inv-loop μ-loop
-enum-known-w c = search needs
-
-mul-words : tie.Need-mul-words Inv-loop μ-loop
-mul-words c = search needs
-
-slice-write-words : tie.Need-slice-write-words Inv-loop μ-loop
-slice-write-words c = search needs
-
-enum-told : tie.Need-enum-told Inv-loop μ-loop
-enum-told c = search needs
-
-same-length : tie.Need-same-length Inv-loop μ-loop
-same-length c = search needs
-
 returns : tie.Need-returns Inv-loop μ-loop
 returns c =
     let n = c .before .before in
@@ -72,12 +36,6 @@ returns c =
     let k = length (a .words .now) in
     sym (all-at (speltWords k t) (l .loop .i) (omega (arith, length-speltWords k t))
     (turn k (l .loop .i) t _ (omega arith) (n .number .ensures) ∙ ap readingNumber (c .enum-told .given .1)))
-
-add-i : tie.Need-add-i Inv-loop μ-loop
-add-i c = search needs
-
-loop-less : tie.Need-loop-less Inv-loop μ-loop
-loop-less c = search needs
 
 loop-again : tie.Need-loop-again Inv-loop μ-loop
 loop-again c =
@@ -92,9 +50,6 @@ loop-again c =
       simp length-set (l .loop .inv .2),
     )
 
-same-length-2 : tie.Need-same-length-2 Inv-loop μ-loop
-same-length-2 c = search needs
-
 returns-2 : tie.Need-returns-2 Inv-loop μ-loop
 returns-2 c =
     let l = c .before in
@@ -106,23 +61,7 @@ pub spell-words-spec : {M : Type 1} → statement M
 spell-words-spec =
     tie.close
     (tie.spec
-    Inv-loop
-    μ-loop
-    loop-holds
-    mul-a
-    add-e
-    sub-number
-    part-number-start
-    part-number-end
-    number-requires
-    enum-known-w
-    mul-words
-    slice-write-words
-    enum-told
-    same-length
-    returns
-    add-i
-    loop-less
-    loop-again
-    same-length-2
-    returns-2)
+    Inv-loop μ-loop loop-holds (λ c. search needs) (λ c. search needs) (λ c. search needs) (λ c. search needs)
+    (λ c. search needs) (λ c κs. search needs) (λ c. search needs) (λ c. search needs) (λ c. search needs)
+    (λ c. search needs) (λ c. search needs) returns (λ c. search needs) (λ c. search needs) loop-again
+    (λ c. search needs) returns-2)

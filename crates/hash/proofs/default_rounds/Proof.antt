@@ -1,28 +1,16 @@
 -- `hash::default_rounds` meets its contract.
-use Rattle.tree.specs.RefusalLaws.{answer-refused}
+use Rattle.refusals.specs.RefusalLaws.{answer-refused}
 use Rattle.hash.specs.Hash.{defaultRoundsOf}
 use mathlib.Core.Path.{sym, _∙_}
 use borrow.Author.Needs.{needs}
 use Rattle.hash.proofs.default_rounds.Statement.{statement}
 use Rattle.hash.proofs.default_rounds.Tie as tie
 
-size-number-requires : tie.Need-size-number-requires
-size-number-requires c κs = search needs
-
-refused-requires : tie.Need-refused-requires
-refused-requires c κs = search needs
-
 returns : tie.Need-returns
 unfolding defaultRoundsOf
 returns c =
     let size = c .before .before .size-number in
     rw (c .refused .ensures .0, c .refused .ensures .1) (answer-refused (size .result) _ _ (λ k. record { number = k; count = 0 }) (size .ensures) (c .before .if1 .taken))
-
-add-accepted : tie.Need-add-accepted
-add-accepted c = search needs
-
-accepted-requires : tie.Need-accepted-requires
-accepted-requires c κs = search needs
 
 returns-2 : tie.Need-returns-2
 unfolding defaultRoundsOf
@@ -32,9 +20,4 @@ pub default-rounds-spec : {M : Type 1} → statement M
 default-rounds-spec =
     tie.close
     (tie.spec
-    size-number-requires
-    refused-requires
-    returns
-    add-accepted
-    accepted-requires
-    returns-2)
+    (λ c κs. search needs) (λ c κs. search needs) returns (λ c. search needs) (λ c κs. search needs) returns-2)

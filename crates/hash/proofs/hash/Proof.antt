@@ -1,27 +1,17 @@
 -- `hash::hash` meets its contract: one equation for every input.
 use mathlib.Core.Path.{sym, ap, _∙_}
 use borrow.Author.Needs.{needs}
+use Rattle.bits.specs.Piece.{pieceOf}
 use Rattle.tree.specs.Sizes.{treeNodes}
-use Rattle.node.specs.declared.Params.{Params}
-use Rattle.nodes.specs.Ready.{withKey}
+use Rattle.refusals.specs.declared.Params.{Params}
 use Rattle.hash.specs.Hash.{hashOf}
 use Rattle.tree.specs.Tree.{digest}
-use Rattle.tree.specs.Tree as Tree
-use Rattle.hash.specs.HashLaws.{number-accepted, hash-refused, hash-accepted}
+use Rattle.hash.specs.HashLaws.{withKey, number-accepted, hash-refused, hash-accepted}
 use Rattle.hash.proofs.hash.Statement.{statement}
 use Rattle.hash.proofs.hash.Tie as tie
 
-new-requires : tie.Need-new-requires
-new-requires c κs = search needs
-
 hash-number-requires : tie.Need-hash-number-requires
-hash-number-requires c κs = ap (λ (p : Params). p .key) (c .before .new .ensures)
-
-refused-requires : tie.Need-refused-requires
-refused-requires c κs = search needs
-
-same-length : tie.Need-same-length
-same-length c = search needs
+hash-number-requires c κs = ap (λ (p : Params). p .keylen) (c .before .new .ensures)
 
 returns : tie.Need-returns
 returns c =
@@ -29,16 +19,16 @@ returns c =
     let new = number .before .before in
     let a = new .before .before .before .before .args in
     rw (c .refused .ensures .0, c .refused .ensures .1)
-    (hash-refused (a .message .now) (a .bits) (withKey (a .key .now) (new .new .result)) (a .digest .now) (number .hash-number .result) (number .hash-number .ensures) (c .before .if1 .taken)
-    ∙ ap (λ (p : Params). hashOf (a .message .now) (a .bits) (withKey (a .key .now) p) (a .digest .now)) (new .new .ensures))
+    (hash-refused (pieceOf (a .message .now) (a .bits)) (withKey (a .key .now) (new .new .result)) (a .digest .now) (number .hash-number .result) (number .hash-number .ensures) (c .before .if1 .taken)
+    ∙ ap (λ (p : Params). hashOf (pieceOf (a .message .now) (a .bits)) (withKey (a .key .now) p) (a .digest .now)) (new .new .ensures))
 
 put-digest-requires : tie.Need-put-digest-requires
 put-digest-requires c κs =
     let number = c .before .before in
     let new = number .before .before in
     let a = new .before .before .before .before .args in (
-      number-accepted (a .message .now) (a .bits) (withKey (a .key .now) (new .new .result)) (a .digest .now) (sym (number .hash-number .ensures) ∙ c .before .if1 .left),
-      ap (λ (p : Params). p .key) (new .new .ensures),
+      number-accepted (pieceOf (a .message .now) (a .bits)) (withKey (a .key .now) (new .new .result)) (a .digest .now) (sym (number .hash-number .ensures) ∙ c .before .if1 .left),
+      ap (λ (p : Params). p .keylen) (new .new .ensures),
     )
 
 tree-nodes-requires : tie.Need-tree-nodes-requires
@@ -48,13 +38,7 @@ tree-nodes-requires c κs =
     let new = number .before .before in
     let a = new .before .before .before .before .args in
     rw (ap (λ (p : Params). p .limit) (new .new .ensures)) at
-    (number-accepted (a .message .now) (a .bits) (withKey (a .key .now) (new .new .result)) (a .digest .now) (sym (number .hash-number .ensures) ∙ test .if1 .left) .ranges .limitHigh)
-
-accepted-requires : tie.Need-accepted-requires
-accepted-requires c κs = search needs
-
-same-length-2 : tie.Need-same-length-2
-same-length-2 c = search needs
+    (number-accepted (pieceOf (a .message .now) (a .bits)) (withKey (a .key .now) (new .new .result)) (a .digest .now) (sym (number .hash-number .ensures) ∙ test .if1 .left) .ranges .limitHigh)
 
 returns-2 : tie.Need-returns-2
 returns-2 c =
@@ -65,21 +49,13 @@ returns-2 c =
     let new = number .before .before in
     let a = new .before .before .before .before .args in
     rw (c .accepted .ensures .0, c .accepted .ensures .1)
-    (hash-accepted (a .message .now) (a .bits) (withKey (a .key .now) (new .new .result)) (a .digest .now) (nodes .tree-nodes .result) _ (sym (number .hash-number .ensures) ∙ test .if1 .left)
+    (hash-accepted (pieceOf (a .message .now) (a .bits)) (withKey (a .key .now) (new .new .result)) (a .digest .now) (nodes .tree-nodes .result) _ (sym (number .hash-number .ensures) ∙ test .if1 .left)
     (nodes .tree-nodes .ensures ∙ ap (λ (p : Params). treeNodes (p .limit) (a .bits)) (sym (new .new .ensures))) (put .put-digest .ensures)
-    ∙ ap (λ (p : Params). hashOf (a .message .now) (a .bits) (withKey (a .key .now) p) (a .digest .now)) (new .new .ensures))
+    ∙ ap (λ (p : Params). hashOf (pieceOf (a .message .now) (a .bits)) (withKey (a .key .now) p) (a .digest .now)) (new .new .ensures))
 
 pub hash-spec : {M : Type 1} → statement M
 hash-spec =
     tie.close
     (tie.spec
-    new-requires
-    hash-number-requires
-    refused-requires
-    same-length
-    returns
-    put-digest-requires
-    tree-nodes-requires
-    accepted-requires
-    same-length-2
-    returns-2)
+    (λ c κs. search needs) hash-number-requires (λ c κs. search needs) (λ c. search needs) returns
+    put-digest-requires tree-nodes-requires (λ c κs. search needs) (λ c. search needs) returns-2)

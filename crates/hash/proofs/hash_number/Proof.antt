@@ -5,21 +5,15 @@ use native.Mathlib.Omega.{arith}
 use borrow.Author.Needs.{needs}
 use borrow.Author.Tests.{lt-ltb, le-ltb}
 use Rattle.tree.specs.Tree.{digestBytes}
-use Rattle.tree.specs.Refusals.{rangeTests, outputTest}
-use Rattle.tree.specs.RefusalLaws.{first-part, passed, in-range}
+use Rattle.refusals.specs.Refusals.{rangeTests, outputTest}
+use Rattle.refusals.specs.RefusalLaws.{first-part, passed, in-range}
 use Rattle.hash.specs.Hash.{hashNumber}
 use Rattle.hash.proofs.hash_number.Statement.{statement}
 use Rattle.hash.proofs.hash_number.Tie as tie
 
-over-requires : tie.Need-over-requires
-over-requires c κs = search needs
-
 returns : tie.Need-returns
 unfolding hashNumber
-returns c = rw (sym (c .before .over .ensures) ∙ c .if1 .taken)
-
-params-number-requires : tie.Need-params-number-requires
-params-number-requires c κs = search needs
+returns c = rw (sym (c .before .bits-over .ensures) ∙ c .if1 .taken)
 
 returns-2 : tie.Need-returns-2
 unfolding hashNumber
@@ -29,14 +23,14 @@ returns-2 c =
     let start = test .before .before .before .before .before in
     let p = start .args .params in
     let e = params .params-number .ensures in
-    rw (sym (test .before .over .ensures) ∙ test .if1 .left, ← start .pre)
-    (e ∙ first-part (rangeTests (p .key) (p .d) (p .limit) (p .rounds)) (outputTest (digestBytes (p .d)) (start .args .digest .now) ∷ []) (λ z. c .if2 .taken (e ∙ z)))
+    rw (sym (test .before .bits-over .ensures) ∙ test .if1 .left, ← start .pre)
+    (e ∙ first-part (rangeTests (p .keylen) (p .d) (p .limit) (p .rounds)) (outputTest (digestBytes (p .d)) (start .args .digest .now) ∷ []) (λ z. c .if2 .taken (e ∙ z)))
 
 add-if3 : tie.Need-add-if3
 add-if3 c =
     let params = c .before .before in
     let p = params .before .before .before .before .before .before .args .params in
-    record { fits = omega (arith, in-range (p .key) (p .d) (p .limit) (p .rounds) (sym (params .params-number .ensures) ∙ c .before .if2 .left) .dHigh) }
+    record { fits = omega (arith, in-range (p .keylen) (p .d) (p .limit) (p .rounds) (sym (params .params-number .ensures) ∙ c .before .if2 .left) .dHigh) }
 
 returns-3 : tie.Need-returns-3
 unfolding hashNumber
@@ -45,8 +39,8 @@ returns-3 c =
     let test = params .before in
     let start = test .before .before .before .before .before in
     let p = start .args .params in
-    let q = passed (rangeTests (p .key) (p .d) (p .limit) (p .rounds)) refl (sym (params .params-number .ensures) ∙ c .before .before .if2 .left) in
-    rw (sym (test .before .over .ensures) ∙ test .if1 .left, ← start .pre, q 0, q 1, q 2, q 3, q 4, lt-ltb _ _ (c .if3 .taken))
+    let q = passed (rangeTests (p .keylen) (p .d) (p .limit) (p .rounds)) refl (sym (params .params-number .ensures) ∙ c .before .before .if2 .left) in
+    rw (sym (test .before .bits-over .ensures) ∙ test .if1 .left, ← start .pre, q 0, q 1, q 2, q 3, q 4, lt-ltb _ _ (c .if3 .taken))
 
 returns-4 : tie.Need-returns-4
 unfolding hashNumber
@@ -55,10 +49,11 @@ returns-4 c =
     let test = params .before in
     let start = test .before .before .before .before .before in
     let p = start .args .params in
-    let q = passed (rangeTests (p .key) (p .d) (p .limit) (p .rounds)) refl (sym (params .params-number .ensures) ∙ c .before .before .if2 .left) in
-    rw (sym (test .before .over .ensures) ∙ test .if1 .left, ← start .pre, q 0, q 1, q 2, q 3, q 4, le-ltb _ _ (c .if3 .left))
+    let q = passed (rangeTests (p .keylen) (p .d) (p .limit) (p .rounds)) refl (sym (params .params-number .ensures) ∙ c .before .before .if2 .left) in
+    rw (sym (test .before .bits-over .ensures) ∙ test .if1 .left, ← start .pre, q 0, q 1, q 2, q 3, q 4, le-ltb _ _ (c .if3 .left))
 
 pub hash-number-spec : {M : Type 1} → statement M
 hash-number-spec =
     tie.close
-    (tie.spec over-requires returns params-number-requires returns-2 add-if3 returns-3 returns-4)
+    (tie.spec
+    (λ c κs. search needs) returns (λ c κs. search needs) returns-2 add-if3 returns-3 returns-4)

@@ -5,20 +5,11 @@ use borrow.Author.Needs.{needs}
 use Rattle.line.proofs.key_reading.Statement.{statement}
 use Rattle.line.proofs.key_reading.Tie as tie
 
-enum-known-pairs : tie.Need-enum-known-pairs
-enum-known-pairs c = search needs
-
-enum-known-pairs-2 : tie.Need-enum-known-pairs-2
-enum-known-pairs-2 c = search needs
-
 returns : tie.Need-returns
 returns c = rw (c .before .before .pairs2 .given .1, ne-eqb _ 0 (c .if3 .taken))
 
 returns-2 : tie.Need-returns-2
 returns-2 c = rw (c .before .before .before .pairs2 .given .1, eq-eqb _ 0 (c .before .if3 .left), ne-eqb _ 45 (c .if4 .taken))
-
-enum-told : tie.Need-enum-told
-enum-told c = search needs
 
 returns-3 : tie.Need-returns-3
 returns-3 c = rw (c .before .before .pairs .given .1, eq-eqb _ 0 (c .if1 .taken))
@@ -39,13 +30,5 @@ pub key-reading-spec : {M : Type 1} → statement M
 key-reading-spec =
     tie.close
     (tie.spec
-    enum-known-pairs
-    enum-known-pairs-2
-    returns
-    returns-2
-    enum-told
-    returns-3
-    returns-4
-    returns-5
-    returns-6
-    returns-7)
+    (λ c. search needs) (λ c. search needs) returns returns-2 (λ c. search needs) returns-3 returns-4
+    returns-5 returns-6 returns-7)

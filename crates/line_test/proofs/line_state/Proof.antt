@@ -17,23 +17,8 @@ Inv-loop line s₀ i₀ s i = (i ≤ length line) × (s ≡ foldOf start (take i
 abbrev μ-loop : tie.MeasureT-loop
 μ-loop line s₀ i₀ s i = length line - i
 
-new-requires : tie.Need-new-requires Inv-loop μ-loop
-new-requires c κs = search needs
-
 loop-holds : tie.Need-loop-holds Inv-loop μ-loop
 loop-holds c = (omega arith, c .new .ensures)
-
-shared-slice-read-step : tie.Need-shared-slice-read-step Inv-loop μ-loop
-shared-slice-read-step c = search needs
-
-step-requires : tie.Need-step-requires Inv-loop μ-loop
-step-requires c κs = search needs
-
-add-i : tie.Need-add-i Inv-loop μ-loop
-add-i c = search needs
-
-loop-less : tie.Need-loop-less Inv-loop μ-loop
-loop-less c = search needs
 
 loop-again : tie.Need-loop-again Inv-loop μ-loop
 loop-again c =
@@ -54,13 +39,5 @@ pub line-state-spec : {M : Type 1} → statement M
 line-state-spec =
     tie.close
     (tie.spec
-    Inv-loop
-    μ-loop
-    new-requires
-    loop-holds
-    shared-slice-read-step
-    step-requires
-    add-i
-    loop-less
-    loop-again
-    returns)
+    Inv-loop μ-loop (λ c κs. search needs) loop-holds (λ c. search needs) (λ c κs. search needs)
+    (λ c. search needs) (λ c. search needs) loop-again returns)

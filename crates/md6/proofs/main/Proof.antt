@@ -1,85 +1,45 @@
--- `md6::main` meets what its calls ask: a stream that is opened has a digest of at most 512 bits, and what was read behind the
--- first line lies within the buffer.
-use mathlib.Core.Path.{ap}
+-- `md6::main` is safe and ends: the text keeps its length, and what is written lies within it. The measure is the number of turns that are left.
+use mathlib.Core.Path.{_≡_, sym, _∙_}
+use lib.ListN.{length}
 use native.Mathlib.Omega.{arith}
 use borrow.Author.Needs.{needs}
-use Rattle.md6.specs.Opening.{openedBits}
+use Rattle.program.specs.FitLaws.{take-length, last-length, took-within, last-within}
 use Rattle.md6.proofs.main.Statement.{statement}
 use Rattle.md6.proofs.main.Tie as tie
 
-large-buffer-requires : tie.Need-large-buffer-requires
-large-buffer-requires c κs = search needs
+abbrev Inv-loop : tie.InvT-loop
+Inv-loop buf₀ area₀ out₀ program₀ turns₀ buf area out program turns = (length buf ≡ 65536) × (length out ≡ 9751)
 
-slice-aggregate-read-line : tie.Need-slice-aggregate-read-line
-slice-aggregate-read-line c = search needs
+abbrev μ-loop : tie.MeasureT-loop
+μ-loop buf₀ area₀ out₀ program₀ turns₀ buf area out program turns = turns
 
-read-line-requires : tie.Need-read-line-requires
-read-line-requires c κs = search needs
+slice-aggregate-write-first : tie.Need-slice-aggregate-write-first Inv-loop μ-loop
+slice-aggregate-write-first c =
+    let l = c .before .before .before .before .before .before .before .before .before .before .loop in
+    sym (last-length (l .program) (l .area) (l .out) (c .before .finish .ensures) (omega arith) ∙ l .inv .1)
 
-open-stream-requires : tie.Need-open-stream-requires
-open-stream-requires c κs = search needs
+write-first-requires : tie.Need-write-first-requires Inv-loop μ-loop
+write-first-requires c κs = last-within _ _ (c .before .finish .ensures)
 
-enum-told : tie.Need-enum-told
-enum-told c = search needs
+write-first-requires-2 : tie.Need-write-first-requires-2 Inv-loop μ-loop
+write-first-requires-2 c κs = took-within _ _ (c .before .take .ensures)
 
-enum-told-2 : tie.Need-enum-told-2
-enum-told-2 c = search needs
+slice-aggregate-write-first-2 : tie.Need-slice-aggregate-write-first-2 Inv-loop μ-loop
+slice-aggregate-write-first-2 c =
+    let l = c .before .before .before .before .before .before .before .before .before .before .before .before .before .loop in
+    sym (take-length (l .program) (l .area) _ (l .out) (c .before .take .ensures) (omega arith) ∙ l .inv .1)
 
-slice-aggregate-write-all : tie.Need-slice-aggregate-write-all
-slice-aggregate-write-all c = search needs
-
-write-all-requires : tie.Need-write-all-requires
-write-all-requires c κs = search needs
-
-enum-known-number : tie.Need-enum-known-number
-enum-known-number c = search needs
-
-print-refusal-requires : tie.Need-print-refusal-requires
-print-refusal-requires c κs = search needs
-
-enum-known-d : tie.Need-enum-known-d
-enum-known-d c = search needs
-
-slice-aggregate-hash-input : tie.Need-slice-aggregate-hash-input
-slice-aggregate-hash-input c = search needs
-
-hash-input-requires : tie.Need-hash-input-requires
-hash-input-requires c κs =
-    let v = c .before .before .before in
-    let b = ap openedBits (v .d .given .1) in
-    let h = v .before .before .open-stream .ensures in
-    (omega arith, search needs, search needs, search needs)
-
-returns : tie.Need-returns
-returns c = search needs
-
-returns-2 : tie.Need-returns-2
-returns-2 c = search needs
-
-returns-3 : tie.Need-returns-3
-returns-3 c = search needs
-
-returns-4 : tie.Need-returns-4
-returns-4 c = search needs
+loop-again : tie.Need-loop-again Inv-loop μ-loop
+loop-again c =
+    let l = c .before .before .before .before .before .before .before .before .before .before .before .before .before .before .before .before .before .loop in
+    (search needs, take-length (l .program) (l .area) _ (l .out) (c .before .before .before .before .before .take .ensures) (omega arith) ∙ l .inv .1)
 
 pub main-spec : {M : Type 1} → statement M
 main-spec =
     tie.close
     (tie.spec
-    large-buffer-requires
-    slice-aggregate-read-line
-    read-line-requires
-    open-stream-requires
-    enum-told
-    enum-told-2
-    slice-aggregate-write-all
-    write-all-requires
-    enum-known-number
-    print-refusal-requires
-    enum-known-d
-    slice-aggregate-hash-input
-    hash-input-requires
-    returns
-    returns-2
-    returns-3
-    returns-4)
+    Inv-loop μ-loop (λ c κs. search needs) (λ c κs. search needs) (λ c. search needs) (λ c. search needs)
+    (λ c κs. search needs) (λ c. search needs) (λ c κs. search needs) slice-aggregate-write-first
+    write-first-requires (λ c. search needs) (λ c. search needs) (λ c κs. search needs) (λ c κs. search needs)
+    slice-aggregate-write-first-2 write-first-requires-2 (λ c. search needs) (λ c. search needs)
+    (λ c. search needs) (λ c. search needs) (λ c. search needs) loop-again (λ c. search needs))

@@ -7,9 +7,6 @@ use borrow.Author.Needs.{needs}
 use Rattle.nodes.proofs.last_flag.Statement.{statement}
 use Rattle.nodes.proofs.last_flag.Tie as tie
 
-add-if1 : tie.Need-add-if1
-add-if1 c = search needs
-
 returns : tie.Need-returns
 returns c = let e : suc (c .before .args .index) ≡ c .before .args .nodes = omega arith in (rw (eq-eqb (suc (c .before .args .index)) (c .before .args .nodes) e) refl, omega arith)
 
@@ -17,4 +14,5 @@ returns-2 : tie.Need-returns-2
 returns-2 c = (rw (ne-eqb (suc (c .before .args .index)) (c .before .args .nodes) (λ e. c .if1 .left (omega arith))) refl, omega arith)
 
 pub last-flag-spec : {M : Type 1} → statement M
-last-flag-spec = tie.close (tie.spec add-if1 returns returns-2)
+last-flag-spec =
+    tie.close (tie.spec (λ c. search needs) returns returns-2)

@@ -12,9 +12,6 @@ taken-requires c κs = let s = c .before in message-index (s .args .bits) (s .ar
 mul-byte : tie.Need-mul-byte
 mul-byte c = let s = c .before .before in record { fits = omega (arith, message-index (s .args .bits) (s .args .index) (s .pre .1), s .fits .bits .fits) }
 
-slice-aggregate-fill : tie.Need-slice-aggregate-fill
-slice-aggregate-fill c = search needs
-
 fill-requires : tie.Need-fill-requires
 fill-requires c κs = let s = c .before .before .before in (omega arith, omega (arith, c .before .taken .ensures), omega (arith, message-index (s .args .bits) (s .args .index) (s .pre .1), c .before .taken .ensures, s .pre .0))
 
@@ -23,4 +20,4 @@ returns c = let taken = c .before .before .before in let s = taken .before .befo
 
 pub message-words-spec : {M : Type 1} → statement M
 message-words-spec =
-    tie.close (tie.spec taken-requires mul-byte slice-aggregate-fill fill-requires returns)
+    tie.close (tie.spec taken-requires mul-byte (λ c. search needs) fill-requires returns)

@@ -1,8 +1,8 @@
 -- `nodes::root` meets its contract.
 use Rattle.nodes.specs.SequentialLaws.{root-chain, root-parallel, top-some, first-node}
-use Rattle.nodes.specs.Ready.{shared}
+use Rattle.node.specs.Words.{paramsFrom}
 use Rattle.nodes.specs.Value as spec
-use Rattle.tree.specs.Refusals.{pieceBits}
+use Rattle.bits.specs.Piece.{pieceOf, pieceBits}
 use Prim.Native.Nat.{ℕ, _<_}
 use mathlib.Core.Path.{_∙_, ap}
 use native.Mathlib.Omega.{arith}
@@ -10,19 +10,13 @@ use borrow.Author.Needs.{needs}
 use Rattle.nodes.proofs.root.Statement.{statement}
 use Rattle.nodes.proofs.root.Tie as tie
 
-top-level-requires : tie.Need-top-level-requires
-top-level-requires c κs = search needs
-
-sequential-requires : tie.Need-sequential-requires
-sequential-requires c κs = search needs
-
 returns : tie.Need-returns
 returns c =
     let top = c .before .before in
     let s = top .before .before .before .before in
     let a = s .args in
     c .sequential .ensures
-    ∙ root-chain (shared (a .k .now) (a .params)) (a .params .limit) (a .message .now) (a .bits) (s .pre .1) (omega (arith, top .top-level .ensures .0, c .before .if1 .taken))
+    ∙ root-chain (paramsFrom (a .k .now) (a .params)) (a .params .limit) (a .message .now) (a .bits) (s .pre .enough) (omega (arith, top .top-level .ensures .0, c .before .if1 .taken))
 
 value-requires : tie.Need-value-requires
 value-requires c κs =
@@ -30,7 +24,7 @@ value-requires c κs =
     let s = top .before .before .before .before in
     let e = top .top-level .ensures .0 in
     let some : 0 < top .top-level .result = omega (arith, e, top-some (s .args .bits) (s .args .params .limit) 1) in
-    (s .pre .0, s .pre .1, some, omega (arith, c .if1 .left, s .pre .0 .limitHigh), first-node (s .args .bits) (top .top-level .result) some, omega arith)
+    (s .pre, (some, omega (arith, c .if1 .left, s .pre .ready .range .limitHigh), first-node (s .args .bits) (top .top-level .result) some, omega arith))
 
 returns-2 : tie.Need-returns-2
 returns-2 c =
@@ -39,9 +33,9 @@ returns-2 c =
     let a = s .args in
     let e = top .top-level .ensures .0 in
     c .value .ensures
-    ∙ ap (λ (l : ℕ). spec.value (shared (a .k .now) (a .params)) (pieceBits (a .message .now) (a .bits)) l 0 1) e
-    ∙ root-parallel (shared (a .k .now) (a .params)) (a .params .limit) (a .message .now) (a .bits) (s .pre .1) (omega (arith, e, c .before .if1 .left))
+    ∙ ap (λ (l : ℕ). spec.value (paramsFrom (a .k .now) (a .params)) (pieceBits (pieceOf (a .message .now) (a .bits))) l 0 1) e
+    ∙ root-parallel (paramsFrom (a .k .now) (a .params)) (a .params .limit) (a .message .now) (a .bits) (s .pre .enough) (omega (arith, e, c .before .if1 .left))
 
 pub root-spec : {M : Type 1} → statement M
 root-spec =
-    tie.close (tie.spec top-level-requires sequential-requires returns value-requires returns-2)
+    tie.close (tie.spec (λ c κs. search needs) (λ c κs. search needs) returns value-requires returns-2)

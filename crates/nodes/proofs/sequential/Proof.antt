@@ -1,9 +1,9 @@
 -- `nodes::sequential` meets its contract. The loop's invariant: the chain after i nodes.
 use Rattle.nodes.specs.SequentialLaws.{chain-more}
-use Rattle.nodes.specs.Ready.{shared}
+use Rattle.node.specs.Words.{paramsFrom}
 use Rattle.nodes.specs.ValueLaws.{chain-zero, length-chain}
 use Rattle.nodes.specs.Value.{sequentialNodes, chain}
-use Rattle.tree.specs.Refusals.{pieceBits}
+use Rattle.bits.specs.Piece.{pieceOf, pieceBits}
 use Rattle.bits.specs.Bits.{digit}
 use lib.ListN.{length}
 use lib.Dec.{eqb}
@@ -15,16 +15,13 @@ use Rattle.nodes.proofs.sequential.Statement.{statement}
 use Rattle.nodes.proofs.sequential.Tie as tie
 
 abbrev Inv-loop : tie.InvT-loop
-Inv-loop message bits params k table nodes last₀ i₀ last i = (i ≤ nodes) × (last ≡ chain (shared k params) (params .limit) (pieceBits message bits) i) × (length last ≡ 16)
+Inv-loop message bits params k table nodes last₀ i₀ last i = (i ≤ nodes) × (last ≡ chain (paramsFrom k params) (params .limit) (pieceBits (pieceOf message bits)) i) × (length last ≡ 16)
 
 abbrev μ-loop : tie.MeasureT-loop
 μ-loop message bits params k table nodes last₀ i₀ last i = nodes - i
 
-sequential-nodes-requires : tie.Need-sequential-nodes-requires Inv-loop μ-loop
-sequential-nodes-requires c κs = search needs
-
 loop-holds : tie.Need-loop-holds Inv-loop μ-loop
-loop-holds c = let a = c .before .before .before .before .args in (omega arith, sym (chain-zero (shared (a .k .now) (a .params)) (pieceBits (a .message .now) (a .bits)) (a .params .limit)), refl)
+loop-holds c = let a = c .before .before .before .before .args in (omega arith, sym (chain-zero (paramsFrom (a .k .now) (a .params)) (pieceBits (pieceOf (a .message .now) (a .bits))) (a .params .limit)), refl)
 
 last-flag-requires : tie.Need-last-flag-requires Inv-loop μ-loop
 last-flag-requires c κs = c .loop-test .taken
@@ -36,11 +33,12 @@ sequential-value-requires : tie.Need-sequential-value-requires Inv-loop μ-loop
 sequential-value-requires c κs =
     let at = c .before .before .before in
     let s = at .before .before .before .before .before in (
-      s .pre .0,
-      s .pre .1,
-      omega (arith, at .before .sequential-nodes .ensures, c .before .before .loop-test .taken),
-      omega (arith, c .before .last-flag .ensures .1),
-      at .loop .inv .2,
+      s .pre,
+      (
+        omega (arith, at .before .sequential-nodes .ensures, c .before .before .loop-test .taken),
+        omega (arith, c .before .last-flag .ensures .1),
+        at .loop .inv .2,
+      ),
     )
 
 add-i : tie.Need-add-i Inv-loop μ-loop
@@ -54,17 +52,17 @@ loop-again c =
     let at = c .before .before .before .before in
     let s = at .before .before .before .before .before in
     let a = s .args in
-    let C = (shared (a .k .now) (a .params)) in
-    let M = (pieceBits (a .message .now) (a .bits)) in
+    let P = (paramsFrom (a .k .now) (a .params)) in
+    let M = (pieceBits (pieceOf (a .message .now) (a .bits))) in
     let z = c .before .before .last-flag .result in
     let ez : z ≡ digit (eqb (suc (at .loop .i)) (sequentialNodes (a .params .limit) (a .bits))) =
     c .before .before .last-flag .ensures .0 ∙ ap (λ (n : ℕ). digit (eqb (suc (at .loop .i)) n)) (at .before .sequential-nodes .ensures) in
-    let e : c .sequential-value .result ≡ chain C (a .params .limit) M (at .loop .i + 1) =
+    let e : c .sequential-value .result ≡ chain P (a .params .limit) M (at .loop .i + 1) =
     c .sequential-value .ensures
-    ∙ chain-more C (a .params .limit) (a .message .now) (a .bits) (at .loop .i) z (at .loop .last) (s .pre .1) ez (at .loop .inv .1) in (
+    ∙ chain-more P (a .params .limit) (a .message .now) (a .bits) (at .loop .i) z (at .loop .last) (s .pre .enough) ez (at .loop .inv .1) in (
       omega (arith, c .before .before .before .loop-test .taken),
       e,
-      ap length e ∙ length-chain C (s .pre .0 .kLength) M (a .params .limit) (at .loop .i + 1),
+      ap length e ∙ length-chain P M (a .params .limit) (at .loop .i + 1),
     )
 
 returns : tie.Need-returns Inv-loop μ-loop
@@ -73,20 +71,11 @@ returns c =
     let s = at .before .before .before .before .before in
     let a = s .args in
     let e : at .loop .i ≡ sequentialNodes (a .params .limit) (a .bits) = omega (arith, at .loop .inv .0, c .loop-test .left, at .before .sequential-nodes .ensures) in
-    at .loop .inv .1 ∙ ap (chain (shared (a .k .now) (a .params)) (a .params .limit) (pieceBits (a .message .now) (a .bits))) e
+    at .loop .inv .1 ∙ ap (chain (paramsFrom (a .k .now) (a .params)) (a .params .limit) (pieceBits (pieceOf (a .message .now) (a .bits)))) e
 
 pub sequential-spec : {M : Type 1} → statement M
 sequential-spec =
     tie.close
     (tie.spec
-    Inv-loop
-    μ-loop
-    sequential-nodes-requires
-    loop-holds
-    last-flag-requires
-    slice-aggregate-sequential-value
-    sequential-value-requires
-    add-i
-    loop-less
-    loop-again
-    returns)
+    Inv-loop μ-loop (λ c κs. search needs) loop-holds last-flag-requires slice-aggregate-sequential-value
+    sequential-value-requires add-i loop-less loop-again returns)

@@ -22,24 +22,6 @@ loop-holds : tie.Need-loop-holds Inv-loop μ-loop
 unfolding mathlib.Core.List.flatten
 loop-holds c = (omega arith, refl, refl)
 
-mul-put-hex : tie.Need-mul-put-hex Inv-loop μ-loop
-mul-put-hex c = search needs
-
-shared-slice-read-wide : tie.Need-shared-slice-read-wide Inv-loop μ-loop
-shared-slice-read-wide c = search needs
-
-wide-requires : tie.Need-wide-requires Inv-loop μ-loop
-wide-requires c κs = search needs
-
-put-hex-requires : tie.Need-put-hex-requires Inv-loop μ-loop
-put-hex-requires c κs = search needs
-
-add-i : tie.Need-add-i Inv-loop μ-loop
-add-i c = search needs
-
-loop-less : tie.Need-loop-less Inv-loop μ-loop
-loop-less c = search needs
-
 loop-again : tie.Need-loop-again Inv-loop μ-loop
 loop-again c =
     let b = c .before .before in
@@ -49,12 +31,6 @@ loop-again c =
       search needs,
       bytes-step (z .loop .i) (s .text .now) (s .digest .now) (omega arith) (b .before .wide .ensures) (z .loop .inv .2) (b .put-hex .ensures),
     )
-
-mul-text : tie.Need-mul-text Inv-loop μ-loop
-mul-text c = search needs
-
-slice-write-text : tie.Need-slice-write-text Inv-loop μ-loop
-slice-write-text c = search needs
 
 same-length : tie.Need-same-length Inv-loop μ-loop
 same-length c = simp length-set (search needs)
@@ -71,17 +47,6 @@ pub put-digest-spec : {M : Type 1} → statement M
 put-digest-spec =
     tie.close
     (tie.spec
-    Inv-loop
-    μ-loop
-    loop-holds
-    mul-put-hex
-    shared-slice-read-wide
-    wide-requires
-    put-hex-requires
-    add-i
-    loop-less
-    loop-again
-    mul-text
-    slice-write-text
-    same-length
-    returns)
+    Inv-loop μ-loop loop-holds (λ c. search needs) (λ c. search needs) (λ c κs. search needs)
+    (λ c κs. search needs) (λ c. search needs) (λ c. search needs) loop-again (λ c. search needs)
+    (λ c. search needs) same-length returns)

@@ -11,23 +11,8 @@ use Rattle.print.specs.PrintLaws.{node-stored}
 use Rattle.print.proofs.put_node.Statement.{statement}
 use Rattle.print.proofs.put_node.Tie as tie
 
-put-hex-requires : tie.Need-put-hex-requires
-put-hex-requires c κs = search needs
-
-add-text : tie.Need-add-text
-add-text c = search needs
-
-slice-write-text : tie.Need-slice-write-text
-slice-write-text c = search needs
-
-add-put-hex : tie.Need-add-put-hex
-add-put-hex c = search needs
-
 put-hex-requires-2 : tie.Need-put-hex-requires-2
 put-hex-requires-2 c κs = simp length-set (omega arith)
-
-add-text-2 : tie.Need-add-text-2
-add-text-2 c = search needs
 
 slice-write-text-2 : tie.Need-slice-write-text-2
 slice-write-text-2 c =
@@ -51,12 +36,5 @@ pub put-node-spec : {M : Type 1} → statement M
 put-node-spec =
     tie.close
     (tie.spec
-    put-hex-requires
-    add-text
-    slice-write-text
-    add-put-hex
-    put-hex-requires-2
-    add-text-2
-    slice-write-text-2
-    same-length
-    returns)
+    (λ c κs. search needs) (λ c. search needs) (λ c. search needs) (λ c. search needs) put-hex-requires-2
+    (λ c. search needs) slice-write-text-2 same-length returns)

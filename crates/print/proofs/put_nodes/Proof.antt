@@ -20,48 +20,12 @@ abbrev μ-loop : tie.MeasureT-loop
 loop-holds : tie.Need-loop-holds Inv-loop μ-loop
 loop-holds c = (omega arith, refl, nodes-none _ _)
 
-mul-put-node : tie.Need-mul-put-node Inv-loop μ-loop
-mul-put-node c = search needs
-
-mul-put-node-2 : tie.Need-mul-put-node-2 Inv-loop μ-loop
-mul-put-node-2 c = search needs
-
-mul-put-node-3 : tie.Need-mul-put-node-3 Inv-loop μ-loop
-mul-put-node-3 c = search needs
-
-shared-slice-read-put-node : tie.Need-shared-slice-read-put-node Inv-loop μ-loop
-shared-slice-read-put-node c = search needs
-
-mul-put-node-4 : tie.Need-mul-put-node-4 Inv-loop μ-loop
-mul-put-node-4 c = search needs
-
-add-put-node : tie.Need-add-put-node Inv-loop μ-loop
-add-put-node c = search needs
-
-mul-put-node-5 : tie.Need-mul-put-node-5 Inv-loop μ-loop
-mul-put-node-5 c = search needs
-
-shared-slice-read-put-node-2 : tie.Need-shared-slice-read-put-node-2 Inv-loop μ-loop
-shared-slice-read-put-node-2 c = search needs
-
-put-node-requires : tie.Need-put-node-requires Inv-loop μ-loop
-put-node-requires c κs = search needs
-
-add-i : tie.Need-add-i Inv-loop μ-loop
-add-i c = search needs
-
-loop-less : tie.Need-loop-less Inv-loop μ-loop
-loop-less c = search needs
-
 loop-again : tie.Need-loop-again Inv-loop μ-loop
 loop-again c =
     let b = c .before .before in
     let z = b .before .before .before .before .before in
     let s = z .before .before .before .args in
     (omega arith, search needs, nodes-step (z .loop .i) (s .text .now) (s .log .now) (z .loop .inv .2) (b .put-node .ensures))
-
-same-length : tie.Need-same-length Inv-loop μ-loop
-same-length c = search needs
 
 returns : tie.Need-returns Inv-loop μ-loop
 returns c =
@@ -74,20 +38,6 @@ pub put-nodes-spec : {M : Type 1} → statement M
 put-nodes-spec =
     tie.close
     (tie.spec
-    Inv-loop
-    μ-loop
-    loop-holds
-    mul-put-node
-    mul-put-node-2
-    mul-put-node-3
-    shared-slice-read-put-node
-    mul-put-node-4
-    add-put-node
-    mul-put-node-5
-    shared-slice-read-put-node-2
-    put-node-requires
-    add-i
-    loop-less
-    loop-again
-    same-length
-    returns)
+    Inv-loop μ-loop loop-holds (λ c. search needs) (λ c. search needs) (λ c. search needs) (λ c. search needs)
+    (λ c. search needs) (λ c. search needs) (λ c. search needs) (λ c. search needs) (λ c κs. search needs)
+    (λ c. search needs) (λ c. search needs) loop-again (λ c. search needs) returns)

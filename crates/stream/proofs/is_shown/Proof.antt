@@ -9,9 +9,6 @@ use Rattle.stream.proofs.is_shown.Tie as tie
 returns : tie.Need-returns
 returns c = let a = c .before .before .args in shown-short (a .area .now) (a .level) (c .if1 .taken)
 
-is-sound-requires : tie.Need-is-sound-requires
-is-sound-requires c κs = omega arith
-
 returns-2 : tie.Need-returns-2
 returns-2 c =
     let sound = c .before in
@@ -36,8 +33,4 @@ pub is-shown-spec : {M : Type 1} → statement M
 is-shown-spec =
     tie.close
     (tie.spec
-    returns
-    is-sound-requires
-    returns-2
-    returns-3
-    returns-4)
+    returns (λ c κs. omega arith) returns-2 returns-3 returns-4)

@@ -7,9 +7,6 @@ use native.Mathlib.Omega.{arith}
 use Rattle.stream.proofs.write_open.Statement.{statement}
 use Rattle.stream.proofs.write_open.Tie as tie
 
-slice-write-area : tie.Need-slice-write-area
-slice-write-area c = omega arith
-
 slice-write-area-2 : tie.Need-slice-write-area-2
 slice-write-area-2 c = simp length-set (omega arith)
 
@@ -25,32 +22,11 @@ slice-write-area-5 c = simp length-set (omega arith)
 slice-write-area-6 : tie.Need-slice-write-area-6
 slice-write-area-6 c = simp length-set (omega arith)
 
-sub-clear : tie.Need-sub-clear
-sub-clear c = omega arith
-
-part-clear-start : tie.Need-part-clear-start
-part-clear-start c = omega arith
-
 part-clear-end : tie.Need-part-clear-end
 part-clear-end c = simp length-set (omega arith)
 
-clear-requires : tie.Need-clear-requires
-clear-requires c κs = omega arith
-
-sub-fill : tie.Need-sub-fill
-sub-fill c = omega arith
-
-part-fill-start : tie.Need-part-fill-start
-part-fill-start c = omega arith
-
 part-fill-end : tie.Need-part-fill-end
 part-fill-end c = rw (c .before .area .given .1) (simp length-set (omega arith))
-
-mul-fill : tie.Need-mul-fill
-mul-fill c = omega arith
-
-fill-requires : tie.Need-fill-requires
-fill-requires c κs = omega arith
 
 same-length : tie.Need-same-length
 same-length c =
@@ -72,20 +48,7 @@ pub write-open-spec : {M : Type 1} → statement M
 write-open-spec =
     tie.close
     (tie.spec
-    slice-write-area
-    slice-write-area-2
-    slice-write-area-3
-    slice-write-area-4
-    slice-write-area-5
-    slice-write-area-6
-    sub-clear
-    part-clear-start
-    part-clear-end
-    clear-requires
-    sub-fill
-    part-fill-start
-    part-fill-end
-    mul-fill
-    fill-requires
-    same-length
+    (λ c. omega arith) slice-write-area-2 slice-write-area-3 slice-write-area-4 slice-write-area-5
+    slice-write-area-6 (λ c. omega arith) (λ c. omega arith) part-clear-end (λ c κs. omega arith)
+    (λ c. omega arith) (λ c. omega arith) part-fill-end (λ c. omega arith) (λ c κs. omega arith) same-length
     returns)

@@ -5,15 +5,6 @@ use Rattle.climb.specs.Levels.{chain-made}
 use Rattle.climb.proofs.level.chain_level.Statement.{statement}
 use Rattle.climb.proofs.level.chain_level.Tie as tie
 
-clear-level-requires : tie.Need-clear-level-requires
-clear-level-requires c κs = omega arith
-
-join-requires : tie.Need-join-requires
-join-requires c κs = omega arith
-
-same-length : tie.Need-same-length
-same-length c = omega arith
-
 returns : tie.Need-returns
 returns c =
     let join = c .before .before in
@@ -22,4 +13,5 @@ returns c =
     join .join .ensures ∙ rw (clear-level .clear-level .ensures) (chain-made (start .pre .0) (start .args .out .now))
 
 pub chain-level-spec : {M : Type 1} → statement M
-chain-level-spec = tie.close (tie.spec clear-level-requires join-requires same-length returns)
+chain-level-spec =
+    tie.close (tie.spec (λ c κs. omega arith) (λ c κs. omega arith) (λ c. omega arith) returns)

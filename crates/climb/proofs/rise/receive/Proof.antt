@@ -1,7 +1,8 @@
 -- `climb::rise::receive` meets its contract.
-use Prim.Native.Nat.{_-_}
+use Prim.Native.Nat.{_+_, _-_}
 use native.Mathlib.Omega.{arith}
-use Rattle.climb.specs.MakeLaws.{paramsFrom}
+use Rattle.calls.specs.Area.{areaLevels}
+use Rattle.node.specs.Words.{paramsFrom}
 use Rattle.climb.specs.ReceiveLaws.{received, Climb, climb-start, climb-coming, climb-zero, climb-end, climb-part, climb-room, climb-more, climb-none}
 use Rattle.climb.proofs.rise.receive.Statement.{statement}
 use Rattle.climb.proofs.rise.receive.Tie as tie
@@ -11,13 +12,10 @@ Inv-loop area₀ params key table levels outputs log₀ start n₀ i₀ out₀ a
     Climb (paramsFrom key params) (received (paramsFrom key params) levels 2 outputs out₀ area₀) area₀ log₀ start n k i out area log at
 
 abbrev μ-loop : tie.MeasureT-loop
-μ-loop area₀ params key table levels outputs log₀ start n₀ i₀ out₀ at₀ k₀ area log n i out at k = 28 - k
+μ-loop area₀ params key table levels outputs log₀ start n₀ i₀ out₀ at₀ k₀ area log n i out at k = areaLevels + 1 - k
 
 loop-holds : tie.Need-loop-holds Inv-loop μ-loop
 loop-holds c = climb-start (c .before .before .before .before .pre)
-
-slice-aggregate-receive-last : tie.Need-slice-aggregate-receive-last Inv-loop μ-loop
-slice-aggregate-receive-last c = omega arith
 
 receive-last-requires : tie.Need-receive-last-requires Inv-loop μ-loop
 receive-last-requires c κs =
@@ -27,33 +25,12 @@ receive-last-requires c κs =
     let start = at .before .before .before .before .before in
     climb-coming (start .pre .ready) (at .loop .inv) (test .if1 .taken) (turn .loop-test .taken)
 
-same-length : tie.Need-same-length Inv-loop μ-loop
-same-length c = omega arith
-
-same-length-2 : tie.Need-same-length-2 Inv-loop μ-loop
-same-length-2 c = omega arith
-
 returns : tie.Need-returns Inv-loop μ-loop
 returns c =
     let receive-last = c .before .before .before .before in
     let test = receive-last .before .before .before .before in
     let at = test .before .before in
     climb-end (climb-zero (at .loop .inv) (test .if1 .taken)) (receive-last .receive-last .ensures)
-
-mul-join : tie.Need-mul-join Inv-loop μ-loop
-mul-join c = omega arith
-
-slice-aggregate-join : tie.Need-slice-aggregate-join Inv-loop μ-loop
-slice-aggregate-join c = omega arith
-
-join-requires : tie.Need-join-requires Inv-loop μ-loop
-join-requires c κs = omega arith
-
-same-length-3 : tie.Need-same-length-3 Inv-loop μ-loop
-same-length-3 c = omega arith
-
-same-length-4 : tie.Need-same-length-4 Inv-loop μ-loop
-same-length-4 c = omega arith
 
 returns-2 : tie.Need-returns-2 Inv-loop μ-loop
 returns-2 c =
@@ -71,9 +48,6 @@ make-level-requires c κs =
     let start = at .before .before .before .before .before in
     (start .pre .ready, omega (arith, climb-room (at .loop .inv) (test .if1 .left) (turn .loop-test .taken) (test2 .if2 .left)))
 
-clear-level-requires : tie.Need-clear-level-requires Inv-loop μ-loop
-clear-level-requires c κs = omega arith
-
 add-at : tie.Need-add-at Inv-loop μ-loop
 add-at c =
     let test2 = c .before .before .before .before .before .before .before .before .before in
@@ -82,12 +56,6 @@ add-at c =
     let at = turn .before in
     let start = at .before .before .before .before .before in
     omega (arith, climb-room (at .loop .inv) (test .if1 .left) (turn .loop-test .taken) (test2 .if2 .left), start .good)
-
-add-k : tie.Need-add-k Inv-loop μ-loop
-add-k c = omega arith
-
-loop-less : tie.Need-loop-less Inv-loop μ-loop
-loop-less c = omega arith
 
 loop-again : tie.Need-loop-again Inv-loop μ-loop
 loop-again c =
@@ -99,12 +67,6 @@ loop-again c =
     let turn = test .before in
     climb-more (turn .before .loop .inv) (test .if1 .left) (turn .loop-test .taken) (join .join .ensures) (test2 .if2 .left) (make-level .make-level .ensures) (clear-level .clear-level .ensures)
 
-same-length-5 : tie.Need-same-length-5 Inv-loop μ-loop
-same-length-5 c = omega arith
-
-same-length-6 : tie.Need-same-length-6 Inv-loop μ-loop
-same-length-6 c = omega arith
-
 returns-3 : tie.Need-returns-3 Inv-loop μ-loop
 returns-3 c = climb-none (c .before .loop .inv) (c .loop-test .left)
 
@@ -112,26 +74,7 @@ pub receive-spec : {M : Type 1} → statement M
 receive-spec =
     tie.close
     (tie.spec
-    Inv-loop
-    μ-loop
-    loop-holds
-    slice-aggregate-receive-last
-    receive-last-requires
-    same-length
-    same-length-2
-    returns
-    mul-join
-    slice-aggregate-join
-    join-requires
-    same-length-3
-    same-length-4
-    returns-2
-    make-level-requires
-    clear-level-requires
-    add-at
-    add-k
-    loop-less
-    loop-again
-    same-length-5
-    same-length-6
-    returns-3)
+    Inv-loop μ-loop loop-holds (λ c. omega arith) receive-last-requires (λ c. omega arith) (λ c. omega arith)
+    returns (λ c. omega arith) (λ c. omega arith) (λ c κs. omega arith) (λ c. omega arith) (λ c. omega arith)
+    returns-2 make-level-requires (λ c κs. omega arith) add-at (λ c. omega arith) (λ c. omega arith)
+    loop-again (λ c. omega arith) (λ c. omega arith) returns-3)

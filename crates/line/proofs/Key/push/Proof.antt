@@ -7,40 +7,12 @@ use native.Mathlib.Omega.{arith}
 use borrow.Author.Needs.{needs}
 use Rattle.line.proofs.Key.push.Statement.{statement}
 use Rattle.line.proofs.Key.push.Tie as tie
-use Rattle.line.proofs.Key.push.Reads as reads
-use Rattle.line.proofs.Key.push.Lts as lts
-use Rattle.digits.proofs.number.Reads as number-reads
-use Rattle.line.proofs.Key.put.Reads as put-reads
-
-enum-known-pairs : tie.Need-enum-known-pairs
-enum-known-pairs c = search needs
-
-enum-known-pairs-2 : tie.Need-enum-known-pairs-2
-enum-known-pairs-2 c = search needs
-
-slice-aggregate-number : tie.Need-slice-aggregate-number
-slice-aggregate-number c = search needs
-
-number-requires : tie.Need-number-requires
-number-requires c κs = search needs
-
-enum-known-x : tie.Need-enum-known-x
-enum-known-x c = search needs
 
 cast-put : tie.Need-cast-put
 cast-put c =
     let e = sym (c .before .before .before .number .ensures) ∙ ap readingNumber (c .before .x .given .1) in
     let l = spelt-lt 2 (c .before .x .given .0 .0) (c .before .before .before .before .before .before .pairs2 .given .0 .1 .0 ∷ c .before .before .before .before .before .before .before .before .before .args .b ∷ []) (omega arith) e in
     search needs
-
-put-requires : tie.Need-put-requires
-put-requires c κs = search needs
-
-enum-told : tie.Need-enum-told
-enum-told c = search needs
-
-enum-told-2 : tie.Need-enum-told-2
-enum-told-2 c = search needs
 
 returns : tie.Need-returns
 returns c = rw (c .before .pairs .given .1)
@@ -58,16 +30,6 @@ pub push-spec : {M : Type 1} → statement M
 push-spec =
     tie.close
     (tie.spec
-    enum-known-pairs
-    enum-known-pairs-2
-    slice-aggregate-number
-    number-requires
-    enum-known-x
-    cast-put
-    put-requires
-    enum-told
-    enum-told-2
-    returns
-    returns-2
-    returns-3
+    (λ c. search needs) (λ c. search needs) (λ c. search needs) (λ c κs. search needs) (λ c. search needs)
+    cast-put (λ c κs. search needs) (λ c. search needs) (λ c. search needs) returns returns-2 returns-3
     returns-4)

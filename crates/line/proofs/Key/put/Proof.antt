@@ -4,12 +4,6 @@ use borrow.Author.Needs.{needs}
 use Rattle.line.proofs.Key.put.Statement.{statement}
 use Rattle.line.proofs.Key.put.Tie as tie
 
-array-write-next : tie.Need-array-write-next
-array-write-next c = search needs
-
-add-t9 : tie.Need-add-t9
-add-t9 c = search needs
-
 returns : tie.Need-returns
 returns c = rw (lt-ltb _ 65 (c .if1 .taken))
 
@@ -17,4 +11,4 @@ returns-2 : tie.Need-returns-2
 returns-2 c = rw (le-ltb _ 65 (c .if1 .left))
 
 pub put-spec : {M : Type 1} → statement M
-put-spec = tie.close (tie.spec array-write-next add-t9 returns returns-2)
+put-spec = tie.close (tie.spec (λ c. search needs) (λ c. search needs) returns returns-2)

@@ -5,33 +5,6 @@ use Rattle.line.specs.Digits.{decimal-yes, decimal-low, decimal-high}
 use Rattle.line.proofs.Number.push.Statement.{statement}
 use Rattle.line.proofs.Number.push.Tie as tie
 
-enum-told : tie.Need-enum-told
-enum-told c = search needs
-
-cast-t9 : tie.Need-cast-t9
-cast-t9 c = search needs
-
-enum-known-self : tie.Need-enum-known-self
-enum-known-self c = search needs
-
-add-t14 : tie.Need-add-t14
-add-t14 c = search needs
-
-mul-t16 : tie.Need-mul-t16
-mul-t16 c = search needs
-
-cast-t18 : tie.Need-cast-t18
-cast-t18 c = search needs
-
-add-t19 : tie.Need-add-t19
-add-t19 c = search needs
-
-enum-told-2 : tie.Need-enum-told-2
-enum-told-2 c = search needs
-
-enum-told-3 : tie.Need-enum-told-3
-enum-told-3 c = search needs
-
 returns : tie.Need-returns
 returns c = rw (c .before .enum-told .given .1, c .match2 .keys1)
 
@@ -81,22 +54,6 @@ pub push-spec : {M : Type 1} → statement M
 push-spec =
     tie.close
     (tie.spec
-    enum-told
-    cast-t9
-    enum-known-self
-    add-t14
-    mul-t16
-    cast-t18
-    add-t19
-    enum-told-2
-    enum-told-3
-    returns
-    returns-2
-    returns-3
-    returns-4
-    returns-5
-    returns-6
-    returns-7
-    returns-8
-    returns-9
-    returns-10)
+    (λ c. search needs) (λ c. search needs) (λ c. search needs) (λ c. search needs) (λ c. search needs)
+    (λ c. search needs) (λ c. search needs) (λ c. search needs) (λ c. search needs) returns returns-2
+    returns-3 returns-4 returns-5 returns-6 returns-7 returns-8 returns-9 returns-10)

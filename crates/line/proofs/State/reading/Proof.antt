@@ -42,22 +42,13 @@ no-number (Digits k v) h = absurd (one-of 1 0 2 3 h (omega arith) (omega arith) 
 no-number Dash h = refl
 no-number WrongNumber h = refl
 
-enum-told : tie.Need-enum-told
-enum-told c = search needs
-
 returns : tie.Need-returns
 unfolding readingOf
 returns c = let s = c .before .args .self in other-field (s .at) s (c .match .keys2)
 
-enum-known-digest-field : tie.Need-enum-known-digest-field
-enum-known-digest-field c = search needs
-
 returns-2 : tie.Need-returns-2
 unfolding readingOf
 returns-2 c = rw (c .before .enum-told .given .1, no-number (c .before .before .before .args .self .d) (c .match2 .keys2))
-
-enum-known-limit-field : tie.Need-enum-known-limit-field
-enum-known-limit-field c = search needs
 
 returns-3 : tie.Need-returns-3
 unfolding readingOf
@@ -67,24 +58,6 @@ returns-3 c =
       c .before .before .digest-field .given .1,
       no-number (c .before .before .before .before .before .before .args .self .limit) (c .match3 .keys2),
     )
-
-enum-known-rounds-field : tie.Need-enum-known-rounds-field
-enum-known-rounds-field c = search needs
-
-key-reading-requires : tie.Need-key-reading-requires
-key-reading-requires c κs = search needs
-
-enum-told-2 : tie.Need-enum-told-2
-enum-told-2 c = search needs
-
-key-reading-requires-2 : tie.Need-key-reading-requires-2
-key-reading-requires-2 c κs = search needs
-
-enum-told-3 : tie.Need-enum-told-3
-enum-told-3 c = search needs
-
-enum-told-4 : tie.Need-enum-told-4
-enum-told-4 c = search needs
 
 returns-4 : tie.Need-returns-4
 unfolding readingOf
@@ -132,19 +105,6 @@ pub reading-spec : {M : Type 1} → statement M
 reading-spec =
     tie.close
     (tie.spec
-    enum-told
-    returns
-    enum-known-digest-field
-    returns-2
-    enum-known-limit-field
-    returns-3
-    enum-known-rounds-field
-    key-reading-requires
-    enum-told-2
-    key-reading-requires-2
-    enum-told-3
-    enum-told-4
-    returns-4
-    returns-5
-    returns-6
-    returns-7)
+    (λ c. search needs) returns (λ c. search needs) returns-2 (λ c. search needs) returns-3
+    (λ c. search needs) (λ c κs. search needs) (λ c. search needs) (λ c κs. search needs) (λ c. search needs)
+    (λ c. search needs) returns-4 returns-5 returns-6 returns-7)

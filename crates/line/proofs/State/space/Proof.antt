@@ -3,11 +3,8 @@ use borrow.Author.Needs.{needs}
 use Rattle.line.proofs.State.space.Statement.{statement}
 use Rattle.line.proofs.State.space.Tie as tie
 
-next-requires : tie.Need-next-requires
-next-requires c κs = search needs
-
 returns : tie.Need-returns
 returns c = rw (c .next .ensures)
 
 pub space-spec : {M : Type 1} → statement M
-space-spec = tie.close (tie.spec next-requires returns)
+space-spec = tie.close (tie.spec (λ c κs. search needs) returns)

@@ -5,12 +5,6 @@ use borrow.Author.Needs.{needs}
 use Rattle.line.proofs.State.step.Statement.{statement}
 use Rattle.line.proofs.State.step.Tie as tie
 
-space-requires : tie.Need-space-requires
-space-requires c κs = search needs
-
-push-requires : tie.Need-push-requires
-push-requires c κs = search needs
-
 returns : tie.Need-returns
 unfolding stepOf
 returns c = rw (eq-eqb _ 32 (c .before .if1 .taken)) (c .space .ensures)
@@ -20,4 +14,4 @@ unfolding stepOf
 returns-2 c = rw (ne-eqb _ 32 (c .before .if1 .left)) (c .push .ensures)
 
 pub step-spec : {M : Type 1} → statement M
-step-spec = tie.close (tie.spec space-requires push-requires returns returns-2)
+step-spec = tie.close (tie.spec (λ c κs. search needs) (λ c κs. search needs) returns returns-2)

@@ -10,12 +10,6 @@ use Rattle.node.proofs.count.blocks_of.Tie as tie
 returns : tie.Need-returns
 returns c = blocks-none (c .before .args .size) (c .before .args .m) (c .before .pre) (c .if1 .taken)
 
-sub-result : tie.Need-sub-result
-sub-result c = search needs
-
-div-result : tie.Need-div-result
-div-result c = search needs
-
 add-result : tie.Need-add-result
 add-result c = record { fits = omega (arith, div-le-self (c .before .args .m - 1) (c .before .args .size), c .before .fits .m .fits, c .if1 .left) }
 
@@ -23,4 +17,5 @@ returns-2 : tie.Need-returns-2
 returns-2 c = blocks-some (c .before .args .size) (c .before .args .m) (c .before .pre) (c .if1 .left)
 
 pub blocks-of-spec : {M : Type 1} → statement M
-blocks-of-spec = tie.close (tie.spec returns sub-result div-result add-result returns-2)
+blocks-of-spec =
+    tie.close (tie.spec returns (λ c. search needs) (λ c. search needs) add-result returns-2)

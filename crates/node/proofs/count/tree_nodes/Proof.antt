@@ -15,17 +15,8 @@ Inv-loop limit bits sum₀ nodes₀ left₀ sum nodes left = (0 < nodes) × (sum
 abbrev μ-loop : tie.MeasureT-loop
 μ-loop limit bits sum₀ nodes₀ left₀ sum nodes left = left
 
-blocks-of-requires : tie.Need-blocks-of-requires Inv-loop μ-loop
-blocks-of-requires c κs = search needs
-
 returns : tie.Need-returns Inv-loop μ-loop
 returns c = let s = c .before .before in c .blocks-of .ensures ∙ nodes-sequential (s .args .limit) (s .args .bits) (c .before .if1 .taken)
-
-blocks-of-requires-2 : tie.Need-blocks-of-requires-2 Inv-loop μ-loop
-blocks-of-requires-2 c κs = search needs
-
-sub-left : tie.Need-sub-left Inv-loop μ-loop
-sub-left c = search needs
 
 loop-holds : tie.Need-loop-holds Inv-loop μ-loop
 loop-holds c =
@@ -44,9 +35,6 @@ returns-2 c = let at = c .before .before in ap (λ (n : ℕ). at .loop .sum + n)
 
 add-sum : tie.Need-add-sum Inv-loop μ-loop
 add-sum c = record { fits = omega (arith, c .before .before .loop .inv .1) }
-
-blocks-of-requires-3 : tie.Need-blocks-of-requires-3 Inv-loop μ-loop
-blocks-of-requires-3 c κs = search needs
 
 sub-left-2 : tie.Need-sub-left-2 Inv-loop μ-loop
 sub-left-2 c = omega (arith, c .before .before .loop-test .taken)
@@ -75,9 +63,6 @@ returns-3 c = let at = c .before .before in ap (λ (n : ℕ). at .loop .sum + n)
 add-result-3 : tie.Need-add-result-3 Inv-loop μ-loop
 add-result-3 c = record { fits = omega (arith, c .before .before .loop .inv .1) }
 
-blocks-of-requires-4 : tie.Need-blocks-of-requires-4 Inv-loop μ-loop
-blocks-of-requires-4 c κs = search needs
-
 add-result-4 : tie.Need-add-result-4 Inv-loop μ-loop
 add-result-4 c = let at = c .before .before .before in record { fits = omega (arith, c .blocks-of4 .ensures, at .loop .inv .1, at .loop .inv .0) }
 
@@ -91,23 +76,6 @@ pub tree-nodes-spec : {M : Type 1} → statement M
 tree-nodes-spec =
     tie.close
     (tie.spec
-    Inv-loop
-    μ-loop
-    blocks-of-requires
-    returns
-    blocks-of-requires-2
-    sub-left
-    loop-holds
-    add-result
-    returns-2
-    add-sum
-    blocks-of-requires-3
-    sub-left-2
-    loop-less
-    loop-again
-    add-result-2
-    returns-3
-    add-result-3
-    blocks-of-requires-4
-    add-result-4
-    returns-4)
+    Inv-loop μ-loop (λ c κs. search needs) returns (λ c κs. search needs) (λ c. search needs) loop-holds
+    add-result returns-2 add-sum (λ c κs. search needs) sub-left-2 loop-less loop-again add-result-2 returns-3
+    add-result-3 (λ c κs. search needs) add-result-4 returns-4)

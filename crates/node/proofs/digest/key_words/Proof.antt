@@ -5,17 +5,9 @@ use borrow.Author.Needs.{needs}
 use Rattle.node.proofs.digest.key_words.Statement.{statement}
 use Rattle.node.proofs.digest.key_words.Tie as tie
 
-slice-aggregate-fill : tie.Need-slice-aggregate-fill
-slice-aggregate-fill c = search needs
-
-mul-fill : tie.Need-mul-fill
-mul-fill c = search needs
-
-fill-requires : tie.Need-fill-requires
-fill-requires c κs = search needs
-
 returns : tie.Need-returns
 returns c = let s = c .before .before .before .before in c .before .fill .ensures ∙ key-filled (s .args .key .now) (s .pre)
 
 pub key-words-spec : {M : Type 1} → statement M
-key-words-spec = tie.close (tie.spec slice-aggregate-fill mul-fill fill-requires returns)
+key-words-spec =
+    tie.close (tie.spec (λ c. search needs) (λ c. search needs) (λ c κs. search needs) returns)

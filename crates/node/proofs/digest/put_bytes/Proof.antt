@@ -25,12 +25,6 @@ byte-of-requires c κs = let s = c .before .before .before .before in omega (ari
 slice-write-out : tie.Need-slice-write-out Inv-loop μ-loop
 slice-write-out c = let at = c .before .before in omega (arith, at .loop .inv .2, at .before .before .before .pre .1, c .before .loop-test .taken)
 
-add-i : tie.Need-add-i Inv-loop μ-loop
-add-i c = search needs
-
-loop-less : tie.Need-loop-less Inv-loop μ-loop
-loop-less c = search needs
-
 loop-again : tie.Need-loop-again Inv-loop μ-loop
 loop-again c =
     let at = c .before .before in
@@ -57,13 +51,5 @@ pub put-bytes-spec : {M : Type 1} → statement M
 put-bytes-spec =
     tie.close
     (tie.spec
-    Inv-loop
-    μ-loop
-    loop-holds
-    byte-of-requires
-    slice-write-out
-    add-i
-    loop-less
-    loop-again
-    same-length
-    returns)
+    Inv-loop μ-loop loop-holds byte-of-requires slice-write-out (λ c. search needs) (λ c. search needs)
+    loop-again same-length returns)

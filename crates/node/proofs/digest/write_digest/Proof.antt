@@ -10,36 +10,6 @@ use borrow.Author.Needs.{needs}
 use Rattle.node.proofs.digest.write_digest.Statement.{statement}
 use Rattle.node.proofs.digest.write_digest.Tie as tie
 
-slice-aggregate-put-bytes : tie.Need-slice-aggregate-put-bytes
-slice-aggregate-put-bytes c = search needs
-
-put-bytes-requires : tie.Need-put-bytes-requires
-put-bytes-requires c κs = search needs
-
-sub-start : tie.Need-sub-start
-sub-start c = search needs
-
-slice-aggregate-fill : tie.Need-slice-aggregate-fill
-slice-aggregate-fill c = search needs
-
-slice-aggregate-fill-2 : tie.Need-slice-aggregate-fill-2
-slice-aggregate-fill-2 c = search needs
-
-fill-requires : tie.Need-fill-requires
-fill-requires c κs = search needs
-
-add-n : tie.Need-add-n
-add-n c = search needs
-
-slice-aggregate-put-bytes-2 : tie.Need-slice-aggregate-put-bytes-2
-slice-aggregate-put-bytes-2 c = search needs
-
-put-bytes-requires-2 : tie.Need-put-bytes-requires-2
-put-bytes-requires-2 c κs = search needs
-
-same-length : tie.Need-same-length
-same-length c = search needs
-
 returns : tie.Need-returns
 returns c =
     let put2 = c .before .before in
@@ -61,14 +31,6 @@ pub write-digest-spec : {M : Type 1} → statement M
 write-digest-spec =
     tie.close
     (tie.spec
-    slice-aggregate-put-bytes
-    put-bytes-requires
-    sub-start
-    slice-aggregate-fill
-    slice-aggregate-fill-2
-    fill-requires
-    add-n
-    slice-aggregate-put-bytes-2
-    put-bytes-requires-2
-    same-length
+    (λ c. search needs) (λ c κs. search needs) (λ c. search needs) (λ c. search needs) (λ c. search needs)
+    (λ c κs. search needs) (λ c. search needs) (λ c. search needs) (λ c κs. search needs) (λ c. search needs)
     returns)

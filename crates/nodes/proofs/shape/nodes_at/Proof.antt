@@ -1,7 +1,6 @@
 -- `nodes::shape::nodes_at` meets its contract. The loop's invariant: the nodes of the level that is reached.
 use Rattle.nodes.specs.ShapeLaws.{levelNodes-more}
-use Rattle.tree.specs.Count.{levelNodes-one}
-use Rattle.tree.specs.Sizes.{levelNodes}
+use Rattle.tree.specs.Count.{levelNodes, levelNodes-one}
 use Rattle.tree.specs.Tree.{blocks}
 use Prim.Native.Nat.{_-_, _≤_, _<_}
 use mathlib.Core.Path.{_≡_, _∙_, ap, sym}
@@ -16,20 +15,8 @@ Inv-loop bits level nodes₀ at₀ nodes at = (0 < at) × (at ≤ level) × (nod
 abbrev μ-loop : tie.MeasureT-loop
 μ-loop bits level nodes₀ at₀ nodes at = level - at
 
-blocks-of-requires : tie.Need-blocks-of-requires Inv-loop μ-loop
-blocks-of-requires c κs = search needs
-
 loop-holds : tie.Need-loop-holds Inv-loop μ-loop
 loop-holds c = (omega arith, omega (arith, c .before .pre), c .blocks-of .ensures ∙ sym (levelNodes-one (c .before .args .bits)))
-
-blocks-of-requires-2 : tie.Need-blocks-of-requires-2 Inv-loop μ-loop
-blocks-of-requires-2 c κs = search needs
-
-add-at : tie.Need-add-at Inv-loop μ-loop
-add-at c = search needs
-
-loop-less : tie.Need-loop-less Inv-loop μ-loop
-loop-less c = search needs
 
 loop-again : tie.Need-loop-again Inv-loop μ-loop
 loop-again c = let at = c .before .before in (omega arith, omega arith, c .blocks-of2 .ensures ∙ ap (blocks 4) (at .loop .inv .2) ∙ sym (levelNodes-more (at .before .before .args .bits) (at .loop .at) (at .loop .inv .0)))
@@ -41,12 +28,5 @@ pub nodes-at-spec : {M : Type 1} → statement M
 nodes-at-spec =
     tie.close
     (tie.spec
-    Inv-loop
-    μ-loop
-    blocks-of-requires
-    loop-holds
-    blocks-of-requires-2
-    add-at
-    loop-less
-    loop-again
-    returns)
+    Inv-loop μ-loop (λ c κs. search needs) loop-holds (λ c κs. search needs) (λ c. search needs)
+    (λ c. search needs) loop-again returns)

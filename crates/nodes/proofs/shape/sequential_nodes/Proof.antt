@@ -6,22 +6,12 @@ use borrow.Author.Needs.{needs}
 use Rattle.nodes.proofs.shape.sequential_nodes.Statement.{statement}
 use Rattle.nodes.proofs.shape.sequential_nodes.Tie as tie
 
-blocks-of-requires : tie.Need-blocks-of-requires
-blocks-of-requires c κs = search needs
-
 returns : tie.Need-returns
 returns c = c .blocks-of .ensures ∙ sequentialNodes-zero (c .before .before .args .limit) (c .before .before .args .bits) (c .before .if1 .taken)
-
-nodes-at-requires : tie.Need-nodes-at-requires
-nodes-at-requires c κs = search needs
-
-blocks-of-requires-2 : tie.Need-blocks-of-requires-2
-blocks-of-requires-2 c κs = search needs
 
 returns-2 : tie.Need-returns-2
 returns-2 c = c .blocks-of2 .ensures ∙ ap (blocks 3) (c .before .nodes-at .ensures) ∙ sequentialNodes-more (c .before .before .before .args .limit) (c .before .before .before .args .bits) (c .before .before .if1 .left)
 
 pub sequential-nodes-spec : {M : Type 1} → statement M
 sequential-nodes-spec =
-    tie.close
-    (tie.spec blocks-of-requires returns nodes-at-requires blocks-of-requires-2 returns-2)
+    tie.close (tie.spec (λ c κs. search needs) returns (λ c κs. search needs) (λ c κs. search needs) returns-2)

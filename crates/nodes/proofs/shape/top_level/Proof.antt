@@ -1,7 +1,6 @@
 -- `nodes::shape::top_level` meets its contract. The loop's invariant: the top is looked for from this level on.
 use Rattle.nodes.specs.ShapeLaws.{levelNodes-more, top-start, top-one, top-more, top-past, top-most}
-use Rattle.tree.specs.Count.{levelNodes-one}
-use Rattle.tree.specs.Sizes.{levelNodes}
+use Rattle.tree.specs.Count.{levelNodes, levelNodes-one}
 use Rattle.nodes.specs.Value.{topFrom, topLevel}
 use Rattle.tree.specs.Tree.{blocks}
 use Prim.Native.Nat.{_+_, _-_, _≤_, _<_}
@@ -17,23 +16,11 @@ Inv-loop limit bits level₀ nodes₀ level nodes = (0 < level) × (level ≤ li
 abbrev μ-loop : tie.MeasureT-loop
 μ-loop limit bits level₀ nodes₀ level nodes = limit + 1 - level
 
-blocks-of-requires : tie.Need-blocks-of-requires Inv-loop μ-loop
-blocks-of-requires c κs = search needs
-
 loop-holds : tie.Need-loop-holds Inv-loop μ-loop
 loop-holds c = let a = c .before .args in (omega arith, omega arith, c .blocks-of .ensures ∙ sym (levelNodes-one (a .bits)), top-start (a .limit) (a .bits))
 
 returns : tie.Need-returns Inv-loop μ-loop
 returns c = let at = c .before .before in let a = at .before .before .args in let e = sym (top-one (a .limit) (a .bits) (at .loop .level) (at .loop .inv .0) (c .before .loop-test .taken) (sym (at .loop .inv .2) ∙ c .if1 .taken)) ∙ at .loop .inv .3 in (e, omega (arith, e, top-most (a .bits) (a .limit) 1 (at .before .before .fits .bits .fits) (omega arith) (omega arith)))
-
-blocks-of-requires-2 : tie.Need-blocks-of-requires-2 Inv-loop μ-loop
-blocks-of-requires-2 c κs = search needs
-
-add-level : tie.Need-add-level Inv-loop μ-loop
-add-level c = search needs
-
-loop-less : tie.Need-loop-less Inv-loop μ-loop
-loop-less c = search needs
 
 loop-again : tie.Need-loop-again Inv-loop μ-loop
 loop-again c = let at = c .before .before .before in let a = at .before .before .args in (omega arith, omega arith, c .blocks-of2 .ensures ∙ ap (blocks 4) (at .loop .inv .2) ∙ sym (levelNodes-more (a .bits) (at .loop .level) (at .loop .inv .0)), sym (top-more (a .limit) (a .bits) (at .loop .level) (at .loop .inv .0) (c .before .before .loop-test .taken) (λ e. c .before .if1 .left (at .loop .inv .2 ∙ e))) ∙ at .loop .inv .3)
@@ -45,13 +32,5 @@ pub top-level-spec : {M : Type 1} → statement M
 top-level-spec =
     tie.close
     (tie.spec
-    Inv-loop
-    μ-loop
-    blocks-of-requires
-    loop-holds
-    returns
-    blocks-of-requires-2
-    add-level
-    loop-less
-    loop-again
-    returns-2)
+    Inv-loop μ-loop (λ c κs. search needs) loop-holds returns (λ c κs. search needs) (λ c. search needs)
+    (λ c. search needs) loop-again returns-2)

@@ -2,14 +2,11 @@
 use Rattle.piece.specs.FeedSteps.{sizeOf, held-le, size-pos}
 use mathlib.Core.Path.{refl, sym, ap, _∙_}
 use Prim.Native.Nat.{ℕ, _-_}
-use Rattle.area.specs.Area.{heldBits}
+use Rattle.calls.specs.Area.{heldBits}
 use Rattle.climb.specs.FlushLaws.{lt-at, le-at}
 use native.Mathlib.Omega.{arith}
 use Rattle.piece.proofs.chunk.free_of.Statement.{statement}
 use Rattle.piece.proofs.chunk.free_of.Tie as tie
-
-size-of-requires : tie.Need-size-of-requires
-size-of-requires c κs = omega arith
 
 held-bits-requires : tie.Need-held-bits-requires
 held-bits-requires c κs = lt-at refl (sym (c .size-of .ensures)) (size-pos (c .before .args .limit) .0)
@@ -29,4 +26,4 @@ returns c =
     ap (λ (x : ℕ). x - c .held-bits .result) S ∙ ap (λ (x : ℕ). sizeOf (start .args .limit) - x) H
 
 pub free-of-spec : {M : Type 1} → statement M
-free-of-spec = tie.close (tie.spec size-of-requires held-bits-requires sub-result returns)
+free-of-spec = tie.close (tie.spec (λ c κs. omega arith) held-bits-requires sub-result returns)

@@ -6,17 +6,11 @@ use native.Mathlib.Omega.{arith}
 use Rattle.piece.proofs.chunk.room_of.Statement.{statement}
 use Rattle.piece.proofs.chunk.room_of.Tie as tie
 
-free-of-requires : tie.Need-free-of-requires
-free-of-requires c κs = omega arith
-
 returns : tie.Need-returns
 returns c =
     let a = c .before .before .args in
     let F = c .before .free-of .ensures in
     F ∙ sym (room-free (a .limit) (a .total) (lt-at refl F (c .if1 .taken)))
-
-size-of-requires : tie.Need-size-of-requires
-size-of-requires c κs = omega arith
 
 returns-2 : tie.Need-returns-2
 returns-2 c =
@@ -24,4 +18,4 @@ returns-2 c =
     c .size-of .ensures ∙ sym (room-full (a .limit) (a .total) (le-at (c .before .before .free-of .ensures) refl (c .before .if1 .left)))
 
 pub room-of-spec : {M : Type 1} → statement M
-room-of-spec = tie.close (tie.spec free-of-requires returns size-of-requires returns-2)
+room-of-spec = tie.close (tie.spec (λ c κs. omega arith) returns (λ c κs. omega arith) returns-2)

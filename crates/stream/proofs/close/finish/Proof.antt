@@ -18,9 +18,6 @@ closing-requires c κs =
     let start-2 = c .before .before .before .before .before .before .before in
     let start = start-2 in (start .pre .opened, start .pre .room)
 
-slice-aggregate-write-digest : tie.Need-slice-aggregate-write-digest
-slice-aggregate-write-digest c = omega arith
-
 slice-read-write-digest : tie.Need-slice-read-write-digest
 slice-read-write-digest c =
     let start = c .before .before .before .before .before .before .before .before .before .before .before .before in
@@ -50,15 +47,6 @@ wipe-requires c κs =
     let start = c .before .before .before .before .before .before .before .before .before .before .before .before .before .before .before .before .before .before in
     start .pre .opened .long
 
-same-length : tie.Need-same-length
-same-length c = omega arith
-
-same-length-2 : tie.Need-same-length-2
-same-length-2 c = omega arith
-
-same-length-3 : tie.Need-same-length-3
-same-length-3 c = omega arith
-
 returns : tie.Need-returns
 returns c =
     let wipe = c .before .before in
@@ -67,27 +55,17 @@ returns c =
     let nodes = close .before .before .before in
     let start = nodes .before .before .before .before .before in
     let a = start .args in
-    let area = a .area .now in (
-      wipe .wipe .ensures ∙ wiped-area area (nodes .nodes-left .result) (nodes .nodes-left .ensures),
-      (
-        write .write-digest .ensures ∙ digest-written area (a .digest .now) (close .closing .result) (getD area 3 0) (start .pre .opened .long) refl (close .closing .ensures .0),
-        (close .closing .ensures .1, nodes .nodes-left .ensures),
-      ),
-    )
+    let area = a .area .now in
+    record {
+      left = wipe .wipe .ensures ∙ wiped-area area (nodes .nodes-left .result) (nodes .nodes-left .ensures);
+      digest = write .write-digest .ensures ∙ digest-written area (a .digest .now) (close .closing .result) (getD area 3 0) (start .pre .opened .long) refl (close .closing .ensures .0);
+      written = close .closing .ensures .1;
+      made = nodes .nodes-left .ensures;
+    }
 
 pub finish-spec : {M : Type 1} → statement M
 finish-spec =
     tie.close
     (tie.spec
-    nodes-left-requires
-    closing-requires
-    slice-aggregate-write-digest
-    slice-read-write-digest
-    write-digest-requires
-    slice-read-all
-    add-all
-    wipe-requires
-    same-length
-    same-length-2
-    same-length-3
-    returns)
+    nodes-left-requires closing-requires (λ c. omega arith) slice-read-write-digest write-digest-requires
+    slice-read-all add-all wipe-requires (λ c. omega arith) (λ c. omega arith) (λ c. omega arith) returns)

@@ -7,23 +7,11 @@ use native.Mathlib.Omega.{arith}
 use Rattle.stream.proofs.close.wipe.Statement.{statement}
 use Rattle.stream.proofs.close.wipe.Tie as tie
 
-slice-write-area : tie.Need-slice-write-area
-slice-write-area c = omega arith
-
 slice-write-area-2 : tie.Need-slice-write-area-2
 slice-write-area-2 c = simp length-set (omega arith)
 
-sub-clear : tie.Need-sub-clear
-sub-clear c = omega arith
-
-part-clear-start : tie.Need-part-clear-start
-part-clear-start c = omega arith
-
 part-clear-end : tie.Need-part-clear-end
 part-clear-end c = simp length-set (omega arith)
-
-clear-requires : tie.Need-clear-requires
-clear-requires c κs = omega arith
 
 same-length : tie.Need-same-length
 same-length c = c .before .area .given .1 ∙ simp length-set
@@ -41,11 +29,5 @@ pub wipe-spec : {M : Type 1} → statement M
 wipe-spec =
     tie.close
     (tie.spec
-    slice-write-area
-    slice-write-area-2
-    sub-clear
-    part-clear-start
-    part-clear-end
-    clear-requires
-    same-length
-    returns)
+    (λ c. omega arith) slice-write-area-2 (λ c. omega arith) (λ c. omega arith) part-clear-end
+    (λ c κs. omega arith) same-length returns)

@@ -8,16 +8,10 @@ use Rattle.stream.proofs.number.area_number.Tie as tie
 returns : tie.Need-returns
 returns c = rw (lt-ltb _ _ (c .if1 .taken))
 
-is-sound-requires : tie.Need-is-sound-requires
-is-sound-requires c κs = omega arith
-
 returns-2 : tie.Need-returns-2
 returns-2 c =
     let sound = c .before in
     rw (le-ltb _ _ (sound .before .if1 .left), sym (sound .is-sound .ensures) ∙ not-true (sound .is-sound .result) (c .if2 .taken))
-
-shared-slice-read-if3 : tie.Need-shared-slice-read-if3
-shared-slice-read-if3 c = omega arith
 
 returns-3 : tie.Need-returns-3
 returns-3 c =
@@ -35,9 +29,4 @@ pub area-number-spec : {M : Type 1} → statement M
 area-number-spec =
     tie.close
     (tie.spec
-    returns
-    is-sound-requires
-    returns-2
-    shared-slice-read-if3
-    returns-3
-    returns-4)
+    returns (λ c κs. omega arith) returns-2 (λ c. omega arith) returns-3 returns-4)

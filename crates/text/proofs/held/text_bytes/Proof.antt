@@ -9,10 +9,7 @@ use borrow.Author.Needs.{needs}
 use native.Mathlib.Omega.{arith}
 use Rattle.text.proofs.held.text_bytes.Statement.{statement}
 use Rattle.text.proofs.held.text_bytes.Tie as tie
-use Rattle.text.proofs.held.text_bytes.Reads as reads
-use Rattle.text.proofs.held.text_bytes.Lts as lts
-use Rattle.text.proofs.held.has_line.Reads as has-line-reads
-use Rattle.area.specs.Area.{areaLevels}
+use Rattle.calls.specs.Area.{areaLevels}
 
 abbrev Inv-loop : tie.InvT-loop
 Inv-loop area n₀ k₀ n k = (k ≤ areaLevels) × (n + length (linesAbove area k) ≡ length (textOf area))
@@ -23,29 +20,17 @@ abbrev μ-loop : tie.MeasureT-loop
 loop-holds : tie.Need-loop-holds Inv-loop μ-loop
 loop-holds c = (omega arith, sym (length-text (c .before .args .area .now) (omega arith)))
 
-add-k : tie.Need-add-k Inv-loop μ-loop
-add-k c = search needs
-
-has-line-requires : tie.Need-has-line-requires Inv-loop μ-loop
-has-line-requires c κs = search needs
-
 add-n : tie.Need-add-n Inv-loop μ-loop
 add-n c =
     let a = c .before .before .before .before .before .args .area .now in
     let e = sym (c .before .has-line .ensures) ∙ c .if1 .taken in
     omega (arith, c .before .before .before .loop .inv .1, length-yes a (c .before .before .before .loop .k) (omega arith) (omega arith) e, text-most a (omega arith))
 
-loop-less : tie.Need-loop-less Inv-loop μ-loop
-loop-less c = search needs
-
 loop-again : tie.Need-loop-again Inv-loop μ-loop
 loop-again c =
     let a = c .before .before .before .before .before .args .area .now in
     let e = sym (c .before .has-line .ensures) ∙ c .if1 .taken in
     (omega arith, omega (arith, c .before .before .before .loop .inv .1, length-yes a (c .before .before .before .loop .k) (omega arith) (omega arith) e))
-
-loop-less-2 : tie.Need-loop-less-2 Inv-loop μ-loop
-loop-less-2 c = search needs
 
 loop-again-2 : tie.Need-loop-again-2 Inv-loop μ-loop
 loop-again-2 c =
@@ -62,14 +47,5 @@ pub text-bytes-spec : {M : Type 1} → statement M
 text-bytes-spec =
     tie.close
     (tie.spec
-    Inv-loop
-    μ-loop
-    loop-holds
-    add-k
-    has-line-requires
-    add-n
-    loop-less
-    loop-again
-    loop-less-2
-    loop-again-2
-    returns)
+    Inv-loop μ-loop loop-holds (λ c. search needs) (λ c κs. search needs) add-n (λ c. search needs) loop-again
+    (λ c. search needs) loop-again-2 returns)

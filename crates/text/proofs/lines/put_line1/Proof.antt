@@ -11,9 +11,6 @@ use borrow.Author.Needs.{needs}
 use native.Mathlib.Omega.{arith}
 use Rattle.text.proofs.lines.put_line1.Statement.{statement}
 use Rattle.text.proofs.lines.put_line1.Tie as tie
-use Rattle.text.proofs.lines.put_line1.Reads as reads
-use Rattle.text.proofs.lines.put_line1.Lts as lts
-use Rattle.digits.proofs.put_digits.Reads as put-digits-reads
 
 abbrev Inv-loop : tie.InvT-loop
 Inv-loop part₀ area a₀ i₀ part a i =
@@ -33,29 +30,11 @@ loop-holds : tie.Need-loop-holds Inv-loop μ-loop
 unfolding flatten
 loop-holds c = (omega arith, refl, refl, omega arith)
 
-mul-w : tie.Need-mul-w Inv-loop μ-loop
-mul-w c = search needs
-
-array-read-w : tie.Need-array-read-w Inv-loop μ-loop
-array-read-w c = search needs
-
-mul-e : tie.Need-mul-e Inv-loop μ-loop
-mul-e c = search needs
-
-array-read-e : tie.Need-array-read-e Inv-loop μ-loop
-array-read-e c = search needs
-
 add-e : tie.Need-add-e Inv-loop μ-loop
 add-e c =
     let f = in-line (c .before .loop .i) (omega arith) in
     let n = f .ends in
     search needs
-
-sub-put-digits : tie.Need-sub-put-digits Inv-loop μ-loop
-sub-put-digits c = search needs
-
-part-put-digits-start : tie.Need-part-put-digits-start Inv-loop μ-loop
-part-put-digits-start c = search needs
 
 part-put-digits-end : tie.Need-part-put-digits-end Inv-loop μ-loop
 part-put-digits-end c = omega (arith, in-line (c .before .loop .i) (omega arith) .ends)
@@ -70,12 +49,6 @@ shared-slice-read-put-digits c = omega (arith, in-line (c .before .before .befor
 
 put-digits-requires : tie.Need-put-digits-requires Inv-loop μ-loop
 put-digits-requires c κs = rw length-take (omega (arith, in-line (c .before .before .before .loop .i) (omega arith) .size))
-
-add-i : tie.Need-add-i Inv-loop μ-loop
-add-i c = search needs
-
-loop-less : tie.Need-loop-less Inv-loop μ-loop
-loop-less c = search needs
 
 loop-again : tie.Need-loop-again Inv-loop μ-loop
 loop-again c =
@@ -99,23 +72,7 @@ pub put-line1-spec : {M : Type 1} → statement M
 put-line1-spec =
     tie.close
     (tie.spec
-    Inv-loop
-    μ-loop
-    loop-holds
-    mul-w
-    array-read-w
-    mul-e
-    array-read-e
-    add-e
-    sub-put-digits
-    part-put-digits-start
-    part-put-digits-end
-    mul-put-digits
-    shared-slice-read-put-digits
-    put-digits-requires
-    add-i
-    loop-less
-    loop-again
-    slice-write-part
-    same-length
-    returns)
+    Inv-loop μ-loop loop-holds (λ c. search needs) (λ c. search needs) (λ c. search needs) (λ c. search needs)
+    add-e (λ c. search needs) (λ c. search needs) part-put-digits-end mul-put-digits
+    shared-slice-read-put-digits put-digits-requires (λ c. search needs) (λ c. search needs) loop-again
+    slice-write-part same-length returns)

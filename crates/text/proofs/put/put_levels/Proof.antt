@@ -7,11 +7,7 @@ use borrow.Author.Needs.{needs}
 use native.Mathlib.Omega.{arith}
 use Rattle.text.proofs.put.put_levels.Statement.{statement}
 use Rattle.text.proofs.put.put_levels.Tie as tie
-use Rattle.text.proofs.put.put_levels.Reads as reads
-use Rattle.text.proofs.put.put_levels.Lts as lts
-use Rattle.text.proofs.held.has_line.Reads as has-line-reads
-use Rattle.text.proofs.lines.put_level.Reads as put-level-reads
-use Rattle.area.specs.Area.{areaLevels}
+use Rattle.calls.specs.Area.{areaLevels}
 
 abbrev Inv-loop : tie.InvT-loop
 Inv-loop part₀ area at₀ k₀ part at k = Putting area part at k
@@ -28,23 +24,11 @@ done c =
 loop-holds : tie.Need-loop-holds Inv-loop μ-loop
 loop-holds c = put-none (c .before .before .args .area .now) (c .before .before .args .part .now) (omega arith)
 
-add-k : tie.Need-add-k Inv-loop μ-loop
-add-k c = search needs
-
-has-line-requires : tie.Need-has-line-requires Inv-loop μ-loop
-has-line-requires c κs = search needs
-
 add-e : tie.Need-add-e Inv-loop μ-loop
 add-e c =
     let z = c .before .before .before .loop in
     let a = c .before .before .before .before .before .before .args in
     omega (arith, put-fits (a .area .now) (z .part) (z .at) (z .k) (z .inv) (omega arith) (omega arith) (sym (c .before .has-line .ensures) ∙ c .if1 .taken))
-
-sub-put-level : tie.Need-sub-put-level Inv-loop μ-loop
-sub-put-level c = search needs
-
-part-put-level-start : tie.Need-part-put-level-start Inv-loop μ-loop
-part-put-level-start c = search needs
 
 part-put-level-end : tie.Need-part-put-level-end Inv-loop μ-loop
 part-put-level-end c =
@@ -52,20 +36,11 @@ part-put-level-end c =
     let a = c .before .before .before .before .before .before .args in
     put-room (a .area .now) (z .part) (z .at) (z .k) (z .inv) (omega arith) (omega arith) (sym (c .before .has-line .ensures) ∙ c .if1 .taken)
 
-put-level-requires : tie.Need-put-level-requires Inv-loop μ-loop
-put-level-requires c κs = search needs
-
-loop-less : tie.Need-loop-less Inv-loop μ-loop
-loop-less c = search needs
-
 loop-again : tie.Need-loop-again Inv-loop μ-loop
 loop-again c =
     let z = c .before .before .before .before .before .before .before .loop in
     let a = c .before .before .before .before .before .before .before .before .before .before .args .area .now in
     put-yes a (z .part) (z .at) (z .k) (z .inv) (omega arith) (omega arith) (c .before .before .put-level .last .0) (sym (c .before .before .before .before .before .has-line .ensures) ∙ c .before .before .before .before .if1 .taken) (c .before .before .put-level .ensures)
-
-loop-less-2 : tie.Need-loop-less-2 Inv-loop μ-loop
-loop-less-2 c = search needs
 
 loop-again-2 : tie.Need-loop-again-2 Inv-loop μ-loop
 loop-again-2 c =
@@ -82,19 +57,6 @@ pub put-levels-spec : {M : Type 1} → statement M
 put-levels-spec =
     tie.close
     (tie.spec
-    Inv-loop
-    μ-loop
-    loop-holds
-    add-k
-    has-line-requires
-    add-e
-    sub-put-level
-    part-put-level-start
-    part-put-level-end
-    put-level-requires
-    loop-less
-    loop-again
-    loop-less-2
-    loop-again-2
-    same-length
-    returns)
+    Inv-loop μ-loop loop-holds (λ c. search needs) (λ c κs. search needs) add-e (λ c. search needs)
+    (λ c. search needs) part-put-level-end (λ c κs. search needs) (λ c. search needs) loop-again
+    (λ c. search needs) loop-again-2 same-length returns)

@@ -6,17 +6,6 @@ use native.Mathlib.Omega.{arith}
 use borrow.Author.Needs.{needs}
 use Rattle.text.proofs.spell.is_readable.Statement.{statement}
 use Rattle.text.proofs.spell.is_readable.Tie as tie
-use Rattle.text.proofs.spell.is_readable.Reads as reads
-use Rattle.text.proofs.spell.is_readable.Lts as lts
-use Rattle.sound.proofs.is_sound.Reads as is-sound-reads
-use Rattle.text.proofs.spell.spell_area.Reads as spell-area-reads
-use Rattle.text.proofs.spell.writes.Reads as writes-reads
-
-spell-area-requires : tie.Need-spell-area-requires
-spell-area-requires c κs = search needs
-
-same-length : tie.Need-same-length
-same-length c = search needs
 
 returns : tie.Need-returns
 returns c =
@@ -42,9 +31,6 @@ writes-requires c κs =
     let y = s .ensures .yes e in
     (omega (arith, length-speltArea t (s .last .0) (y .0)), y .1)
 
-same-length-2 : tie.Need-same-length-2
-same-length-2 c = search needs
-
 returns-2 : tie.Need-returns-2
 returns-2 c =
     let p = c .before .before .before .before .before .before .before .before in
@@ -53,9 +39,6 @@ returns-2 c =
     let e = not-false (s .result) (c .before .before .before .before .before .if1 .left) in
     let w = c .before .writes in
     other-text t (s .last .0) (s .result) (s .ensures) (w .result) e (w .ensures) (not-true (w .result) (c .if2 .taken))
-
-same-length-3 : tie.Need-same-length-3
-same-length-3 c = search needs
 
 returns-3 : tie.Need-returns-3
 returns-3 c =
@@ -71,12 +54,5 @@ pub is-readable-spec : {M : Type 1} → statement M
 is-readable-spec =
     tie.close
     (tie.spec
-    spell-area-requires
-    same-length
-    returns
-    is-sound-requires
-    writes-requires
-    same-length-2
-    returns-2
-    same-length-3
-    returns-3)
+    (λ c κs. search needs) (λ c. search needs) returns is-sound-requires writes-requires (λ c. search needs)
+    returns-2 (λ c. search needs) returns-3)

@@ -2,7 +2,7 @@
 use mathlib.Core.Path.{_≡_, refl, sym, ap, _∙_}
 use Prim.Native.Nat.{ℕ, _-_, _≤_}
 use lib.ListN.{length, take, drop, replicate, length-take, length-set}
-use Rattle.area.specs.Area.{headWords}
+use Rattle.calls.specs.Area.{headWords}
 use Rattle.digits.specs.Digits.{readingNumber}
 use Rattle.text.specs.Text.{line1Fields, digitsIn, speltFields}
 use Rattle.text.specs.FieldLaws.{digits-more, in-line, field-read, field-refused}
@@ -11,10 +11,6 @@ use borrow.Author.Needs.{needs}
 use native.Mathlib.Omega.{arith}
 use Rattle.text.proofs.spell.spell_head.Statement.{statement}
 use Rattle.text.proofs.spell.spell_head.Tie as tie
-use Rattle.text.proofs.spell.spell_head.Reads as reads
-use Rattle.text.proofs.spell.spell_head.Lts as lts
-use Rattle.digits.proofs.number.Reads as number-reads
-use Rattle.digits.proofs.spell_words.Reads as spell-words-reads
 
 abbrev Inv-loop : tie.InvT-loop
 Inv-loop head₀ text a₀ i₀ head a i =
@@ -27,37 +23,16 @@ abbrev μ-loop : tie.MeasureT-loop
 loop-holds : tie.Need-loop-holds Inv-loop μ-loop
 loop-holds c = let e = c .before .before .pre .0 in (omega arith, refl, ap length e, ap (speltFields line1Fields (c .before .before .args .text .now)) (sym e))
 
-mul-w : tie.Need-mul-w Inv-loop μ-loop
-mul-w c = search needs
-
-array-read-w : tie.Need-array-read-w Inv-loop μ-loop
-array-read-w c = search needs
-
-mul-e : tie.Need-mul-e Inv-loop μ-loop
-mul-e c = search needs
-
-array-read-e : tie.Need-array-read-e Inv-loop μ-loop
-array-read-e c = search needs
-
 add-e : tie.Need-add-e Inv-loop μ-loop
 add-e c =
     let n = in-line (c .before .loop .i) (omega arith) .ends in
     search needs
-
-sub-number : tie.Need-sub-number Inv-loop μ-loop
-sub-number c = search needs
-
-part-number-start : tie.Need-part-number-start Inv-loop μ-loop
-part-number-start c = search needs
 
 part-number-end : tie.Need-part-number-end Inv-loop μ-loop
 part-number-end c = omega (arith, in-line (c .before .loop .i) (omega arith) .ends)
 
 number-requires : tie.Need-number-requires Inv-loop μ-loop
 number-requires c κs = rw length-take (omega (arith, in-line (c .before .before .loop .i) (omega arith) .size))
-
-enum-known-x : tie.Need-enum-known-x Inv-loop μ-loop
-enum-known-x c = search needs
 
 mul-head : tie.Need-mul-head Inv-loop μ-loop
 mul-head c =
@@ -66,9 +41,6 @@ mul-head c =
 
 slice-write-head : tie.Need-slice-write-head Inv-loop μ-loop
 slice-write-head c = omega (arith, in-line (c .before .before .before .before .before .before .loop .i) (omega arith) .word)
-
-enum-told : tie.Need-enum-told Inv-loop μ-loop
-enum-told c = search needs
 
 same-length : tie.Need-same-length Inv-loop μ-loop
 same-length c =
@@ -82,12 +54,6 @@ returns c =
     let t = l .before .before .before .args .text .now in
     head-none t (z .inv .3 ∙ field-refused line1Fields (z .i) (omega arith) t (z .head) (z .a) (sym (c .before .before .number .ensures) ∙ ap readingNumber (c .enum-told .given .1)))
 
-add-i : tie.Need-add-i Inv-loop μ-loop
-add-i c = search needs
-
-loop-less : tie.Need-loop-less Inv-loop μ-loop
-loop-less c = search needs
-
 loop-again : tie.Need-loop-again Inv-loop μ-loop
 loop-again c =
     let l = c .before .before .before .before .before .before in
@@ -95,27 +61,6 @@ loop-again c =
     let t = l .before .before .before .args .text .now in
     let r = field-read line1Fields (z .i) (omega arith) t (z .head) (z .a) _ (sym (c .before .before .before .number .ensures) ∙ ap readingNumber (c .before .x .given .1)) in
     (omega arith, omega (arith, digits-more line1Fields (z .i) (omega arith)), rw (length-set (z .head)) (z .inv .2), z .inv .3 ∙ r)
-
-sub-spell-words : tie.Need-sub-spell-words Inv-loop μ-loop
-sub-spell-words c = search needs
-
-part-spell-words-start : tie.Need-part-spell-words-start Inv-loop μ-loop
-part-spell-words-start c = search needs
-
-part-spell-words-end : tie.Need-part-spell-words-end Inv-loop μ-loop
-part-spell-words-end c = search needs
-
-sub-spell-words-2 : tie.Need-sub-spell-words-2 Inv-loop μ-loop
-sub-spell-words-2 c = search needs
-
-part-spell-words-start-2 : tie.Need-part-spell-words-start-2 Inv-loop μ-loop
-part-spell-words-start-2 c = search needs
-
-part-spell-words-end-2 : tie.Need-part-spell-words-end-2 Inv-loop μ-loop
-part-spell-words-end-2 c = search needs
-
-spell-words-requires : tie.Need-spell-words-requires Inv-loop μ-loop
-spell-words-requires c κs = search needs
 
 same-length-2 : tie.Need-same-length-2 Inv-loop μ-loop
 same-length-2 c =
@@ -136,33 +81,8 @@ pub spell-head-spec : {M : Type 1} → statement M
 spell-head-spec =
     tie.close
     (tie.spec
-    Inv-loop
-    μ-loop
-    loop-holds
-    mul-w
-    array-read-w
-    mul-e
-    array-read-e
-    add-e
-    sub-number
-    part-number-start
-    part-number-end
-    number-requires
-    enum-known-x
-    mul-head
-    slice-write-head
-    enum-told
-    same-length
-    returns
-    add-i
-    loop-less
-    loop-again
-    sub-spell-words
-    part-spell-words-start
-    part-spell-words-end
-    sub-spell-words-2
-    part-spell-words-start-2
-    part-spell-words-end-2
-    spell-words-requires
-    same-length-2
-    returns-2)
+    Inv-loop μ-loop loop-holds (λ c. search needs) (λ c. search needs) (λ c. search needs) (λ c. search needs)
+    add-e (λ c. search needs) (λ c. search needs) part-number-end number-requires (λ c. search needs) mul-head
+    slice-write-head (λ c. search needs) same-length returns (λ c. search needs) (λ c. search needs)
+    loop-again (λ c. search needs) (λ c. search needs) (λ c. search needs) (λ c. search needs)
+    (λ c. search needs) (λ c. search needs) (λ c κs. search needs) same-length-2 returns-2)

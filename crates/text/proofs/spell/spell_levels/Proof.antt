@@ -3,17 +3,14 @@ use mathlib.Core.Path.{sym, _∙_}
 use Prim.Native.Nat.{_+_, _-_}
 use borrow.Author.Tests.{not-true, not-false}
 use borrow.Rule.Slice.PartMut.{mid-len}
+use Rattle.text.specs.Text.{levelBytes}
 use Rattle.text.specs.Lines.{above-most}
 use Rattle.text.proofs.SpellLevels.{Spelling, spelling-none, spelling-room, spelling-yes, spelling-no, spelling-refused, spelling-all}
 use borrow.Author.Needs.{needs}
 use native.Mathlib.Omega.{arith}
 use Rattle.text.proofs.spell.spell_levels.Statement.{statement}
 use Rattle.text.proofs.spell.spell_levels.Tie as tie
-use Rattle.text.proofs.spell.spell_levels.Reads as reads
-use Rattle.text.proofs.spell.spell_levels.Lts as lts
-use Rattle.text.proofs.held.has_line.Reads as has-line-reads
-use Rattle.text.proofs.spell.spell_level.Reads as spell-level-reads
-use Rattle.area.specs.Area.{areaLevels}
+use Rattle.calls.specs.Area.{areaLevels}
 
 abbrev Inv-loop : tie.InvT-loop
 Inv-loop area₀ text at₀ k₀ area at k = Spelling area₀ text area at k
@@ -23,9 +20,6 @@ abbrev μ-loop : tie.MeasureT-loop
 
 loop-holds : tie.Need-loop-holds Inv-loop μ-loop
 loop-holds c = spelling-none (c .before .before .args .area .now) (c .before .before .args .text .now) (c .before .before .pre .0) (c .before .before .pre .1) (c .before .before .pre .2)
-
-add-k : tie.Need-add-k Inv-loop μ-loop
-add-k c = search needs
 
 has-line-requires : tie.Need-has-line-requires Inv-loop μ-loop
 has-line-requires c κs = (omega (arith, c .before .before .loop .inv .long), omega arith, omega arith)
@@ -41,12 +35,6 @@ add-e c =
       above-most (a .area .now) (omega arith),
     )
 
-sub-spell-level : tie.Need-sub-spell-level Inv-loop μ-loop
-sub-spell-level c = search needs
-
-part-spell-level-start : tie.Need-part-spell-level-start Inv-loop μ-loop
-part-spell-level-start c = search needs
-
 part-spell-level-end : tie.Need-part-spell-level-end Inv-loop μ-loop
 part-spell-level-end c =
     let z = c .before .before .before .before .before .loop in
@@ -58,10 +46,7 @@ spell-level-requires c κs =
     let z = c .before .before .before .before .before .before .loop in
     let a = c .before .before .before .before .before .before .before .before .before .args in
     let r = spelling-room (a .area .now) (a .text .now) (z .area) (z .at) (z .k) (z .inv) (omega arith) (omega arith) (sym (c .before .before .before .has-line .ensures) ∙ c .before .before .if1 .taken) in
-    (omega (arith, z .inv .long), mid-len (z .at) (z .at + 1027) (a .text .now) r ∙ omega arith, omega arith, omega arith)
-
-same-length : tie.Need-same-length Inv-loop μ-loop
-same-length c = search needs
+    (omega (arith, z .inv .long), mid-len (z .at) (z .at + levelBytes) (a .text .now) r ∙ omega arith, omega arith, omega arith)
 
 returns : tie.Need-returns Inv-loop μ-loop
 returns c =
@@ -72,9 +57,6 @@ returns c =
     spelling-refused (a .area .now) (a .text .now) (l .loop .area) (l .loop .at) (l .loop .k) (l .loop .inv) (omega arith) (p .spell-level .last .0) (p .spell-level .result) (omega arith)
     (sym (h .has-line .ensures) ∙ p .before .before .before .if1 .taken) (p .spell-level .ensures) (not-true (p .spell-level .result) (c .if2 .taken))
 
-loop-less : tie.Need-loop-less Inv-loop μ-loop
-loop-less c = search needs
-
 loop-again : tie.Need-loop-again Inv-loop μ-loop
 loop-again c =
     let p = c .before .before .before in
@@ -83,9 +65,6 @@ loop-again c =
     let a = l .before .before .before .args in
     spelling-yes (a .area .now) (a .text .now) (l .loop .area) (l .loop .at) (l .loop .k) (l .loop .inv) (omega arith) (p .spell-level .last .0) (p .spell-level .result) (omega arith)
     (sym (h .has-line .ensures) ∙ p .before .before .before .if1 .taken) (p .spell-level .ensures) (not-false (p .spell-level .result) (c .if2 .left))
-
-loop-less-2 : tie.Need-loop-less-2 Inv-loop μ-loop
-loop-less-2 c = search needs
 
 loop-again-2 : tie.Need-loop-again-2 Inv-loop μ-loop
 loop-again-2 c =
@@ -102,21 +81,6 @@ pub spell-levels-spec : {M : Type 1} → statement M
 spell-levels-spec =
     tie.close
     (tie.spec
-    Inv-loop
-    μ-loop
-    loop-holds
-    add-k
-    has-line-requires
-    add-e
-    sub-spell-level
-    part-spell-level-start
-    part-spell-level-end
-    spell-level-requires
-    same-length
-    returns
-    loop-less
-    loop-again
-    loop-less-2
-    loop-again-2
-    same-length-2
-    returns-2)
+    Inv-loop μ-loop loop-holds (λ c. search needs) has-line-requires add-e (λ c. search needs)
+    (λ c. search needs) part-spell-level-end spell-level-requires (λ c. search needs) returns
+    (λ c. search needs) loop-again (λ c. search needs) loop-again-2 same-length-2 returns-2)

@@ -1,0 +1,146 @@
+-- Laws: of soundness in Area, as the code tests it: level by level, and then the words before the levels.
+use mathlib.Core.Path.{_≡_, refl, sym, ap, _∙_}
+use mathlib.Core.Bool.{Bool, true, false, _||_, _&&_, and-assoc}
+use mathlib.Core.List.{List}
+use Prim.Native.Nat.{ℕ, zero, suc, _+_, _-_, _*_, _/_, _%_, _≤_, _<_}
+use native.Mathlib.Omega.{arith}
+use lib.Dec.{eqb}
+use lib.ListN.{length, take, drop, getD}
+use lib.Seq.{drop-drop, take-add}
+use borrow.Author.Tests.{eq-eqb, ne-eqb}
+use Rattle.lists.specs.And.{and-first, and-second}
+use Rattle.bits.specs.Bits.{bitsOf}
+use Rattle.bits.specs.BitsLaws.{bitsOf-append, bitsOf-take}
+use Rattle.tree.specs.Tree.{blockBits, sequentialBits, outputBits}
+use Rattle.refusals.specs.Refusals.{firstRefusal, rangeTests, paramTests}
+use Rattle.calls.specs.Moved.{length-key}
+use Rattle.calls.specs.Area.{Hold, cleanAll, allFalse, levelWords, levelsFrom, levelsOf, doneBlocks, heldBits, paramsOf, countFor, openCount, soundPhase, soundParams, soundKey, soundCount, soundLast, soundLevels, sound, areaLevels, blockWords, outputWords, levelStart, levelsUp}
+use Rattle.area.specs.LevelTests.{clean-empty, clean-open, holds-ended, holds-open, emptyFrom, allEmpty, soundSequential, soundAbove, soundOpen}
+use Rattle.tree.specs.Sizes.{treeNodes}
+use Rattle.calls.specs.AreaLaws.{levelsUp-cons, levelsUp-none}
+use Rattle.area.specs.EmptyLaws.{allFalse-append}
+
+-- ---- levels
+
+-- a part of an area that is a level's
+pub record LevelPart (area : List ℕ) (k : ℕ) (part : List ℕ) : Type 0 where
+  pub words : part ≡ levelWords area k
+  pub size : length part ≡ blockWords
+
+-- the part that the code lends is the level's
+pub lent-level : (area : List ℕ) (k : ℕ) → take ((levelStart k + blockWords) - levelStart k) (drop (levelStart k) area) ≡ levelWords area k
+lent-level area k = let e : (levelStart k + blockWords) - levelStart k ≡ blockWords = omega arith in rw e
+
+pub empty-levels : (area : List ℕ) (m k : ℕ) → 1 ≤ k → allEmpty (levelsFrom area m k) ≡ emptyFrom 0 (take (blockWords * m) (drop (levelStart k) area))
+empty-levels area zero k h = refl
+empty-levels area (suc m) k h =
+    let D : List ℕ = drop (levelStart k) area in
+    let e : blockWords * suc m ≡ blockWords + blockWords * m = omega arith in
+    let f : levelStart k + blockWords ≡ levelStart (suc k) = omega arith in
+    rw (e, take-add blockWords (blockWords * m) D, bitsOf-append, allFalse-append, drop-drop blockWords (levelStart k) area, f, empty-levels area m (suc k) (omega arith))
+
+-- the output in front of a sequential level
+chain-empty : (ws : List ℕ) → outputWords ≤ length ws → allFalse (take outputBits (bitsOf 64 ws)) ≡ emptyFrom 0 (take outputWords ws)
+chain-empty ws h = ap allFalse (bitsOf-take 64 outputWords ws h)
+
+pub sequential-kept : (c held : ℕ) (ws : List ℕ) → (c ≡ 0 → ⊥) → soundSequential c held ws ≡ emptyFrom (outputBits + held) ws
+sequential-kept c held ws h = rw (ne-eqb c 0 h)
+
+pub sequential-none : (c held : ℕ) (ws : List ℕ) → c ≡ 0 → outputWords ≤ length ws
+    → soundSequential c held ws ≡ (emptyFrom 0 (take outputWords ws) && emptyFrom (outputBits + held) ws)
+sequential-none c held ws h g = rw (eq-eqb c 0 h, chain-empty ws g)
+
+-- all levels of an open area
+pub open-none : (area : List ℕ) (limit T : ℕ) → limit < 1
+    → soundOpen limit T (levelsOf area)
+    ≡ (soundSequential (doneBlocks sequentialBits T) (heldBits sequentialBits T) (levelWords area 1) && allEmpty (levelsUp area 2))
+unfolding levelsOf
+open-none area zero T h = refl
+open-none area (suc n) T h = absurd (omega arith)
+
+pub open-more : (area : List ℕ) (limit T : ℕ) → 1 ≤ limit
+    → soundOpen limit T (levelsOf area) ≡ (emptyFrom (heldBits blockBits T) (levelWords area 1) && soundAbove (limit - 1) (doneBlocks blockBits T) (levelsUp area 2))
+unfolding levelsOf
+open-more area zero T h = absurd (omega arith)
+open-more area (suc n) T h = let f : suc n - 1 ≡ n = omega arith in rw f
+
+-- the levels of an area, one after the other
+pub above-more : (area : List ℕ) (n i k : ℕ) → 1 ≤ n → k ≤ areaLevels
+    → soundAbove n i (levelsUp area k) ≡ (emptyFrom (outputBits * (i % 4)) (levelWords area k) && soundAbove (n - 1) (i / 4) (levelsUp area (k + 1)))
+above-more area zero i k h g = absurd (omega arith)
+above-more area (suc n) i k h g = let f : suc n - 1 ≡ n = omega arith in rw (levelsUp-cons area k g, f)
+
+pub above-last : (area : List ℕ) (n i k : ℕ) → n < 1 → k ≤ areaLevels
+    → soundAbove n i (levelsUp area k) ≡ (soundSequential (i / 3) (outputBits * (i % 3)) (levelWords area k) && allEmpty (levelsUp area (k + 1)))
+above-last area zero i k h g = rw (levelsUp-cons area k g)
+above-last area (suc n) i k h g = absurd (omega arith)
+
+pub above-none : (area : List ℕ) (n i k : ℕ) → areaLevels < k → soundAbove n i (levelsUp area k) ≡ true
+above-none area n i k h = rw (levelsUp-none area k h) refl
+
+-- ---- the words before the levels
+
+-- the tests of the parameters, by the words that hold their numbers
+pub refused-words : (area : List ℕ)
+    → firstRefusal (paramTests (paramsOf area)) ≡ firstRefusal (rangeTests (getD area 2 0) (getD area 3 0) (getD area 4 0) (getD area 5 0))
+unfolding paramsOf
+refused-words area = rw (length-key area)
+
+-- all that soundness asks of the words before the levels
+unfoldable pub soundHead : List ℕ → Bool
+soundHead area = soundPhase area && (soundParams area && (soundKey area && (soundCount area && soundLast area)))
+
+pub head-phase : (area : List ℕ) → soundPhase area ≡ false → soundHead area ≡ false
+unfolding soundHead
+head-phase area p = and-first (soundPhase area) (soundParams area && (soundKey area && (soundCount area && soundLast area))) p
+
+head-rest : (area : List ℕ) → soundPhase area ≡ true → soundHead area ≡ (soundParams area && (soundKey area && (soundCount area && soundLast area)))
+unfolding soundHead
+head-rest area p = and-second (soundPhase area) (soundParams area && (soundKey area && (soundCount area && soundLast area))) p
+
+pub head-params : (area : List ℕ) → soundPhase area ≡ true → soundParams area ≡ false → soundHead area ≡ false
+head-params area p q = head-rest area p ∙ and-first (soundParams area) (soundKey area && (soundCount area && soundLast area)) q
+
+pub head-more : (area : List ℕ) → soundPhase area ≡ true → soundParams area ≡ true → soundHead area ≡ (soundKey area && (soundCount area && soundLast area))
+head-more area p q = head-rest area p ∙ and-second (soundParams area) (soundKey area && (soundCount area && soundLast area)) q
+
+pub sound-parts : (area : List ℕ) → sound area ≡ (soundHead area && soundLevels area)
+unfolding sound soundHead
+sound-parts area =
+    let a = soundPhase area in
+    let b = soundParams area in
+    let c = soundKey area in
+    let d = soundCount area in
+    let e = soundLast area in
+    let f = soundLevels area in
+    sym
+    (and-assoc a (b && (c && (d && e))) f
+    ∙ ap (_&&_ a) (and-assoc b (c && (d && e)) f ∙ ap (_&&_ b) (and-assoc c (d && e) f ∙ ap (_&&_ c) (and-assoc d e f))))
+
+pub levels-ended : (area : List ℕ) → getD area 0 0 ≡ 2 → soundLevels area ≡ allEmpty (levelsUp area 1)
+unfolding levelsOf
+levels-ended area h =
+    ap (λ (hs : List Hold). cleanAll hs (levelsOf area)) (holds-ended areaLevels (getD area 0 0) (paramsOf area .limit) (getD area 1 0) h)
+    ∙ clean-empty area areaLevels 1
+
+pub levels-open : (area : List ℕ) → (getD area 0 0 ≡ 2 → ⊥) → soundLevels area ≡ soundOpen (getD area 4 0) (getD area 1 0) (levelsOf area)
+unfolding paramsOf levelsOf
+levels-open area h =
+    ap (λ (hs : List Hold). cleanAll hs (levelsOf area)) (holds-open areaLevels (getD area 0 0) (paramsOf area .limit) (getD area 1 0) h)
+    ∙ clean-open area areaLevels (getD area 4 0) (getD area 1 0) 1
+
+pub phase-open : (p : ℕ) → p ≡ 1 → (eqb p 1 || eqb p 2) ≡ true
+phase-open p e = rw (eq-eqb p 1 e)
+
+pub phase-other : (p : ℕ) → (p ≡ 1 → ⊥) → (eqb p 1 || eqb p 2) ≡ eqb p 2
+phase-other p h = rw (ne-eqb p 1 h)
+
+pub count-ended : (p limit T : ℕ) → p ≡ 2 → countFor p limit T ≡ treeNodes limit T
+count-ended p limit T e = rw (eq-eqb p 2 e, countFor)
+
+pub count-open : (p limit T : ℕ) → (p ≡ 2 → ⊥) → countFor p limit T ≡ openCount limit T
+count-open p limit T h = rw (ne-eqb p 2 h, countFor)
+
+pub count-word : (area : List ℕ) → soundCount area ≡ eqb (getD area 14 0) (countFor (getD area 0 0) (getD area 4 0) (getD area 1 0))
+unfolding paramsOf
+count-word area = refl

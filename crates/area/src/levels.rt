@@ -1,0 +1,101 @@
+// Whether the levels of an area are sound: every bit that is neither held nor of a sequential output is zero.
+ghost use mathlib.Core.Bool.{_&&_};
+ghost use mathlib.Core.Path.{_≡_};
+ghost use Prim.Native.Nat.{_+_, _-_, _≤_};
+ghost use lib.ListN.{length};
+ghost use Rattle.tree.specs.Tree.{sequentialBits};
+ghost use Rattle.calls.specs.Area.{areaLevels, outputWords, Long, levelWords, levelsUp, levelsOf, soundLevels};
+ghost use Rattle.area.specs.LevelTests.{allEmpty, soundSequential, soundAbove, soundOpen};
+use super::Area;
+use super::count;
+use super::empty::empty_from;
+use node::Block;
+
+// The bits of an output.
+const OUTPUT: usize = Block::OUTPUT_BITS as usize;
+
+// Whether a sequential level is sound, with so many compressions done and so many bits held.
+fn sequential_sound(part: &[u64], done: u64, held: usize) -> bool
+    requires { ⌜ (outputWords ≤ length (now part)) × (held ≤ sequentialBits) ⌝ }
+    ensures { λ r. ⌜ r ≡ soundSequential done held (now (part .entry)) ⌝ }
+{
+    if done != 0 {
+        return empty_from(part, OUTPUT + held);
+    }
+    if !empty_from(&part[0..Area::OUTPUT], 0) {
+        return false;
+    }
+    empty_from(part, OUTPUT + held)
+}
+
+// Whether the levels from this one on hold nothing.
+fn levels_empty(area: &[u64], level: usize) -> bool
+    requires { ⌜ Long (now area) × (1 ≤ level) × (level ≤ areaLevels + 1) ⌝ }
+    ensures { λ r. ⌜ r ≡ allEmpty (levelsUp (now (area .entry)) level) ⌝ }
+{
+    let a = Area::HEAD + Area::LEVEL * (level - 1);
+    empty_from(&area[a..Area::WORDS], 0)
+}
+
+// Whether the sequential level is sound, and those above it hold nothing.
+fn last_sound(area: &[u64], level: usize, done: u64, held: usize) -> bool
+    requires { ⌜ Long (now area) × (1 ≤ level) × (level ≤ areaLevels) × (held ≤ sequentialBits) ⌝ }
+    ensures { λ r. ⌜ r ≡ (soundSequential done held (levelWords (now (area .entry)) level) && allEmpty (levelsUp (now (area .entry)) (level + 1))) ⌝ }
+{
+    if !sequential_sound(Area::level(area, level), done, held) {
+        return false;
+    }
+    levels_empty(area, level + 1)
+}
+
+// Whether the levels above level 1 are sound, when so many outputs came to level 2 and so many levels from it up may be
+// parallel.
+fn above_sound(area: &[u64], levels: u64, outputs: u64) -> bool
+    requires { ⌜ Long (now area) ⌝ }
+    ensures { λ r. ⌜ r ≡ soundAbove levels outputs (levelsUp (now (area .entry)) 2) ⌝ }
+{
+    let mut n = levels;
+    let mut i = outputs;
+    let mut k: usize = 2;
+    while k <= Area::LEVELS {
+        if n < 1 {
+            return last_sound(area, k, i / 3, OUTPUT * ((i % 3) as usize));
+        }
+        if !empty_from(Area::level(area, k), OUTPUT * ((i % 4) as usize)) {
+            return false;
+        }
+        n = n - 1;
+        i = i / 4;
+        k += 1;
+    }
+    true
+}
+
+// Whether the levels of an open area are sound.
+fn open_sound(area: &[u64], limit: u64, total: u64) -> bool
+    requires { ⌜ Long (now area) ⌝ }
+    ensures { λ r. ⌜ r ≡ soundOpen limit total (levelsOf (now (area .entry))) ⌝ }
+{
+    if limit < 1 {
+        let done = count::done_blocks(Block::SEQUENTIAL_BITS, total);
+        let held = count::held_bits(Block::SEQUENTIAL_BITS, total);
+        return last_sound(area, 1, done, held as usize);
+    }
+    let held = count::held_bits(Block::BITS, total);
+    if !empty_from(&area[Area::HEAD..Area::FIRST_END], held as usize) {
+        return false;
+    }
+    let done = count::done_blocks(Block::BITS, total);
+    above_sound(area, limit - 1, done)
+}
+
+// Whether the levels are sound.
+pub fn levels_sound(area: &[u64]) -> bool
+    requires { ⌜ Long (now area) ⌝ }
+    ensures { λ r. ⌜ r ≡ soundLevels (now (area .entry)) ⌝ }
+{
+    if area[Area::PHASE] == 2 {
+        return levels_empty(area, 1);
+    }
+    open_sound(area, area[Area::LIMIT], area[Area::TOTAL])
+}

@@ -1,0 +1,144 @@
+-- Laws: which calls are accepted: on an area that stands for a message, and with the told log words on any area.
+use mathlib.Core.Path.{_≡_, refl, ap, _∙_}
+use mathlib.Core.Bool.{Bool, true, false, cond}
+use mathlib.Core.List.{List, [], _++_, _∷_}
+use Prim.Native.Nat.{ℕ, _+_, _-_, _*_, _^_, _≤_, _<_}
+use native.Mathlib.Nat.{zero-add}
+use native.Mathlib.Omega.{arith}
+use borrow.Author.Tests.{ltb-true, ltb-false, le-ltb, le-leb}
+use lib.Dec.{leb, ltb}
+use lib.ListN.{length, length-append}
+use Rattle.tree.specs.Tree.{Params, Node, order, digestBytes}
+use Rattle.refusals.specs.Refusals.{firstRefusal, outputTest}
+use Rattle.tree.specs.Sizes.{treeNodes}
+use Rattle.calls.specs.Area.{areaWords, totalOf, paramsOf, levelWords, levelsOf, emptyLevels, openCount, sound, areaLevels, Long}
+use Rattle.calls.specs.Calls.{feedBits, fedBits, feedNumber, closedBy, endNumber, shown, levelOf, logWordsOf, openTests, totalTest, logTest, feedTests, endTests}
+use Rattle.calls.specs.CallLaws.{OpenArea, open-tests}
+use Rattle.calls.specs.Marks.{allNodes, settled}
+use Rattle.calls.specs.Machine
+use Rattle.calls.specs.Counts
+use Rattle.refusals.specs.RefusalLaws.{passed-by}
+use Rattle.lists.specs.And.{and-intro}
+use Rattle.bits.specs.Piece.{Piece, pieceBits, bitsTest}
+use Rattle.bits.specs.PieceLaws.{length-pieceBits, bits-there}
+use Rattle.calls.specs.AreaLaws.{length-levelsOf}
+use Rattle.calls.specs.Sound.{state-size}
+use Rattle.calls.specs.Stands.{state-settled, state-all, Stands, Closed, stands-sound, closed-sound}
+
+-- ---- the count of word 14 is a number of nodes
+
+module _ (P : Params) (M : List Bool) (short : length M < 2 ^ 64) where
+  fed : Machine.State P (P .limit) M (feedBits P 0 M (emptyLevels areaLevels) .levels) (feedBits P 0 M (emptyLevels areaLevels) .nodes)
+  fed = Machine.state-fed P [] M (emptyLevels areaLevels) [] (omega arith) (Machine.state-open P (P .limit))
+
+  -- open: the nodes that do not reach the last bit
+  pub openCount-nodes : openCount (P .limit) (length M) ≡ length (settled (order P M))
+  openCount-nodes =
+      let c = Counts.feedBits-count P 0 M (emptyLevels areaLevels) (state-size P (P .limit) [] (emptyLevels areaLevels) [] (Machine.state-open P (P .limit))) (omega arith) in
+      let z : openCount (P .limit) (0 + length M) ≡ openCount (P .limit) (length M) = ap (openCount (P .limit)) (zero-add (length M)) in
+      let s = ap length (state-settled P M (feedBits P 0 M (emptyLevels areaLevels) .levels) (feedBits P 0 M (emptyLevels areaLevels) .nodes) short fed) in
+      omega (arith, c, z, s, Counts.openCount-none (P .limit))
+
+-- ---- an area that stands for a message
+
+module _ {P : Params} {M : List Bool} {area : List ℕ} (s : Stands P M area) where
+  opened : OpenArea area
+  opened = record { long = s .head .long; sound = stands-sound s; phase = omega (arith, s .phase) }
+
+  -- a feed is neither refused by 7 nor by 10
+  pub feed-tests : (piece : Piece) (log : List ℕ) →
+      feedNumber area piece log ≡ firstRefusal (feedTests (length M) (length (fedBits area (pieceBits piece) .nodes)) piece log)
+  unfolding feedNumber
+  feed-tests piece log = open-tests opened (feedTests (totalOf area) (length (fedBits area (pieceBits piece) .nodes)) piece log) ∙ rw (s .head .total)
+
+  -- an end neither
+  pub end-tests : (out log : List ℕ) → endNumber area out log ≡ firstRefusal (endTests (P .d) (length (closedBy area)) out log)
+  unfolding endNumber
+  end-tests out log = open-tests opened (endTests (paramsOf area .d) (length (closedBy area)) out log) ∙ rw (s .head .params)
+
+  -- the nodes that a feed of Y would make
+  pub feed-nodes : (Y : List Bool) → length M + length Y < 2 ^ 64 → settled (order P (M ++ Y)) ≡ settled (order P M) ++ fedBits area Y .nodes
+  unfolding fedBits
+  feed-nodes Y h =
+      rw (s .head .params, s .head .total)
+      (state-settled P (M ++ Y) (feedBits P (length M) Y (levelsOf area) .levels) (settled (order P M) ++ feedBits P (length M) Y (levelsOf area) .nodes)
+      (rw (length-append M Y) h) (Machine.state-fed P M Y (levelsOf area) (settled (order P M)) h (s .state)))
+
+  -- and those that an end would make
+  pub end-nodes : allNodes (order P M) ≡ settled (order P M) ++ closedBy area
+  unfolding closedBy
+  end-nodes = rw (s .head .params, s .head .total) (state-all P M (levelsOf area) (settled (order P M)) (s .head .short) (s .state))
+
+-- ---- an area that ended
+
+module _ {P : Params} {M : List Bool} {area : List ℕ} (s : Closed P M area) where
+  pub feed-ended : (piece : Piece) (log : List ℕ) → feedNumber area piece log ≡ 10
+  unfolding feedNumber
+  feed-ended piece log = rw (le-ltb (length area) areaWords (s .head .long), closed-sound s, s .phase) refl
+
+  pub end-ended : (out log : List ℕ) → endNumber area out log ≡ 10
+  unfolding endNumber
+  end-ended out log = rw (le-ltb (length area) areaWords (s .head .long), closed-sound s, s .phase) refl
+
+-- ---- a level shown
+
+shown-all : (area : List ℕ) (level : ℕ) → leb areaWords (length area) ≡ true → sound area ≡ true → leb 1 level ≡ true →
+    leb level areaLevels ≡ true → shown area level ≡ true
+unfolding shown
+shown-all area level a b c d = and-intro a (and-intro b (and-intro c d))
+
+pub level-shown : (area : List ℕ) (level : ℕ) → Long area → sound area ≡ true → 1 ≤ level → level ≤ areaLevels →
+    levelOf area level ≡ levelWords area level
+unfolding levelOf
+level-shown area level h e l m = rw (yes-shown, levelOf) refl
+  where
+    yes-shown : shown area level ≡ true
+    yes-shown = shown-all area level (le-leb areaWords (length area) h) e (le-leb 1 level l) (le-leb level areaLevels m)
+
+-- ---- how many nodes a feed and an end make, for any area
+
+pub fed-count : (area : List ℕ) (Y : List Bool) → totalOf area + length Y < 2 ^ 64 →
+    length (fedBits area Y .nodes) + openCount (paramsOf area .limit) (totalOf area) ≡ openCount (paramsOf area .limit) (totalOf area + length Y)
+unfolding fedBits
+fed-count area Y h = Counts.feedBits-count (paramsOf area) (totalOf area) Y (levelsOf area) (length-levelsOf area) h
+
+pub closed-count : (area : List ℕ) → totalOf area < 2 ^ 64 →
+    length (closedBy area) + openCount (paramsOf area .limit) (totalOf area) ≡ treeNodes (paramsOf area .limit) (totalOf area)
+unfolding closedBy
+closed-count area h = Counts.closing-count (paramsOf area) (paramsOf area .limit) (totalOf area) (levelsOf area) (length-levelsOf area) h
+
+-- ---- log words
+
+-- a call is refused by 8 only if the log is too short
+number-eight : (nodes : ℕ) (log : List ℕ) → firstRefusal (logTest nodes log ∷ []) ≡ 8 → length log < 2 * nodes
+number-eight nodes log = go (ltb (length log) (2 * nodes)) refl
+  where
+    go : (b : Bool) → ltb (length log) (2 * nodes) ≡ b → _≡_ {A = ℕ} (cond b 8 0) 8 → length log < 2 * nodes
+    go true t e = ltb-true (length log) (2 * nodes) t
+    go false t e = absurd (omega arith)
+
+-- for all areas, pieces and logs: with the told log words a feed of so many bits does not answer 8
+pub told-enough : (area : List ℕ) (piece : Piece) (log : List ℕ) → logWordsOf (piece .count) ≤ length log → feedNumber area piece log ≡ 8 → ⊥
+unfolding feedNumber fedBits
+told-enough area piece log h e =
+    let Y : List Bool = pieceBits piece in
+    let nodes : List Node = feedBits (paramsOf area) (totalOf area) Y (levelsOf area) .nodes in
+    let p = passed-by 8 (openTests area) (feedTests (totalOf area) (length nodes) piece log) refl e in
+    let q = passed-by 8 (bitsTest piece ∷ totalTest (totalOf area) (piece .count) ∷ []) (logTest (length nodes) log ∷ []) refl (p .1) in
+    let few = number-eight (length nodes) log (q .1) in
+    let l : length Y ≡ piece .count = length-pieceBits piece (bits-there piece (q .0 0)) in
+    let small : totalOf area + piece .count < 2 ^ 64 = omega (arith, ltb-false (2 ^ 64 - 1) (totalOf area + piece .count) (q .0 1)) in
+    let c = Counts.feedBits-count (paramsOf area) (totalOf area) Y (levelsOf area) (length-levelsOf area) (rw l small) in
+    let g = Counts.logWords-enough (paramsOf area .limit) (totalOf area) (piece .count) (length nodes) small (rw l at c) in
+    omega arith
+
+-- "End needs at most 54": with a log of 54 words an end does not answer 8
+pub end-enough : (area out log : List ℕ) → 54 ≤ length log → endNumber area out log ≡ 8 → ⊥
+unfolding endNumber closedBy
+end-enough area out log h e =
+    let nodes : List Node = Rattle.calls.specs.Calls.closing (paramsOf area) (paramsOf area .limit) (totalOf area) (levelsOf area) in
+    let p = passed-by 8 (openTests area ++ (outputTest (digestBytes (paramsOf area .d)) out ∷ [])) (logTest (length nodes) log ∷ []) refl e in
+    let few = number-eight (length nodes) log (p .1) in
+    let z = length-levelsOf area in
+    let g = Counts.closing-bound (paramsOf area) (paramsOf area .limit) (totalOf area) (levelsOf area) (omega arith) in
+    omega arith

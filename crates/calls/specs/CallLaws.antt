@@ -1,0 +1,124 @@
+-- Laws: what the calls answer, accepted and refused: the laws of their definitions.
+use mathlib.Core.Path.{_≡_, refl, ap}
+use mathlib.Core.Bool.{Bool, true, false}
+use mathlib.Core.List.{List, [], _∷_, _++_}
+use Prim.Native.Nat.{ℕ, _+_, _-_, _*_, _^_, _≤_, _<_}
+use native.Mathlib.Omega.{arith}
+use borrow.Author.Tests.{ltb-false, eqb-false, not-false, le-ltb, ne-eqb}
+use lib.ListN.{length, take, drop}
+use lib.Seq.{take-at}
+use Rattle.bits.specs.Piece.{Piece, pieceBits, Fits}
+use Rattle.bits.specs.PieceLaws.{bits-there}
+use Rattle.tree.specs.Tree.{Params, Node, digestBytes}
+use Rattle.refusals.specs.Refusals.{firstRefusal, paramTests}
+use Rattle.refusals.specs.RefusalLaws.{testAt, passed-by, passed, answer-number, answer-refused}
+use Rattle.calls.specs.Area.{areaWords, phaseOf, totalOf, paramsOf, sound}
+use Rattle.calls.specs.Calls.{Made, nodeLog, logged, openNumber, openedArea, openOf, fedBits, feedNumber, fedArea, feedOf, closedBy, endNumber, endedArea, digestOut, endOf, shortTest, openTests, Opened, Fed, feedTests, Finished, endTests}
+
+-- ---- the log
+
+pub length-nodeLog : (nodes : List Node) → length (nodeLog nodes) ≡ 2 * length nodes
+length-nodeLog [] = refl
+length-nodeLog (m ∷ nodes) = omega (arith, length-nodeLog nodes)
+
+pub nodeLog-append : (xs ys : List Node) → nodeLog (xs ++ ys) ≡ nodeLog xs ++ nodeLog ys
+nodeLog-append [] ys = refl
+nodeLog-append (x ∷ xs) ys = ap (λ (l : List ℕ). x .u ∷ x .v ∷ l) (nodeLog-append xs ys)
+
+-- the words of the log that a call wrote
+pub logged-front : (nodes : List Node) (log : List ℕ) → take (2 * length nodes) (logged nodes log) ≡ nodeLog nodes
+logged-front nodes log = take-at (nodeLog nodes) (drop (2 * length nodes) log) (2 * length nodes) (length-nodeLog nodes)
+
+-- ---- an area that is long enough, sound and open
+
+pub record OpenArea (area : List ℕ) : Type 0 where
+  pub long : areaWords ≤ length area
+  pub sound : sound area ≡ true
+  pub phase : phaseOf area ≡ 2 → ⊥
+
+-- it passes the tests of an open area, and an area that passes them is one
+pub open-area : (area : List ℕ) → ((k : ℕ) → testAt (openTests area) k ≡ false) → OpenArea area
+open-area area p = record { long = ltb-false _ _ (p 0); sound = not-false _ (p 1); phase = eqb-false _ _ (p 2) }
+
+pub open-tests : {area : List ℕ} → OpenArea area → (later : List (Bool × ℕ)) → firstRefusal (openTests area ++ later) ≡ firstRefusal later
+open-tests {area} o later = rw (le-ltb (length area) areaWords (o .long), o .sound, ne-eqb (phaseOf area) 2 (o .phase))
+
+-- ---- open
+
+pub open-number : (area : List ℕ) (P : Params) → openOf area P .number ≡ openNumber area P
+unfolding openOf
+open-number area P = answer-number (λ (x : Opened). x .number) (openNumber area P) _ _ refl (λ k. refl)
+
+pub open-accepted : (area : List ℕ) (P : Params) → openNumber area P ≡ 0 → openOf area P ≡ record { number = 0; count = 0; area = openedArea area P }
+unfolding openOf
+open-accepted area P e = rw e refl
+
+pub open-refused : (area : List ℕ) (P : Params) (k : ℕ) → k ≡ openNumber area P → (k ≡ 0 → ⊥) → record { number = k; count = 0; area = area } ≡ openOf area P
+unfolding openOf
+open-refused area P k = answer-refused k (openNumber area P) _ (λ k. record { number = k; count = 0; area = area })
+
+-- what an accepted open tells
+pub open-passed : (area : List ℕ) (P : Params) → openNumber area P ≡ 0 → (areaWords ≤ length area) × (firstRefusal (paramTests P) ≡ 0)
+unfolding openNumber
+open-passed area P e = let p = passed-by 0 (shortTest area ∷ []) (paramTests P) refl e in (ltb-false _ _ (p .0 0), p .1)
+
+-- ---- feed
+
+pub feed-number : (area : List ℕ) (piece : Piece) (log : List ℕ) → feedOf area piece log .number ≡ feedNumber area piece log
+unfolding feedOf
+feed-number area piece log = answer-number (λ (x : Fed). x .number) (feedNumber area piece log) _ _ refl (λ k. refl)
+
+pub feed-accepted : (area : List ℕ) (piece : Piece) (log : List ℕ) → feedNumber area piece log ≡ 0 → feedOf area piece log ≡
+    (let made : Made = fedBits area (pieceBits piece) in
+    record { number = 0; count = length (made .nodes); area = fedArea area (piece .count) made; log = logged (made .nodes) log })
+unfolding feedOf
+feed-accepted area piece log e = rw e refl
+
+pub feed-refused : (area : List ℕ) (piece : Piece) (log : List ℕ) (k : ℕ) → k ≡ feedNumber area piece log → (k ≡ 0 → ⊥) →
+    record { number = k; count = 0; area = area; log = log } ≡ feedOf area piece log
+unfolding feedOf
+feed-refused area piece log k = answer-refused k (feedNumber area piece log) _ (λ k. record { number = k; count = 0; area = area; log = log })
+
+-- what an accepted feed tells
+pub record FeedPassed (area : List ℕ) (piece : Piece) (log : List ℕ) : Type 0 where
+  pub opened : OpenArea area
+  pub bits : Fits piece
+  pub total : totalOf area + piece .count < 2 ^ 64
+  pub room : 2 * length (fedBits area (pieceBits piece) .nodes) ≤ length log
+
+pub feed-passed : (area : List ℕ) (piece : Piece) (log : List ℕ) → feedNumber area piece log ≡ 0 → FeedPassed area piece log
+unfolding feedNumber
+feed-passed area piece log e =
+    let nodes : ℕ = length (fedBits area (pieceBits piece) .nodes) in
+    let p = passed-by 0 (openTests area) (feedTests (totalOf area) nodes piece log) refl e in
+    let q = passed (feedTests (totalOf area) nodes piece log) refl (p .1) in
+    record { opened = open-area area (p .0); bits = bits-there piece (q 0); total = omega (arith, ltb-false (2 ^ 64 - 1) (totalOf area + piece .count) (q 1)); room = ltb-false _ _ (q 2) }
+
+-- ---- end
+
+pub end-number : (area out log : List ℕ) → endOf area out log .number ≡ endNumber area out log
+unfolding endOf
+end-number area out log = answer-number (λ (x : Finished). x .number) (endNumber area out log) _ _ refl (λ k. refl)
+
+pub end-accepted : (area out log : List ℕ) → endNumber area out log ≡ 0 → endOf area out log ≡
+    (let nodes : List Node = closedBy area in
+    record { number = 0; count = length nodes; area = endedArea area nodes; digest = digestOut area nodes out; log = logged nodes log })
+unfolding endOf
+end-accepted area out log e = rw e refl
+
+pub end-refused : (area out log : List ℕ) (k : ℕ) → k ≡ endNumber area out log → (k ≡ 0 → ⊥) →
+    record { number = k; count = 0; area = area; digest = out; log = log } ≡ endOf area out log
+unfolding endOf
+end-refused area out log k = answer-refused k (endNumber area out log) _ (λ k. record { number = k; count = 0; area = area; digest = out; log = log })
+
+pub record EndPassed (area out log : List ℕ) : Type 0 where
+  pub opened : OpenArea area
+  pub output : digestBytes (paramsOf area .d) ≤ length out
+  pub room : 2 * length (closedBy area) ≤ length log
+
+pub end-passed : (area out log : List ℕ) → endNumber area out log ≡ 0 → EndPassed area out log
+unfolding endNumber
+end-passed area out log e =
+    let p = passed-by 0 (openTests area) (endTests (paramsOf area .d) (length (closedBy area)) out log) refl e in
+    let q = passed (endTests (paramsOf area .d) (length (closedBy area)) out log) refl (p .1) in
+    record { opened = open-area area (p .0); output = ltb-false _ _ (q 0); room = ltb-false _ _ (q 1) }

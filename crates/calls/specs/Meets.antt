@@ -1,0 +1,77 @@
+-- Laws: one accepted open, feed or end meets the tree: what a feed logs are U and V of the nodes that no longer reach the last bit, in
+-- order; what the end logs, of those that are left; and the digest is the tree's.
+use mathlib.Core.Path.{_≡_, sym, ap, _∙_}
+use mathlib.Core.Bool.{Bool}
+use mathlib.Core.List.{List, [], _++_}
+use Prim.Native.Nat.{ℕ, _+_, _*_}
+use lib.ListN.{length, take, drop, length-append, length-map}
+use Rattle.lists.specs.Below.{Below}
+use Rattle.bits.specs.Piece.{Piece, pieceBits}
+use Rattle.tree.specs.Tree.{Params, Mark, order, digest, digestBytes}
+use Rattle.calls.specs.Area.{areaWords}
+use Rattle.calls.specs.Calls.{Made, Fed, Finished, nodeLog, openNumber, openOf, fedBits, feedNumber, fedArea, feedOf, closedBy, endNumber, endedArea, digestOut, endOf}
+use Rattle.calls.specs.Marks.{allNodes, settled}
+use Rattle.calls.specs.CallLaws.{nodeLog-append, logged-front, open-number, open-accepted, feed-number, feed-accepted, end-number, end-accepted}
+use Rattle.calls.specs.Stands.{Stands, Closed, open-stands, FeedDone, feed-stands, EndDone, end-closed}
+
+-- ---- a feed
+
+pub record FedOnce (P : Params) (M Y : List Bool) (area : List ℕ) (f : Fed) : Type 0 where
+  pub stands : Stands P (M ++ Y) (f .area)
+  pub log : nodeLog (settled (order P (M ++ Y))) ≡ nodeLog (settled (order P M)) ++ take (2 * f .count) (f .log)
+  pub count : length (settled (order P (M ++ Y))) ≡ length (settled (order P M)) + f .count
+  pub size : length (f .area) ≡ length area
+  pub tail : drop areaWords (f .area) ≡ drop areaWords area
+
+pub feed-one : (P : Params) (M : List Bool) (area : List ℕ) (piece : Piece) (log : List ℕ) → Stands P M area → feedOf area piece log .number ≡ 0 →
+    FedOnce P M (pieceBits piece) area (feedOf area piece log)
+feed-one P M area piece log s e = rw (feed-accepted area piece log z) record {
+  stands = d .stands;
+  log = ap nodeLog (d .added) ∙ nodeLog-append (settled (order P M)) (made .nodes) ∙ rw (logged-front (made .nodes) log);
+  count = ap length (d .added) ∙ length-append (settled (order P M)) (made .nodes);
+  size = d .size;
+  tail = d .tail;
+}
+  where
+    z : feedNumber area piece log ≡ 0
+    z = sym (feed-number area piece log) ∙ e
+
+    made : Made
+    made = fedBits area (pieceBits piece)
+
+    d : FeedDone P M (pieceBits piece) area (fedBits area (pieceBits piece)) (fedArea area (piece .count) (fedBits area (pieceBits piece)))
+    d = feed-stands P M area piece log s z
+
+-- ---- an end
+
+pub record EndedOnce (P : Params) (M : List Bool) (area out : List ℕ) (e : Finished) : Type 0 where
+  pub closed : Closed P M (e .area)
+  pub log : nodeLog (allNodes (order P M)) ≡ nodeLog (settled (order P M)) ++ take (2 * e .count) (e .log)
+  pub count : length (order P M) ≡ length (settled (order P M)) + e .count
+  pub digest : e .digest ≡ digest P M ++ drop (digestBytes (P .d)) out
+  pub size : length (e .area) ≡ length area
+  pub tail : drop areaWords (e .area) ≡ drop areaWords area
+
+pub end-one : (P : Params) (M : List Bool) (area out log : List ℕ) → Stands P M area → endOf area out log .number ≡ 0 →
+    EndedOnce P M area out (endOf area out log)
+end-one P M area out log s e = rw (end-accepted area out log z) record {
+  closed = d .closed;
+  log = ap nodeLog (d .all) ∙ nodeLog-append (settled (order P M)) (closedBy area) ∙ rw (logged-front (closedBy area) log);
+  count = sym (length-map (order P M) (λ (m : Mark). m .node)) ∙ ap length (d .all) ∙ length-append (settled (order P M)) (closedBy area);
+  digest = d .digest;
+  size = d .size;
+  tail = d .tail;
+}
+  where
+    z : endNumber area out log ≡ 0
+    z = sym (end-number area out log) ∙ e
+
+    d : EndDone P M area out (closedBy area) (endedArea area (closedBy area)) (digestOut area (closedBy area) out)
+    d = end-closed P M area out s
+
+-- ---- an open
+
+pub open-one : (area : List ℕ) (P : Params) → Below 256 (P .key) → openOf area P .number ≡ 0 → Stands P [] (openOf area P .area)
+open-one area P key e =
+    let z : openNumber area P ≡ 0 = sym (open-number area P) ∙ e in
+    rw (open-accepted area P z) (open-stands area P key z)

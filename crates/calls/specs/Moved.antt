@@ -1,0 +1,259 @@
+-- Laws: what an area stands for goes by its first 1,744 words, which are words of 64 bits.
+use mathlib.Core.Path.{_≡_, refl, sym, ap, _∙_}
+use mathlib.Core.Bool.{Bool, true, false, _||_}
+use mathlib.Core.List.{List, [], _∷_, _++_, flatten}
+use Prim.Native.Nat.{ℕ, zero, suc, _+_, _-_, _/_, _^_, _≤_, _<_}
+use native.Mathlib.Omega.{arith}
+use borrow.Author.Tests.{ltb-true, ltb-false, eqb-true}
+use lib.Dec.{eqb, ltb}
+use lib.ListN.{length, take, drop, getD, replicate, length-drop}
+use lib.Seq.{take-take, getD-take, getD-drop, length-take-le, take-add}
+use Rattle.lists.specs.Append.{cons-eq}
+use Rattle.lists.specs.Below.{Below, none}
+use Rattle.lists.specs.BelowLaws.{below-append, below-all, below-at, below-take, below-drop, below-zeros}
+use Rattle.lists.specs.And.{and-intro, and-parts}
+use Rattle.lists.specs.Take.{take-drop-take}
+use Rattle.bits.specs.Bits.{bitsOf}
+use Rattle.bits.specs.BitsLaws.{length-numbers, numbers-below}
+use Rattle.tree.specs.Tree.{mostLevels, Params, Valid, Node, Mark, Subtree, keyWords, order, blockBits}
+use Rattle.tree.specs.TreeLaws.{keyWords-below, length-keyWords}
+use Rattle.refusals.specs.Refusals.{firstRefusal, paramTests}
+use Rattle.tree.specs.Count.{treeNodes-bound}
+use Rattle.calls.specs.Area.{headWords, areaWords, phaseOf, totalOf, keyBytesOf, kOf, compressionsOf, paramsOf, levelsFrom, levelsOf, emptyLevel, emptyLevels, openAbove, openCount, countFor, soundPhase, soundParams, soundKey, soundCount, soundLast, soundLevels, holdsFor, cleanAll, sound, areaLevels, levelStart, blockWords, Long}
+use Rattle.calls.specs.Marks.{settled}
+use Rattle.calls.specs.Block.{blockOf-below}
+use Rattle.calls.specs.Rows.{over}
+use Rattle.calls.specs.Receive
+use Rattle.calls.specs.Machine
+use Rattle.calls.specs.Counts
+use Rattle.calls.specs.AreaLaws.{same-word, same-key, same-params, key-words}
+use Rattle.refusals.specs.RefusalLaws.{params-valid}
+use Rattle.calls.specs.FeedLaws.{flatten-from}
+use Rattle.calls.specs.Stands.{Head, Stands, Closed}
+
+-- ---- the tests of soundness
+
+pub record Tests (area : List ℕ) : Type 0 where
+  pub phase : soundPhase area ≡ true
+  pub params : soundParams area ≡ true
+  pub key : soundKey area ≡ true
+  pub count : soundCount area ≡ true
+  pub last : soundLast area ≡ true
+  pub levels : soundLevels area ≡ true
+
+pub sound-tests : (area : List ℕ) → sound area ≡ true → Tests area
+unfolding sound
+sound-tests area e =
+    let a = and-parts (soundPhase area) _ e in
+    let b = and-parts (soundParams area) _ (a .1) in
+    let c = and-parts (soundKey area) _ (b .1) in
+    let d = and-parts (soundCount area) _ (c .1) in
+    let f = and-parts (soundLast area) _ (d .1) in
+    record { phase = a .0; params = b .0; key = c .0; count = d .0; last = f .0; levels = f .1 }
+
+pub tests-sound : (area : List ℕ) → Tests area → sound area ≡ true
+unfolding sound
+tests-sound area t =
+    and-intro (t .phase) (and-intro (t .params) (and-intro (t .key) (and-intro (t .count) (and-intro (t .last) (t .levels)))))
+
+pub length-key : (area : List ℕ) → length (paramsOf area .key) ≡ keyBytesOf area
+unfolding paramsOf
+length-key area = length-numbers 8 (keyBytesOf area) (bitsOf 64 (kOf area))
+
+-- the parameters of a sound area are in range
+pub sound-valid : (area : List ℕ) → sound area ≡ true → Valid (paramsOf area)
+unfolding paramsOf
+sound-valid area e =
+    params-valid (paramsOf area) (numbers-below 8 (keyBytesOf area) (bitsOf 64 (kOf area))) (eqb-true (firstRefusal (paramTests (paramsOf area))) 0 (sound-tests area e .params))
+
+-- K of a sound area is K of the key that it stands for
+pub sound-key : (area : List ℕ) → Long area → Below (2 ^ 64) area → sound area ≡ true → keyWords (paramsOf area .key) ≡ kOf area
+unfolding paramsOf
+sound-key area h b e =
+    let v = sound-valid area e in
+    key-words (kOf area) (keyBytesOf area) (below-take 8 (below-drop 6 b)) (length-take-le 8 (drop 6 area) (rw (length-drop 6 area) (omega arith)))
+    (omega (arith, v .keyBytes, length-key area)) (sound-tests area e .key)
+
+-- ---- the first 1,744 words
+
+levels-front : (area : List ℕ) (n k : ℕ) → 0 < k → n + k ≤ areaLevels + 1 → levelsFrom (take areaWords area) n k ≡ levelsFrom area n k
+levels-front area zero k p h = refl
+levels-front area (suc n) k p h =
+    cons-eq (take-drop-take areaWords (levelStart k) blockWords area (omega arith)) (levels-front area n (suc k) (omega arith) (omega arith))
+
+levelsOf-front : (area : List ℕ) → levelsOf (take areaWords area) ≡ levelsOf area
+unfolding levelsOf
+levelsOf-front area = levels-front area areaLevels 1 (omega arith) (omega arith)
+
+-- two areas that agree in their first 1,744 words
+pub record Same (x y : List ℕ) : Type 0 where
+  pub word : (i : ℕ) → i < headWords → getD x i 0 ≡ getD y i 0
+  pub key : kOf x ≡ kOf y
+  pub params : paramsOf x ≡ paramsOf y
+  pub levels : levelsOf x ≡ levelsOf y
+
+pub same-front : (x y : List ℕ) → Long x → Long y → take areaWords x ≡ take areaWords y → Same x y
+same-front x y hx hy e =
+    let t : take headWords x ≡ take headWords y =
+    sym (take-take headWords areaWords x (omega arith)) ∙ ap (take headWords) e ∙ take-take headWords areaWords y (omega arith) in
+    let k = same-key x y (omega arith) (omega arith) t in
+    record {
+      word = same-word x y t;
+      key = k;
+      params = same-params x y k (λ i h g. same-word x y t i (omega arith));
+      levels = sym (levelsOf-front x) ∙ ap levelsOf e ∙ levelsOf-front y;
+    }
+
+pub same-sound : (x y : List ℕ) → Same x y → sound x ≡ sound y
+unfolding sound
+same-sound x y s =
+    let w0 = s .word 0 (omega arith) in
+    let w1 = s .word 1 (omega arith) in
+    let w2 = s .word 2 (omega arith) in
+    let w14 = s .word 14 (omega arith) in
+    let phase : soundPhase x ≡ soundPhase y = ap (λ (p : ℕ). eqb p 1 || eqb p 2) w0 in
+    let params : soundParams x ≡ soundParams y = ap (λ (P : Params). eqb (firstRefusal (paramTests P)) 0) (s .params) in
+    let key : soundKey x ≡ soundKey y = rw (s .key, w2) refl in
+    let count : soundCount x ≡ soundCount y =
+    ap (λ (c : ℕ). eqb c (countFor (phaseOf x) (paramsOf x .limit) (totalOf x))) w14
+    ∙ ap (λ (p : ℕ). eqb (compressionsOf y) (countFor p (paramsOf x .limit) (totalOf x))) w0
+    ∙ ap (λ (P : Params). eqb (compressionsOf y) (countFor (phaseOf y) (P .limit) (totalOf x))) (s .params)
+    ∙ ap (λ (T : ℕ). eqb (compressionsOf y) (countFor (phaseOf y) (paramsOf y .limit) T)) w1 in
+    let last : soundLast x ≡ soundLast y = ap (λ (w : ℕ). eqb w 0) (s .word 15 (omega arith)) in
+    let levels : soundLevels x ≡ soundLevels y =
+    ap (λ (p : ℕ). cleanAll (holdsFor areaLevels p (paramsOf x .limit) (totalOf x)) (levelsOf x)) w0
+    ∙ ap (λ (P : Params). cleanAll (holdsFor areaLevels (phaseOf y) (P .limit) (totalOf x)) (levelsOf x)) (s .params)
+    ∙ ap (λ (T : ℕ). cleanAll (holdsFor areaLevels (phaseOf y) (paramsOf y .limit) T) (levelsOf x)) w1
+    ∙ ap (cleanAll (holdsFor areaLevels (phaseOf y) (paramsOf y .limit) (totalOf y))) (s .levels) in
+    rw (phase, params, key, count, last, levels) refl
+
+-- ---- an area moved to another place
+
+head-moved : (P : Params) (M : List Bool) (x y : List ℕ) → Long y → Same x y → Head P M x → Head P M y
+head-moved P M x y hy s h = record {
+  valid = h .valid;
+  short = h .short;
+  long = hy;
+  total = sym (s .word 1 (omega arith)) ∙ h .total;
+  params = sym (s .params) ∙ h .params;
+  keyBytes = sym (s .word 2 (omega arith)) ∙ h .keyBytes;
+  key = sym (s .key) ∙ h .key;
+  last = sym (s .word 15 (omega arith)) ∙ h .last;
+}
+
+pub stands-moved : (P : Params) (M : List Bool) (x y : List ℕ) → Long y → take areaWords x ≡ take areaWords y → Stands P M x →
+    Stands P M y
+stands-moved P M x y hy e t =
+    let s = same-front x y (t .head .long) hy e in
+    record {
+      head = head-moved P M x y hy s (t .head);
+      phase = sym (s .word 0 (omega arith)) ∙ t .phase;
+      count = sym (s .word 14 (omega arith)) ∙ t .count;
+      state = rw (s .levels) at (t .state);
+    }
+
+pub closed-moved : (P : Params) (M : List Bool) (x y : List ℕ) → Long y → take areaWords x ≡ take areaWords y → Closed P M x →
+    Closed P M y
+closed-moved P M x y hy e t =
+    let s = same-front x y (t .head .long) hy e in
+    record {
+      head = head-moved P M x y hy s (t .head);
+      phase = sym (s .word 0 (omega arith)) ∙ t .phase;
+      count = sym (s .word 14 (omega arith)) ∙ t .count;
+      levels = sym (s .levels) ∙ t .levels;
+    }
+
+-- ---- words of 64 bits
+
+pub data Words : List (List ℕ) → Type 0 where
+  nil : Words []
+  cons : {ws : List ℕ} {st : List (List ℕ)} → Below (2 ^ 64) ws → Words st → Words (ws ∷ st)
+
+flatten-below : {st : List (List ℕ)} → Words st → Below (2 ^ 64) (flatten st)
+unfolding flatten
+flatten-below nil = none
+flatten-below (cons b w) = below-append b (flatten-below w)
+
+empty-words : (n : ℕ) → Words (replicate n emptyLevel)
+unfolding emptyLevel
+empty-words zero = nil
+empty-words (suc n) = cons (below-zeros (2 ^ 64) 64 (omega arith)) (empty-words n)
+
+module _ (P : Params) where
+  inv-words : (n level : ℕ) (X : List Subtree) (st : List (List ℕ)) (lg : List Mark) → Receive.Inv P n level X st lg → Words st
+  inv-words n level X [] lg v = nil
+  inv-words zero level X (ws ∷ up) lg v = cons {ws = ws} {st = up} (rw (v .is) (blockOf-below (Receive.chainOver P level (v .G) ++ Receive.outs P (v .r)))) (rw (v .empty) (empty-words (length up)))
+  inv-words (suc n) level X (ws ∷ up) lg v = cons {ws = ws} {st = up} (rw (v .is) (blockOf-below (Receive.outs P (v .r)))) (inv-words n (suc level) (over (v .G) (Receive.parRow P level (v .G))) up (v .lg′) (v .up))
+
+  state-words : (limit : ℕ) (M : List Bool) (st : List (List ℕ)) (log : List Node) → Machine.State P limit M st log → Words st
+  state-words zero M st log v = rw (v .is) (cons {st = v .up} (blockOf-below (Rattle.calls.specs.Rows.chain P 1 (v .B) ++ v .l)) (rw (v .empty) (empty-words (length (v .up)))))
+  state-words (suc n) M st log v = rw (v .is) (cons (blockOf-below (v .l)) (inv-words n 2 _ (v .up) _ (v .inv)))
+
+openAbove-most : (n i : ℕ) → openAbove n i ≤ i
+openAbove-most zero i = omega arith
+openAbove-most (suc n) i = omega (arith, openAbove-most n (i / 4))
+
+openCount-small : (limit T : ℕ) → T < 2 ^ 64 → openCount limit T + mostLevels < 2 ^ 64
+openCount-small zero T h = omega arith
+openCount-small (suc n) T h = omega (arith, openAbove-most n ((T - 1) / blockBits))
+
+-- the first 16 words
+module _ (P : Params) (M : List Bool) (area : List ℕ) (h : Head P M area) where
+  k-words : (j : ℕ) → j < 8 → getD area (6 + j) 0 < 2 ^ 64
+  k-words j l =
+      let b : getD (kOf area) j 0 < 2 ^ 64 = below-at {ws = kOf area} (rw (h .key) (keyWords-below (P .key))) j (rw (h .key, length-keyWords (P .key)) l) in
+      rw (getD-take 8 (drop 6 area) j 0 l, getD-drop 6 area j 0) at b
+
+  numbers-small : (getD area 3 0 < 2 ^ 64) × (getD area 4 0 < 2 ^ 64) × (getD area 5 0 < 2 ^ 64)
+  unfolding paramsOf
+  numbers-small =
+      let d : getD area 3 0 ≡ P .d = ap (λ (Q : Params). Q .d) (h .params) in
+      let m : getD area 4 0 ≡ P .limit = ap (λ (Q : Params). Q .limit) (h .params) in
+      let r : getD area 5 0 ≡ P .rounds = ap (λ (Q : Params). Q .rounds) (h .params) in
+      (omega (arith, h .valid .dHigh), omega (arith, h .valid .limitHigh), omega (arith, h .valid .roundsHigh))
+
+  head-word : phaseOf area < 2 ^ 64 → compressionsOf area < 2 ^ 64 → (i : ℕ) → i < 16 → getD area i 0 < 2 ^ 64
+  head-word p c zero l = p
+  head-word p c (suc zero) l = omega (arith, h .total, h .short)
+  head-word p c (suc (suc zero)) l = omega (arith, h .keyBytes, h .valid .keyBytes)
+  head-word p c (suc (suc (suc zero))) l = numbers-small .0
+  head-word p c (suc (suc (suc (suc zero)))) l = numbers-small .1
+  head-word p c (suc (suc (suc (suc (suc zero))))) l = numbers-small .2
+  head-word p c (suc (suc (suc (suc (suc (suc j)))))) l = go (ltb j 8) refl
+    where
+      go : (t : Bool) → ltb j 8 ≡ t → getD area (suc (suc (suc (suc (suc (suc j)))))) 0 < 2 ^ 64
+      go true e =
+          let z : 6 + j ≡ suc (suc (suc (suc (suc (suc j))))) = omega arith in
+          rw z at (k-words j (ltb-true j 8 e))
+      go false e = high (ltb (suc j) 10) refl
+        where
+          high : (t : Bool) → ltb (suc j) 10 ≡ t → getD area (suc (suc (suc (suc (suc (suc j)))))) 0 < 2 ^ 64
+          high true f = let z : suc (suc (suc (suc (suc (suc j))))) ≡ 14 = omega (arith, ltb-false j 8 e, ltb-true (suc j) 10 f) in rw z c
+          high false f =
+              let z : suc (suc (suc (suc (suc (suc j))))) ≡ 15 = omega (arith, ltb-false (suc j) 10 f) in
+              rw (z, h .last) (omega arith)
+
+  head-below : phaseOf area < 2 ^ 64 → compressionsOf area < 2 ^ 64 → Below (2 ^ 64) (take headWords area)
+  head-below p c =
+      let e : length (take headWords area) ≡ 16 = length-take-le 16 area (omega (arith, h .long)) in
+      below-all (take headWords area) (λ i l. rw (getD-take 16 area i 0 (omega arith)) (head-word p c i (omega arith)))
+
+-- the first 1,744 words are the head and the levels
+pub area-front : (area : List ℕ) → take areaWords area ≡ take headWords area ++ flatten (levelsOf area)
+unfolding levelsOf
+area-front area = take-add headWords (areaWords - headWords) area ∙ rw (flatten-from area areaLevels 1 (omega arith)) refl
+
+pub stands-below : {P : Params} {M : List Bool} {area : List ℕ} → Stands P M area → Below (2 ^ 64) (take areaWords area)
+stands-below {P} {M} {area} s =
+    rw (area-front area)
+    (below-append
+    (head-below P M area (s .head) (omega (arith, s .phase)) (omega (arith, s .count, openCount-small (P .limit) (length M) (s .head .short))))
+    (flatten-below (state-words P (P .limit) M (levelsOf area) (settled (order P M)) (s .state))))
+
+pub closed-below : {P : Params} {M : List Bool} {area : List ℕ} → Closed P M area → Below (2 ^ 64) (take areaWords area)
+unfolding emptyLevels
+closed-below {P} {M} {area} s =
+    rw (area-front area)
+    (below-append
+    (head-below P M area (s .head) (omega (arith, s .phase)) (omega (arith, s .count, treeNodes-bound (P .limit) (length M) (s .head .short))))
+    (rw (s .levels) (flatten-below (empty-words areaLevels))))

@@ -1,0 +1,328 @@
+-- Laws: an area stands for a message: what each accepted call makes of this, and that the area is sound.
+use mathlib.Core.Path.{_≡_, refl, sym, ap, _∙_}
+use mathlib.Core.Bool.{Bool, true, false}
+use mathlib.Core.List.{List, [], _∷_, _++_, append-assoc, flatten}
+use Prim.Native.Nat.{ℕ, _+_, _-_, _^_, _<_, _≤_}
+use native.Mathlib.Omega.{arith}
+use borrow.Author.Tests.{eq-eqb}
+use lib.ListN.{length, take, drop, getD, set, replicate, length-append}
+use lib.Seq.{take-at, drop-at, getD-at, getD-append-add}
+use Rattle.lists.specs.Append.{cons-eq}
+use Rattle.lists.specs.Below.{Below}
+use Rattle.tree.specs.Tree.{Params, Valid, Node, keyWords, order, root, lastOr, noNode, digest, digestBytes}
+use Rattle.tree.specs.TreeLaws.{length-keyWords}
+use Rattle.refusals.specs.Refusals.{firstRefusal, paramTests}
+use Rattle.tree.specs.Sizes.{treeNodes}
+use Rattle.calls.specs.Area.{areaWords, phaseOf, totalOf, keyBytesOf, kOf, compressionsOf, paramsOf, levelsOf, withLevels, emptyLevel, emptyLevels, openCount, soundPhase, soundParams, soundKey, soundCount, soundLast, soundLevels, sound, areaLevels, headWords, Long}
+use Rattle.calls.specs.Calls.{Made, feedBits, closing, openNumber, openedArea, fedBits, feedNumber, fedArea, closedBy, endedArea, digestOut}
+use Rattle.calls.specs.Marks.{allNodes, settled}
+use Rattle.calls.specs.Rows.{length-flatten}
+use Rattle.calls.specs.Receive.{marked}
+use Rattle.calls.specs.Machine
+use Rattle.calls.specs.Counts
+use Rattle.calls.specs.AreaLaws.{Changed, changed, levelsOf-at, key-back, key-clean}
+use Rattle.lists.specs.And.{and-intro}
+use Rattle.bits.specs.Piece.{Piece, pieceBits}
+use Rattle.bits.specs.PieceLaws.{length-pieceBits}
+use Rattle.calls.specs.Sound.{clean-empty, empty-widths, state-widths, state-size, state-sound}
+use Rattle.refusals.specs.RefusalLaws.{params-valid, valid-params}
+use Rattle.calls.specs.CallLaws.{open-passed, FeedPassed, feed-passed}
+
+-- ---- the nodes made are those of the tree's listing
+
+allNodes-marked : (b : Bool) (xs : List Node) → allNodes (marked b xs) ≡ xs
+allNodes-marked b [] = refl
+allNodes-marked b (x ∷ xs) = cons-eq refl (allNodes-marked b xs)
+
+allNodes-both : (xs ys : List Node) → allNodes (marked false xs ++ marked true ys) ≡ xs ++ ys
+allNodes-both [] ys = allNodes-marked true ys
+allNodes-both (x ∷ xs) ys = cons-eq refl (allNodes-both xs ys)
+
+settled-none : (ys : List Node) → settled (marked true ys) ≡ []
+settled-none [] = refl
+settled-none (y ∷ ys) = settled-none ys
+
+settled-both : (xs ys : List Node) → settled (marked false xs ++ marked true ys) ≡ xs
+settled-both [] ys = settled-none ys
+settled-both (x ∷ xs) ys = cons-eq refl (settled-both xs ys)
+
+module _ (P : Params) (M : List Bool) (st : List (List ℕ)) (log : List Node) (short : length M < 2 ^ 64) (v : Machine.State P (P .limit) M st log) where
+  pub state-settled : settled (order P M) ≡ log
+  state-settled = ap settled (Machine.state-done P (P .limit) M st log short v .listed) ∙ settled-both log (closing P (P .limit) (length M) st)
+
+  pub state-all : allNodes (order P M) ≡ log ++ closing P (P .limit) (length M) st
+  state-all = ap allNodes (Machine.state-done P (P .limit) M st log short v .listed) ∙ allNodes-both log (closing P (P .limit) (length M) st)
+
+  state-root : root P M ≡ lastOr noNode (closing P (P .limit) (length M) st)
+  state-root = Machine.state-done P (P .limit) M st log short v .root noNode
+
+-- the empty message has no node that does not reach its last bit
+pub settled-opened : (P : Params) → settled (order P []) ≡ []
+settled-opened P = state-settled P [] (emptyLevels areaLevels) [] (omega arith) (Machine.state-open P (P .limit))
+
+-- ---- an area and a message
+
+-- what stays until the area is opened again
+pub record Head (P : Params) (M : List Bool) (area : List ℕ) : Type 0 where
+  pub valid : Valid P
+  pub short : length M < 2 ^ 64
+  pub long : Long area
+  pub total : totalOf area ≡ length M
+  pub params : paramsOf area ≡ P
+  pub keyBytes : keyBytesOf area ≡ length (P .key)
+  pub key : kOf area ≡ keyWords (P .key)
+  pub last : getD area 15 0 ≡ 0
+
+-- an open area that stands for the message M
+pub record Stands (P : Params) (M : List Bool) (area : List ℕ) : Type 0 where
+  pub head : Head P M area
+  pub phase : phaseOf area ≡ 1
+  pub count : compressionsOf area ≡ openCount (P .limit) (length M)
+  pub state : Machine.State P (P .limit) M (levelsOf area) (settled (order P M))
+
+-- an area that ended after the message M
+pub record Closed (P : Params) (M : List Bool) (area : List ℕ) : Type 0 where
+  pub head : Head P M area
+  pub phase : phaseOf area ≡ 2
+  pub count : compressionsOf area ≡ treeNodes (P .limit) (length M)
+  pub levels : levelsOf area ≡ emptyLevels areaLevels
+
+-- ---- they are sound
+
+params-sound : {P : Params} {M : List Bool} {area : List ℕ} → Head P M area → soundParams area ≡ true
+params-sound {P} {M} {area} h = rw (h .params, valid-params P (h .valid)) refl
+
+key-sound : {P : Params} {M : List Bool} {area : List ℕ} → Head P M area → soundKey area ≡ true
+key-sound {P} {M} {area} h = rw (h .keyBytes, h .key) (key-clean (P .key) (h .valid .keyBytes))
+
+last-sound : {P : Params} {M : List Bool} {area : List ℕ} → Head P M area → soundLast area ≡ true
+last-sound h = rw (h .last) refl
+
+pub stands-sound : {P : Params} {M : List Bool} {area : List ℕ} → Stands P M area → sound area ≡ true
+unfolding sound
+stands-sound {P} {M} {area} s =
+    and-intro phase (and-intro (params-sound (s .head)) (and-intro (key-sound (s .head)) (and-intro count (and-intro (last-sound (s .head)) levels))))
+  where
+    phase : soundPhase area ≡ true
+    phase = rw (s .phase) refl
+
+    count : soundCount area ≡ true
+    count = rw (s .phase, s .head .params, s .head .total) (eq-eqb (compressionsOf area) (openCount (P .limit) (length M)) (s .count))
+
+    levels : soundLevels area ≡ true
+    levels = rw (s .phase, s .head .params, s .head .total) (state-sound P (P .limit) M (levelsOf area) (settled (order P M)) (s .state))
+
+pub closed-sound : {P : Params} {M : List Bool} {area : List ℕ} → Closed P M area → sound area ≡ true
+unfolding sound emptyLevels
+closed-sound {P} {M} {area} s =
+    and-intro phase (and-intro (params-sound (s .head)) (and-intro (key-sound (s .head)) (and-intro count (and-intro (last-sound (s .head)) levels))))
+  where
+    phase : soundPhase area ≡ true
+    phase = rw (s .phase) refl
+
+    count : soundCount area ≡ true
+    count = rw (s .phase, s .head .params, s .head .total) (eq-eqb (compressionsOf area) (treeNodes (P .limit) (length M)) (s .count))
+
+    levels : soundLevels area ≡ true
+    levels = rw (s .phase, s .levels) (clean-empty areaLevels)
+
+-- ---- open
+
+module _ (area : List ℕ) (P : Params) where
+  front : List ℕ
+  front = 1 ∷ 0 ∷ length (P .key) ∷ P .d ∷ P .limit ∷ P .rounds ∷ (keyWords (P .key) ++ (0 ∷ 0 ∷ []))
+
+  opened-is : openedArea area P ≡ front ++ (flatten (emptyLevels areaLevels) ++ drop areaWords area)
+  unfolding openedArea front
+  opened-is = rw (append-assoc (keyWords (P .key)) (0 ∷ 0 ∷ []) (flatten (emptyLevels areaLevels) ++ drop areaWords area)) refl
+
+  front-length : length front ≡ 16
+  unfolding front
+  front-length = rw (length-append (keyWords (P .key)) (0 ∷ 0 ∷ []), length-keyWords (P .key)) refl
+
+  empty-width : length (flatten (emptyLevels areaLevels)) ≡ areaWords - headWords
+  unfolding emptyLevels
+  empty-width = length-flatten 64 (replicate areaLevels emptyLevel) (empty-widths areaLevels)
+
+  pub opened-size : Long area → length (openedArea area P) ≡ length area
+  opened-size h =
+      rw (opened-is, length-append front (flatten (emptyLevels areaLevels) ++ drop areaWords area), front-length, length-append (flatten (emptyLevels areaLevels)) (drop areaWords area), empty-width, lib.ListN.length-drop areaWords area)
+      (omega arith)
+
+  pub opened-tail : drop areaWords (openedArea area P) ≡ drop areaWords area
+  opened-tail =
+      rw (opened-is, ← append-assoc front (flatten (emptyLevels areaLevels)) (drop areaWords area))
+      (drop-at (front ++ flatten (emptyLevels areaLevels)) (drop areaWords area) areaWords (rw (length-append front (flatten (emptyLevels areaLevels)), front-length, empty-width) refl))
+
+  pub opened-levels : levelsOf (openedArea area P) ≡ emptyLevels areaLevels
+  unfolding emptyLevels
+  opened-levels = rw opened-is (levelsOf-at front (replicate areaLevels emptyLevel) (drop areaWords area) front-length (empty-widths areaLevels) refl)
+
+  pub opened-key : kOf (openedArea area P) ≡ keyWords (P .key)
+  unfolding openedArea
+  opened-key = take-at (keyWords (P .key)) (0 ∷ 0 ∷ (flatten (emptyLevels areaLevels) ++ drop areaWords area)) 8 (length-keyWords (P .key))
+
+  pub opened-14 : compressionsOf (openedArea area P) ≡ 0
+  unfolding openedArea
+  opened-14 = getD-at (keyWords (P .key)) 0 (0 ∷ (flatten (emptyLevels areaLevels) ++ drop areaWords area)) 0 8 (length-keyWords (P .key))
+
+  pub opened-15 : getD (openedArea area P) 15 0 ≡ 0
+  unfolding openedArea
+  opened-15 =
+      ap (λ (k : ℕ). getD (keyWords (P .key) ++ (0 ∷ 0 ∷ (flatten (emptyLevels areaLevels) ++ drop areaWords area))) (k + 1) 0) (sym (length-keyWords (P .key)))
+      ∙ getD-append-add (keyWords (P .key)) (0 ∷ 0 ∷ (flatten (emptyLevels areaLevels) ++ drop areaWords area)) 1 0
+
+  pub opened-0 : phaseOf (openedArea area P) ≡ 1
+  unfolding openedArea
+  opened-0 = refl
+
+  opened-params : Valid P → paramsOf (openedArea area P) ≡ P
+  unfolding openedArea paramsOf
+  opened-params v = rw (opened-key′, key-back (P .key) (v .bytes) (v .keyBytes)) refl
+    where
+      opened-key′ : take 8 (keyWords (P .key) ++ (0 ∷ 0 ∷ (flatten (emptyLevels areaLevels) ++ drop areaWords area))) ≡ keyWords (P .key)
+      opened-key′ = take-at (keyWords (P .key)) (0 ∷ 0 ∷ (flatten (emptyLevels areaLevels) ++ drop areaWords area)) 8 (length-keyWords (P .key))
+
+  opened-head : Valid P → Long area → Head P [] (openedArea area P)
+  unfolding openedArea
+  opened-head v h = record {
+    valid = v;
+    short = omega arith;
+    long = rw (opened-size h) h;
+    total = refl;
+    params = opened-params v;
+    keyBytes = refl;
+    key = opened-key;
+    last = opened-15;
+  }
+
+  -- an accepted open
+  pub open-stands : Below 256 (P .key) → openNumber area P ≡ 0 → Stands P [] (openedArea area P)
+  open-stands b e = record {
+    head = opened-head v (a .0);
+    phase = opened-0;
+    count = opened-14 ∙ sym (Counts.openCount-none (P .limit));
+    state = rw (opened-levels, settled-opened P) (Machine.state-open P (P .limit));
+  }
+    where
+      a : (areaWords ≤ length area) × (firstRefusal (paramTests P) ≡ 0)
+      a = open-passed area P e
+
+      v : Valid P
+      v = params-valid P b (a .1)
+
+-- ---- feed
+
+-- what an accepted feed of the bits Y makes of an area
+pub record FeedDone (P : Params) (M Y : List Bool) (area : List ℕ) (made : Made) (to : List ℕ) : Type 0 where
+  pub stands : Stands P (M ++ Y) to
+  pub added : settled (order P (M ++ Y)) ≡ settled (order P M) ++ made .nodes
+  pub size : length to ≡ length area
+  pub tail : drop areaWords to ≡ drop areaWords area
+
+pub feed-stands : (P : Params) (M : List Bool) (area : List ℕ) (piece : Piece) (log : List ℕ) → Stands P M area → feedNumber area piece log ≡ 0 →
+    (let Y : List Bool = pieceBits piece in FeedDone P M Y area (fedBits area Y) (fedArea area (piece .count) (fedBits area Y)))
+unfolding fedBits fedArea
+feed-stands P M area piece log s e = record {
+  stands = record {
+    head = record {
+      valid = s .head .valid;
+      short = rw len small;
+      long = rw (c .size) (s .head .long);
+      total = c .set ∙ omega (arith, s .head .total, size, len);
+      params = c .params ∙ s .head .params;
+      keyBytes = c .same 2 (omega arith) (omega arith) (omega arith) ∙ s .head .keyBytes;
+      key = c .key ∙ s .head .key;
+      last = c .same 15 (omega arith) (omega arith) (omega arith) ∙ s .head .last;
+    };
+    phase = c .same 0 (omega arith) (omega arith) (omega arith) ∙ s .phase;
+    count = c .count ∙ rw (len, s .count) counted;
+    state = rw (c .levels, added) state;
+  };
+  added = added;
+  size = c .size;
+  tail = c .tail;
+}
+  where
+    Y : List Bool
+    Y = pieceBits piece
+
+    p : FeedPassed area piece log
+    p = feed-passed area piece log e
+
+    size : piece .count ≡ length Y
+    size = sym (length-pieceBits piece (p .bits))
+
+    len : length (M ++ Y) ≡ length M + length Y
+    len = length-append M Y
+
+    small : length M + length Y < 2 ^ 64
+    small = omega (arith, p .total, s .head .total, size)
+
+    made : Made
+    made = feedBits (paramsOf area) (totalOf area) Y (levelsOf area)
+
+    is : made ≡ feedBits P (length M) Y (levelsOf area)
+    is = rw (s .head .params, s .head .total) refl
+
+    state : Machine.State P (P .limit) (M ++ Y) (made .levels) (settled (order P M) ++ made .nodes)
+    state = rw is (Machine.state-fed P M Y (levelsOf area) (settled (order P M)) small (s .state))
+
+    added : settled (order P (M ++ Y)) ≡ settled (order P M) ++ made .nodes
+    added = state-settled P (M ++ Y) (made .levels) (settled (order P M) ++ made .nodes) (rw len small) state
+
+    c : Changed area 1 (totalOf area + piece .count) (compressionsOf area + length (made .nodes)) (made .levels)
+        (withLevels (set (set area 1 (totalOf area + piece .count)) 14 (compressionsOf area + length (made .nodes))) (made .levels))
+    c = changed area 1 (totalOf area + piece .count) (compressionsOf area + length (made .nodes)) (made .levels) (s .head .long) (omega arith)
+        (state-widths P (P .limit) (M ++ Y) (made .levels) (settled (order P M) ++ made .nodes) state)
+        (state-size P (P .limit) (M ++ Y) (made .levels) (settled (order P M) ++ made .nodes) state)
+
+    counted : openCount (P .limit) (length M) + length (made .nodes) ≡ openCount (P .limit) (length M + length Y)
+    counted = rw is (omega (arith, Counts.feedBits-count P (length M) Y (levelsOf area) (state-size P (P .limit) M (levelsOf area) (settled (order P M)) (s .state)) small))
+
+-- ---- end
+
+-- what an accepted end makes of an area
+pub record EndDone (P : Params) (M : List Bool) (area out : List ℕ) (nodes : List Node) (to given : List ℕ) : Type 0 where
+  pub closed : Closed P M to
+  pub all : allNodes (order P M) ≡ settled (order P M) ++ nodes
+  pub digest : given ≡ digest P M ++ drop (digestBytes (P .d)) out
+  pub size : length to ≡ length area
+  pub tail : drop areaWords to ≡ drop areaWords area
+
+pub end-closed : (P : Params) (M : List Bool) (area out : List ℕ) → Stands P M area →
+    EndDone P M area out (closedBy area) (endedArea area (closedBy area)) (digestOut area (closedBy area) out)
+unfolding closedBy endedArea digestOut emptyLevels
+end-closed P M area out s = record {
+  closed = record {
+    head = record {
+      valid = s .head .valid;
+      short = s .head .short;
+      long = rw (c .size) (s .head .long);
+      total = c .same 1 (omega arith) (omega arith) (omega arith) ∙ s .head .total;
+      params = c .params ∙ s .head .params;
+      keyBytes = c .same 2 (omega arith) (omega arith) (omega arith) ∙ s .head .keyBytes;
+      key = c .key ∙ s .head .key;
+      last = c .same 15 (omega arith) (omega arith) (omega arith) ∙ s .head .last;
+    };
+    phase = c .set;
+    count = c .count ∙ rw (s .count) counted;
+    levels = c .levels;
+  };
+  all = rw is (state-all P M (levelsOf area) (settled (order P M)) (s .head .short) (s .state));
+  digest = rw (is, s .head .params, ← state-root P M (levelsOf area) (settled (order P M)) (s .head .short) (s .state)) refl;
+  size = c .size;
+  tail = c .tail;
+}
+  where
+    nodes : List Node
+    nodes = closing (paramsOf area) (paramsOf area .limit) (totalOf area) (levelsOf area)
+
+    is : nodes ≡ closing P (P .limit) (length M) (levelsOf area)
+    is = rw (s .head .params, s .head .total) refl
+
+    c : Changed area 0 2 (compressionsOf area + length nodes) (replicate areaLevels emptyLevel) (withLevels (set (set area 0 2) 14 (compressionsOf area + length nodes)) (replicate areaLevels emptyLevel))
+    c = changed area 0 2 (compressionsOf area + length nodes) (replicate areaLevels emptyLevel) (s .head .long) (omega arith) (empty-widths areaLevels) refl
+
+    counted : openCount (P .limit) (length M) + length nodes ≡ treeNodes (P .limit) (length M)
+    counted = rw is (omega (arith, Counts.closing-count P (P .limit) (length M) (levelsOf area) (state-size P (P .limit) M (levelsOf area) (settled (order P M)) (s .state)) (s .head .short)))

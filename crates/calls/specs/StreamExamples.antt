@@ -1,0 +1,109 @@
+-- Examples: the rows of document 01, "Reels by hand", fed to a stream: by computing, the log and the digest are the tree's.
+-- "r = 0 gives C = the last 16 words of B. Message all ones."
+use mathlib.Core.Path.{_≡_, refl, sym, _∙_}
+use mathlib.Core.Bool.{Bool, true}
+use mathlib.Core.List.{List, [], _∷_, _++_, map}
+use Prim.Native.Nat.{ℕ, zero, suc, _+_, _-_, _*_, _/_, _^_}
+use lib.ListN.{take, replicate}
+use Rattle.bits.specs.Bits.{numbers}
+use Rattle.bits.specs.Piece.{Piece, pieceOf}
+use Rattle.compress.specs.Compress.{grown, compressed}
+use Rattle.tree.specs.Tree.{Params, Mark, keyWords, output, noChain, digest, order, digestBytes}
+use Rattle.calls.specs.Area.{areaWords, countFor, paramsOf, levelsOf, withLevels, emptyLevel, emptyLevels, sound}
+use Rattle.calls.specs.Calls.{Fed, Finished, withBit, outWords, receive, feedBit, feedBits, closeAbove, closing, nodeLog, openNumber, openedArea, openOf, fedBits, feedNumber, fedArea, feedOf, closedBy, endNumber, endedArea, digestOut, endOf}
+
+-- a row: the bit counts of the pieces, d and L; U and V of each node, and the digest
+pub record Row : Type 0 where
+  pub pieces : List ℕ
+  pub d : ℕ
+  pub limit : ℕ
+  pub log : List ℕ
+  pub digest : List ℕ
+
+abbrev pub rows : List Row
+rows =
+    record { pieces = []; d = 8; limit = 64; log = 0x0100000000000000 ∷ 0x0000401100000008 ∷ []; digest = 0x00 ∷ [] }
+    ∷ record { pieces = 4095 ∷ 1 ∷ []; d = 8; limit = 64; log = 0x0100000000000000 ∷ 0x0000401000000008 ∷ []; digest = 0xff ∷ [] }
+    ∷ record { pieces = 3072 ∷ 1 ∷ []; d = 8; limit = 0; log = 0x0100000000000000 ∷ 0x0000000000000008 ∷ 0x0100000000000001 ∷ 0x00000010bff00008 ∷ []; digest = 0x00 ∷ [] }
+    ∷ record { pieces = 5000 ∷ 0 ∷ 7289 ∷ []; d = 8; limit = 1; log = 0x0100000000000000 ∷ 0x0000010000000008 ∷ 0x0100000000000001 ∷ 0x0000010000000008 ∷ 0x0100000000000002 ∷ 0x0000010000000008 ∷ 0x0200000000000000 ∷ 0x0000010000000008 ∷ 0x0100000000000003 ∷ 0x00000100fff00008 ∷ 0x0200000000000001 ∷ 0x0000011080000008 ∷ []; digest = 0x00 ∷ [] }
+    ∷ record { pieces = 16384 ∷ 1 ∷ []; d = 8; limit = 64; log = 0x0100000000000000 ∷ 0x0000400000000008 ∷ 0x0100000000000001 ∷ 0x0000400000000008 ∷ 0x0100000000000002 ∷ 0x0000400000000008 ∷ 0x0100000000000003 ∷ 0x0000400000000008 ∷ 0x0200000000000000 ∷ 0x0000400000000008 ∷ 0x0100000000000004 ∷ 0x00004000fff00008 ∷ 0x0200000000000001 ∷ 0x00004000c0000008 ∷ 0x0300000000000000 ∷ 0x0000401080000008 ∷ []; digest = 0x00 ∷ [] }
+    ∷ []
+
+abbrev params : Row → Params
+params w = record { key = []; d = w .d; limit = w .limit; rounds = 0 }
+
+-- ---- by the tree
+
+abbrev sum : List ℕ → ℕ
+sum [] = 0
+sum (n ∷ ns) = n + sum ns
+
+abbrev pub treeRow : Row → Row
+treeRow w =
+    let M : List Bool = replicate (sum (w .pieces)) true in
+    record {
+      pieces = w .pieces;
+      d = w .d;
+      limit = w .limit;
+      log = nodeLog (map (λ (m : Mark). m .node) (order (params w) M));
+      digest = digest (params w) M;
+    }
+
+-- ---- by the stream
+
+-- what the calls left: the joined logs, each as far as its count says, and the digest; nothing if a call is refused
+pub record Left : Type 0 where
+  pub log : List ℕ
+  pub digest : List ℕ
+
+abbrev leftIf : ℕ → Left → Left
+leftIf zero l = l
+leftIf (suc n) l = record { log = []; digest = [] }
+
+-- a log and an output with room to spare, a piece of ones and an area with something in it
+abbrev spare : List ℕ
+spare = replicate 54 0
+
+abbrev ones : ℕ → Piece
+ones n = pieceOf (replicate (n / 8 + 1) 255) n
+
+abbrev used : List ℕ
+used = replicate (areaWords + 1) 7
+
+abbrev calls : List ℕ → ℕ → List ℕ → Left
+calls area bytes [] =
+    let e : Finished = endOf area spare spare in
+    leftIf (e .number) (record { log = take (2 * e .count) (e .log); digest = take bytes (e .digest) })
+calls area bytes (n ∷ ns) =
+    let f : Fed = feedOf area (ones n) spare in
+    let l : Left = calls (f .area) bytes ns in
+    leftIf (f .number) (record { log = take (2 * f .count) (f .log) ++ l .log; digest = l .digest })
+
+abbrev pub streamRow : Row → Row
+streamRow w =
+    let l : Left = calls (openOf used (params w) .area) (digestBytes (w .d)) (w .pieces) in
+    record { pieces = w .pieces; d = w .d; limit = w .limit; log = l .log; digest = l .digest }
+
+tree-rows : map treeRow rows ≡ rows
+unfolding numbers keyWords output noChain compressed grown mathlib.Core.List.flatten
+tree-rows = refl
+
+stream-rows : map streamRow rows ≡ rows
+unfolding numbers keyWords output compressed grown paramsOf levelsOf withLevels emptyLevel emptyLevels sound withBit outWords receive feedBit feedBits closeAbove closing openNumber openedArea openOf fedBits feedNumber fedArea feedOf closedBy endNumber endedArea digestOut endOf mathlib.Core.List.flatten
+stream-rows = refl
+
+pub rows-agree : map streamRow rows ≡ map treeRow rows
+rows-agree = stream-rows ∙ sym tree-rows
+
+-- ---- word 14, open and ended, for a limit and a total
+
+abbrev counts : ℕ × ℕ → ℕ × ℕ
+counts q = (countFor 1 (q .0) (q .1), countFor 2 (q .0) (q .1))
+
+pub counts-hold : map counts
+    ((64, 0) ∷ (64, 4096) ∷ (64, 4097) ∷ (64, 16384) ∷ (64, 16385) ∷ (0, 3072) ∷ (0, 3073) ∷ (1, 12288) ∷ (1, 12289) ∷ (2, 16384)
+    ∷ (64, 2 ^ 64 - 1) ∷ (26, 2 ^ 64 - 1) ∷ (1, 2 ^ 64 - 1) ∷ (0, 2 ^ 64 - 1) ∷ [])
+    ≡ (0, 1) ∷ (0, 1) ∷ (1, 3) ∷ (3, 5) ∷ (5, 8) ∷ (0, 1) ∷ (1, 2) ∷ (2, 4) ∷ (4, 6) ∷ (3, 5)
+    ∷ (6004799503160634, 6004799503160661) ∷ (6004799503160635, 6004799503160662) ∷ (6004799503160660, 6004799503160662)
+    ∷ (6004799503160661, 6004799503160662) ∷ []
+counts-hold = refl

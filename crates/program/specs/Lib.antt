@@ -1,0 +1,13 @@
+pub mod FitLaws
+pub mod Printed
+pub mod PrintedExamples
+pub mod PutLaws
+pub mod ScanLaws
+pub mod StepLaws
+pub mod Steps
+pub mod Taken
+pub mod Whole
+pub mod WholeInput
+pub mod WholeKey
+pub mod WholeLine
+pub mod WholeMessage

@@ -1,0 +1,142 @@
+// The first line, and the stream that it opens.
+ghost use mathlib.Core.Path.{_≡_};
+ghost use Prim.Native.Nat.{_≤_};
+ghost use lib.ListN.{length, take};
+ghost use Rattle.line.specs.Fold.{keptBytes, readingOf};
+ghost use Rattle.program.specs.Printed.{firstLine};
+ghost use Rattle.program.specs.Steps.{bufferBytes, openedStep, lineStep, scanned};
+ghost use Rattle.program.specs.Taken.{textBytes, tookOf, scanOf, roundsTold};
+use super::Phase;
+use super::Program;
+use super::Taken;
+use super::message;
+use super::put;
+use line::Key;
+use line::Reading;
+use line::Rounds;
+use line::State;
+
+// The line as far as bytes tell it: whether byte 10 has ended it, and the place behind that byte.
+pub struct Scanned {
+    pub ended: bool,
+    pub line: State,
+    pub next: usize,
+}
+
+// The line with bytes more, up to byte 10.
+fn scan(start: State, bytes: &[u8]) -> Scanned
+    ensures { λ r. ⌜ r ≡ scanOf start (now (bytes .entry)) ⌝ }
+{
+    let mut line = start;
+    let mut i = 0;
+    while i < bytes.len() {
+        if bytes[i] == 10 {
+            return Scanned {
+                ended: true,
+                line,
+                next: i + 1,
+            };
+        }
+        let longer = line.step(bytes[i]);
+        line = longer;
+        i += 1;
+    }
+    Scanned {
+        ended: false,
+        line,
+        next: i,
+    }
+}
+
+// The rounds that a line names. The default for a d out of range is not used: open refuses such a d first.
+fn rounds_for(rounds: Rounds, d: u64) -> u64
+    ensures { λ r. ⌜ r ≡ roundsTold rounds d ⌝ }
+{
+    match rounds {
+        Rounds::Default => {
+            let answer = hash::default_rounds(d);
+            answer.count
+        }
+        Rounds::Given(r) => r,
+    }
+}
+
+// Opens a stream with these parameters and the first n of the bytes that a line keeps of its key, and feeds it what was read
+// behind the line.
+fn open_with(
+    line: State,
+    kept: [u8; Key::KEPT],
+    n: usize,
+    d: u64,
+    limit: u64,
+    rounds: u64,
+    rest: &[u8],
+    area: &mut [u64],
+    out: &mut [u8],
+) -> Taken
+    requires { ⌜ (n ≤ keptBytes) × (length (now rest) ≤ bufferBytes) × (textBytes ≤ length (now out)) ⌝ }
+    ensures { λ r. ⌜ record { program = r .program; count = r .count; area = now (area .exit); out = now (out .exit) } ≡ tookOf (openedStep line (now (area .entry)) (record { key = take n kept; d = d; limit = limit; rounds = rounds }) (now (rest .entry))) (now (out .entry)) ⌝ }
+{
+    let answer = stream::open(area, &kept[..n], d, limit, rounds);
+    if answer.number != 0 {
+        let count = put::refused_number(out, answer.number);
+        return Taken {
+            program: Program {
+                phase: Phase::Refused,
+                line,
+            },
+            count,
+        };
+    }
+    message::feed(line, rest, area, out)
+}
+
+// A line that has ended, and what was read behind it.
+fn open_line(line: State, rest: &[u8], area: &mut [u64], out: &mut [u8]) -> Taken
+    requires { ⌜ (length (now rest) ≤ bufferBytes) × (textBytes ≤ length (now out)) ⌝ }
+    ensures { λ r. ⌜ record { program = r .program; count = r .count; area = now (area .exit); out = now (out .exit) } ≡ tookOf (lineStep (readingOf line) line (now (area .entry)) (now (rest .entry))) (now (out .entry)) ⌝ }
+{
+    match line.reading() {
+        Reading::Unreadable => {
+            let count = put::refused_line(out);
+            Taken {
+                program: Program {
+                    phase: Phase::Refused,
+                    line,
+                },
+                count,
+            }
+        }
+        Reading::Readable {
+            d,
+            limit,
+            rounds,
+            key_bytes,
+        } => {
+            let key = line.key;
+            let kept = key.bytes;
+            let r = rounds_for(rounds, d);
+            open_with(line, kept, key_bytes, d, limit, r, rest, area, out)
+        }
+    }
+}
+
+// Bytes of the first line, and what was read behind it.
+pub fn take_line(line: State, bytes: &[u8], area: &mut [u64], out: &mut [u8]) -> Taken
+    requires { ⌜ (length (now bytes) ≤ bufferBytes) × (textBytes ≤ length (now out)) ⌝ }
+    ensures { λ r. ⌜ record { program = r .program; count = r .count; area = now (area .exit); out = now (out .exit) } ≡ tookOf (scanned (firstLine (now (bytes .entry))) line (now (area .entry)) (now (bytes .entry))) (now (out .entry)) ⌝ }
+{
+    let scanned = scan(line, bytes);
+    let longer = scanned.line;
+    if scanned.ended {
+        let next = scanned.next;
+        return open_line(longer, &bytes[next..], area, out);
+    }
+    Taken {
+        program: Program {
+            phase: Phase::Line,
+            line: longer,
+        },
+        count: 0,
+    }
+}

@@ -1,0 +1,39 @@
+-- Definitions: the order of refusals, and the tests that several calls share. Document 01, the table of numbers: each test stands beside
+-- its number; number 5 has its test in bits/Piece.
+use mathlib.Core.Bool.{Bool, cond}
+use mathlib.Core.List.{List, [], _∷_, _++_}
+use Prim.Native.Nat.{ℕ, zero, suc}
+use lib.Dec.{ltb}
+use lib.ListN.{length}
+use Rattle.tree.specs.Tree.{Params, mostKeyBytes, mostDigestBits, mostLimit, mostRounds}
+
+-- ---- the order of refusals, and the answer
+
+-- "Orders: .. Feed 7, 10, 5, 6, 8": the number of the first test of a list that holds, and 0 if none does
+abbrev pub firstRefusal : List (Bool × ℕ) → ℕ
+firstRefusal [] = 0
+firstRefusal (test ∷ later) = cond (test .0) (test .1) (firstRefusal later)
+
+-- what a call with that number answers: what it gives if it is accepted, and otherwise what it gives for the number that refuses
+-- it; at each call the second says "count 0" and "all unchanged"
+abbrev pub answerOf : {A : Type 0} → ℕ → A → (ℕ → A) → A
+answerOf zero accepted refused = accepted
+answerOf (suc n) accepted refused = refused (suc n)
+
+-- ---- tests that several calls share
+
+-- "1, 0: d not 1 to 512"
+abbrev pub sizeTests : ℕ → List (Bool × ℕ)
+sizeTests d = (ltb d 1, 1) ∷ (ltb mostDigestBits d, 1) ∷ []
+
+-- then "2, 0: key over 64 bytes", "3, 0: L over 64", "4, 0: r over 255", in that order
+abbrev pub rangeTests : ℕ → ℕ → ℕ → ℕ → List (Bool × ℕ)
+rangeTests keyBytes d limit rounds =
+    sizeTests d ++ ((ltb mostKeyBytes keyBytes, 2) ∷ (ltb mostLimit limit, 3) ∷ (ltb mostRounds rounds, 4) ∷ [])
+
+abbrev pub paramTests : Params → List (Bool × ℕ)
+paramTests P = rangeTests (length (P .key)) (P .d) (P .limit) (P .rounds)
+
+-- "9, 0: output shorter than what is to be written"
+abbrev pub outputTest : ℕ → List ℕ → Bool × ℕ
+outputTest size out = (ltb (length out) size, 9)

@@ -1,0 +1,107 @@
+// The parameters of a tree with their ranges, what a call answers, and the numbers that refuse parameters and bit counts.
+ghost use mathlib.Core.Path.{_≡_};
+ghost use Prim.Native.Nat.{_*_};
+ghost use lib.Dec.{ltb};
+ghost use Rattle.tree.specs.Tree.{mostLevels};
+ghost use Rattle.refusals.specs.Refusals.{firstRefusal, sizeTests, rangeTests};
+
+// The parameters of a tree: how many bytes the key has (the report's keylen), the digest size in bits, the height limit and the rounds.
+pub struct Params {
+    pub keylen: u64,
+    pub d: u64,
+    pub limit: u64,
+    pub rounds: u64,
+}
+
+impl Params {
+    // The most bytes of a key, bits of a digest, height limit and rounds.
+    pub const MOST_KEY_BYTES: u64 = 64;
+
+    pub const MOST_DIGEST_BITS: u64 = 512;
+
+    pub const MOST_LIMIT: u64 = 64;
+
+    pub const MOST_ROUNDS: u64 = 255;
+
+    // The most levels of a tree.
+    pub const LEVELS: u64 = 27;
+
+    pub fn new(keylen: u64, d: u64, limit: u64, rounds: u64) -> Self
+        ensures { λ r. ⌜ r ≡ record { keylen = keylen; d = d; limit = limit; rounds = rounds } ⌝ }
+    {
+        Self {
+            keylen,
+            d,
+            limit,
+            rounds,
+        }
+    }
+
+    // That the most levels are those of the definitions.
+    pub fn levels() -> u64
+        ensures { λ r. ⌜ r ≡ mostLevels ⌝ }
+    {
+        Params::LEVELS
+    }
+}
+
+// What a call answers: 0 and a count, or the number that refuses it and 0.
+#[repr(C)]
+pub struct Answer {
+    pub number: u64,
+    pub count: u64,
+}
+
+impl Answer {
+    pub fn refused(number: u64) -> Self
+        ensures { λ r. ⌜ (r .number ≡ number) × (r .count ≡ 0) ⌝ }
+    {
+        Self { number, count: 0 }
+    }
+
+    pub fn accepted(count: u64) -> Self
+        ensures { λ r. ⌜ (r .number ≡ 0) × (r .count ≡ count) ⌝ }
+    {
+        Self { number: 0, count }
+    }
+}
+
+// Whether a bit count is over 8 times the bytes given, by division: 8 times the bytes may pass 2^64.
+pub fn bits_over(bits: u64, bytes: u64) -> bool
+    ensures { λ r. ⌜ r ≡ ltb (8 * bytes) bits ⌝ }
+{
+    bytes < bits / 8 + (bits % 8 + 7) / 8
+}
+
+// 1 for a digest size that is not 1 to 512, and otherwise 0.
+pub fn size_number(d: u64) -> u64
+    ensures { λ r. ⌜ r ≡ firstRefusal (sizeTests d) ⌝ }
+{
+    if d < 1 {
+        return 1;
+    }
+    if Params::MOST_DIGEST_BITS < d {
+        return 1;
+    }
+    0
+}
+
+// The number that refuses parameters, and otherwise 0: by the digest size, the key's bytes, the height limit, the rounds.
+pub fn params_number(params: Params) -> u64
+    ensures { λ r. ⌜ r ≡ firstRefusal (rangeTests (params .keylen) (params .d) (params .limit) (params .rounds)) ⌝ }
+{
+    let size = size_number(params.d);
+    if size != 0 {
+        return size;
+    }
+    if Params::MOST_KEY_BYTES < params.keylen {
+        return 2;
+    }
+    if Params::MOST_LIMIT < params.limit {
+        return 3;
+    }
+    if Params::MOST_ROUNDS < params.rounds {
+        return 4;
+    }
+    0
+}

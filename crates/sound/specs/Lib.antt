@@ -1,4 +1,0 @@
-pub mod CountLaws
-pub mod EmptyLaws
-pub mod LevelTests
-pub mod SoundLaws
