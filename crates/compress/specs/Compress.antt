@@ -46,10 +46,10 @@ leftShifted x t = bitXor x (shl x t)
 unfoldable pub stepped : ℕ → ℕ → ℕ → ℕ → ℕ → ℕ → ℕ → ℕ → ℕ → ℕ
 stepped s a17 a89 a18 a21 a31 a67 r t = leftShifted (rightShifted (mixed s a17 a89 a18 a21 a31 a67) r) t
 
--- word i of A, from the words before it; "S is the same for the 16 steps of a round"
-unfoldable pub word : ℕ → List ℕ → ℕ
-word i A =
-    stepped (S ((i - 89) / 16))
+-- word i of A, from the words before it and a constant s
+abbrev pub formulaWord : ℕ → ℕ → List ℕ → ℕ
+formulaWord s i A =
+    stepped s
     (getD A (i - 17) 0)
     (getD A (i - 89) 0)
     (getD A (i - 18) 0)
@@ -58,6 +58,10 @@ word i A =
     (getD A (i - 67) 0)
     (getD shiftsR ((i - 89) % 16) 0)
     (getD shiftsT ((i - 89) % 16) 0)
+
+-- "S is the same for the 16 steps of a round"
+unfoldable pub word : ℕ → List ℕ → ℕ
+word i A = formulaWord (S ((i - 89) / 16)) i A
 
 -- the array after t steps on a window of 89 words: "words 89 to 16r + 88 are added"
 unfoldable pub grown : ℕ → List ℕ → List ℕ

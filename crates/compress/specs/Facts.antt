@@ -4,6 +4,7 @@ use Prim.Native.Nat.{_+_, _*_, _^_, _≤_, _<_}
 use lib.Dec.{lit<, lit≤}
 use lib.ListN.{getD, replicate}
 use Rattle.compress.specs.Compress.{nextS, S, stepped, word, grown, scaledRoot}
+use Rattle.compress.specs.Report.{reportStep, reportWord}
 
 -- "Round 1 has S = 0x0347cace1376567e."
 pub S-of-round-1 : S 1 ≡ 0x0347cace1376567e
@@ -14,6 +15,11 @@ S-of-round-1 = refl
 pub first-added-word : getD (grown 1 (replicate 89 0)) 89 0 ≡ 0x194ebb349d71471c
 unfolding grown word stepped S
 first-added-word = refl
+
+-- and so it is by the report's lines
+pub first-report-word : reportWord (S 0) 89 (replicate 89 0) ≡ 0x194ebb349d71471c
+unfolding reportWord reportStep S
+first-report-word = refl
 
 -- ".. s squared is at most 6 times 2^1920, .."
 pub root-low : scaledRoot * scaledRoot ≤ 6 * 2 ^ 1920

@@ -3,7 +3,8 @@ ghost use mathlib.Core.Path.{_≡_};
 ghost use Prim.Native.Nat.{_+_, _-_, _%_, _≤_, _<_};
 ghost use lib.ListN.{length, take, drop};
 ghost use lib.Seq.{paste};
-ghost use Rattle.compress.specs.Compress.{RoundTable, Q, stepped, compressed};
+ghost use Rattle.compress.specs.Compress.{RoundTable, Q, compressed};
+ghost use Rattle.compress.specs.Report.{reportStep};
 ghost use Rattle.compress.specs.Buffer.{putAt, putRound};
 
 mod table; // table.rt: the 255 round constants
@@ -56,14 +57,17 @@ pub fn round_constants() -> [u64; 255]
     table::ROUND_CONSTANTS
 }
 
-// The new word of a step, from S, the words 17, 89, 18, 21, 31 and 67 places before it, and the shifts.
-fn step(s: u64, a17: u64, a89: u64, a18: u64, a21: u64, a31: u64, a67: u64, r: u64, t: u64) -> u64
-    requires { ⌜ (r < 64) × (t < 64) ⌝ }
-    ensures { λ x. ⌜ x ≡ stepped s a17 a89 a18 a21 a31 a67 r t ⌝ }
+// The new word of a step, line for line as figure 2.10 of the report has it: s is the constant, an is A[i-n], a0 to a4 are
+// A[i-t0] to A[i-t4], r and l are the shifts. Document 01 calls them S; A[i-89]; A[i-17], A[i-18], A[i-21], A[i-31] and
+// A[i-67]; R and T.
+fn step(s: u64, an: u64, a0: u64, a1: u64, a2: u64, a3: u64, a4: u64, r: u64, l: u64) -> u64
+    requires { ⌜ (r < 64) × (l < 64) ⌝ }
+    ensures { λ x. ⌜ x ≡ reportStep s an a0 a1 a2 a3 a4 r l ⌝ }
 {
-    let x = s ^ a17 ^ a89 ^ (a18 & a21) ^ (a31 & a67);
-    let y = x ^ (x >> r);
-    y ^ (y << t)
+    let x1 = s ^ an ^ a0;
+    let x2 = x1 ^ (a1 & a2) ^ (a3 & a4);
+    let x3 = x2 ^ (x2 >> r);
+    x3 ^ (x3 << l)
 }
 
 // Writes word i of the buffer from the words before it.
@@ -73,8 +77,8 @@ fn add_word(a: &mut [u64], i: usize, s: u64, r: u64, t: u64)
 {
     a[i] = step(
         s,
-        a[i - 17],
         a[i - 89],
+        a[i - 17],
         a[i - 18],
         a[i - 21],
         a[i - 31],

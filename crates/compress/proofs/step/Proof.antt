@@ -1,11 +1,11 @@
 -- `step` meets its contract: the code is the definition.
 use borrow.Author.Needs.{needs}
-use Rattle.compress.specs.Compress.{stepped}
+use Rattle.compress.specs.Report.{reportStep}
 use Rattle.compress.proofs.step.Statement.{statement}
 use Rattle.compress.proofs.step.Tie as tie
 
 returns : tie.Need-returns
-unfolding stepped
+unfolding reportStep
 returns c = search needs
 
 pub step-spec : {M : Type 1} → statement M
