@@ -21,7 +21,7 @@ static int time_bytes(size_t bytes, unsigned repeats)
     memset(&P, 0, sizeof P);
     P.d = 256;
     P.L = 64;
-    P.r = (unsigned)md6_default_rounds(P.d).count;
+    P.r = (unsigned)md6_default_rounds(P.d, 0).count;
     for (k = 0; k < repeats; k++) {
         double t0 = seconds(), t1, t2;
         if (md6_hash(message, bytes, 8 * (uint64_t)bytes, NULL, 0, P.d, P.L, P.r, ours, sizeof ours) != 0)

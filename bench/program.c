@@ -72,7 +72,7 @@ int main(void)
     memset(message, 0, BYTES);
     for (k = 0; k < 12; k++) {
         double t0 = processor(RUSAGE_SELF), t;
-        if (md6_hash(message, BYTES, 8 * (uint64_t)BYTES, NULL, 0, 256, 64, md6_default_rounds(256).count, digest, sizeof digest) != 0)
+        if (md6_hash(message, BYTES, 8 * (uint64_t)BYTES, NULL, 0, 256, 64, md6_default_rounds(256, 0).count, digest, sizeof digest) != 0)
             return 1;
         keep_best(&best, processor(RUSAGE_SELF) - t0);
         t = run_program(message);

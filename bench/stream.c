@@ -34,7 +34,7 @@ static int time_pieces(const uint8_t *message)
 {
     uint8_t whole[32], streamed[32];
     double best = 0, best_whole = 0;
-    uint64_t rounds = md6_default_rounds(256).count;
+    uint64_t rounds = md6_default_rounds(256, 0).count;
     unsigned k;
     int bad = 0, differ;
 
@@ -59,7 +59,7 @@ static int time_bytes(const uint8_t *message)
 {
     double best = 0;
     unsigned k, calls = 100000;
-    int bad = open_area(256, md6_default_rounds(256).count);
+    int bad = open_area(256, md6_default_rounds(256, 0).count);
 
     bad |= feed_pieces(message, SHORT, PIECE);
     for (k = 0; k < 5; k++) {

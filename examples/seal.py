@@ -21,7 +21,7 @@ def load(path):
     md6 = ctypes.CDLL(path)
     u64, size = ctypes.c_uint64, ctypes.c_size_t
     words, octets = ctypes.POINTER(u64), ctypes.c_char_p
-    md6.md6_default_rounds.argtypes = [u64]
+    md6.md6_default_rounds.argtypes = [u64, u64]
     md6.md6_log_words.argtypes = [u64]
     md6.md6_open.argtypes = [words, size, octets, size, u64, u64, u64]
     md6.md6_feed.argtypes = [words, size, octets, size, u64, words, size]
@@ -39,7 +39,7 @@ def accepted(answer):
 
 def seal(md6, file):
     area = (ctypes.c_uint64 * AREA_WORDS)()
-    rounds = accepted(md6.md6_default_rounds(D))
+    rounds = accepted(md6.md6_default_rounds(D, 0))
     accepted(md6.md6_open(area, AREA_WORDS, b"", 0, D, LIMIT, rounds))
     while piece := file.read(1 << 16):
         told = accepted(md6.md6_log_words(8 * len(piece)))

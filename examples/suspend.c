@@ -29,7 +29,7 @@ int main(void)
     static uint64_t here[MD6_AREA_WORDS], there[MD6_AREA_WORDS], log[LOG_WORDS];
     static uint8_t text[MD6_TEXT_BYTES], message[1500];
     uint8_t digest[D / 8], whole[D / 8];
-    uint64_t rounds = md6_default_rounds(D).count;
+    uint64_t rounds = md6_default_rounds(D, 0).count;
     md6_answer o;
     size_t i;
 

@@ -42,8 +42,13 @@ uint64_t md6_hash(const uint8_t *message, size_t message_bytes, uint64_t bits,
                   uint64_t d, uint64_t limit, uint64_t rounds,
                   uint8_t *digest, size_t digest_bytes);
 
-/* The default rounds for a digest of d bits, 40 + d/4 rounded down, as count; or number 1 if d is not 1 to 512. */
-md6_answer md6_default_rounds(uint64_t d);
+/* As count, the default rounds for a digest of d bits under a key of `key_bytes` bytes: without a key 40 + d/4, rounded down;
+ * with a key of any byte the larger of 80 and that. Refuses, the first that holds:
+ *   1  d is not 1 to 512
+ *   2  `key_bytes` is over 64
+ * Rounds that a caller gives to md6_hash or md6_open are used as given.
+ */
+md6_answer md6_default_rounds(uint64_t d, uint64_t key_bytes);
 
 /* Opens a stream in an area of at least MD6_AREA_WORDS words, whatever it held; no call reads or
  * writes the words past those. Refuses, the first that holds:

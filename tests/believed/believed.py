@@ -434,6 +434,7 @@ class Source:
                 i = matching(text, i)
             end = matching(text, i)
             params = set(re.findall(r"(\w+)\s*:", re.sub(r"::", "  ", text[i:end])))
+            params |= {"«%s»" % p for p in params if "_" in p}  # so a clause spells a name with a low line
             clauses = []
             j = end
             while True:

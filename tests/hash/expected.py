@@ -2,7 +2,8 @@
 """expected.py MD6REF: the lines that the program hash_test must write.
 
 MD6REF is the second program (tests/second/md6ref.c), compiled. Accepted calls are run by it: it prints a line for each node
-and then the digest. Refusals are those of document 01's table, and a refused call leaves the output as it was, a5.
+and then the digest. Refusals are those of document 01's table, and a refused call leaves the output as it was, a5. The
+default rounds are worked out from document 02.
 """
 import subprocess
 import sys
@@ -63,6 +64,19 @@ def report():
     ]
 
 
-DEFAULTS = ["1 0", "0 40", "0 80", "0 104", "0 168", "1 0"]
+def told(d, key_bytes):
+    """Document 02, M-102: "the default is the larger of 80 and 40 + d/4 if the key has any byte", "refuses 1, then 2"."""
+    if not 1 <= d <= 512:
+        return "1 0"
+    if key_bytes > 64:
+        return "2 0"
+    rounds = 40 + d // 4
+    return f"0 {max(80, rounds) if key_bytes > 0 else rounds}"
 
-print("\n".join(reels() + edges() + report() + DEFAULTS))
+
+def defaults():
+    sizes = [*range(0, 514), 2**32 + 8, 2**64 - 1]
+    return [" ".join(told(d, key_bytes) for key_bytes in (0, 1, 63, 64, 65, 2**32, 2**64 - 1)) for d in sizes]
+
+
+print("\n".join(reels() + edges() + report() + defaults()))

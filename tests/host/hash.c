@@ -67,9 +67,12 @@ struct input {
     size_t message_bytes, key_bytes, digest_bytes;
 };
 
+/* numbers that are out of a range, some of which would be in it if they were cut to 32 bits */
+enum { FAR = 7 };
+static const uint64_t far[FAR] = { 65, 256, 513, UINT64_C(1) << 32, (UINT64_C(1) << 32) + 8, UINT64_MAX, UINT64_C(1) << 63 };
+
 static struct input pick_input(int spoil)
 {
-    static const uint64_t far[] = { 65, 256, 513, UINT64_C(1) << 32, (UINT64_C(1) << 32) + 8, UINT64_MAX, UINT64_C(1) << 63 };
     struct input in;
 
     in.bits = pick_bits();
@@ -81,13 +84,13 @@ static struct input pick_input(int spoil)
     in.digest_bytes = (size_t)((in.d + 7) / 8 + (below(2) == 0 ? below(20) : 0));
     if (spoil) {
         if (below(3) == 0)
-            in.bits = below(2) == 0 ? 8 * in.message_bytes + 1 + below(9) : far[below(7)];
+            in.bits = below(2) == 0 ? 8 * in.message_bytes + 1 + below(9) : far[below(FAR)];
         if (below(3) == 0)
-            in.d = below(2) == 0 ? 0 : 513 + below(2) * far[below(7)];
+            in.d = below(2) == 0 ? 0 : 513 + below(2) * far[below(FAR)];
         if (below(3) == 0)
             in.key_bytes = (size_t)(65 + below(3));
         if (below(3) == 0)
-            in.limit = far[below(7)];
+            in.limit = far[below(FAR)];
         if (below(3) == 0)
             in.rounds = 256 + below(2) * far[below(5)];
         if (below(3) == 0 && in.digest_bytes > 0)
@@ -130,17 +133,32 @@ static int try_input(const struct input *in)
     return good;
 }
 
+/* document 02, M-102: "the larger of 80 and 40 + d/4 if the key has any byte", "refuses 1, then 2" */
+static int default_right(uint64_t d, uint64_t key_bytes)
+{
+    md6_answer told = md6_default_rounds(d, key_bytes);
+    uint64_t number = d < 1 || d > 512 ? 1 : key_bytes > 64 ? 2 : 0;
+    uint64_t rounds = 40 + d / 4;
+
+    if (key_bytes > 0 && rounds < 80)
+        rounds = 80;
+    return told.number == number && told.count == (number == 0 ? rounds : 0);
+}
+
+/* every digest size with every key length and some past the edges, then numbers far out of range */
 static int default_rounds_right(void)
 {
-    uint64_t d;
+    uint64_t d, key_bytes, i, j;
 
-    for (d = 0; d < 600; d++) {
-        md6_answer a = md6_default_rounds(d);
-        int in_range = d >= 1 && d <= 512;
-        if (a.number != (in_range ? 0u : 1u) || a.count != (in_range ? 40 + d / 4 : 0))
-            return 0;
-    }
-    return md6_default_rounds((UINT64_C(1) << 32) + 8).number == 1;
+    for (d = 0; d < 600; d++)
+        for (key_bytes = 0; key_bytes < 70; key_bytes++)
+            if (!default_right(d, key_bytes))
+                return 0;
+    for (i = 0; i < FAR; i++)
+        for (j = 0; j < FAR; j++)
+            if (!default_right(far[i], far[j]) || !default_right(128, far[i]) || !default_right(far[i], 1))
+                return 0;
+    return 1;
 }
 
 /* empty buffers may be null pointers */

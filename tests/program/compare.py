@@ -1,9 +1,10 @@
 #!/usr/bin/env python3
 """compare.py OURS SECOND [SEED]: run the program of document 01 and the second program on the same inputs and compare what
-they print, byte for byte: the node lines, the digest and the refusals.
+they print, byte for byte: the node lines, the digest and the refusals. The second program takes its default rounds by M-102.
 
 Edge inputs first (lines that are not read, refusals, the examples of the report), then random ones; the seed is printed.
-Then inputs that come in many reads: each piece is written to a pipe when the program has read the one before it.
+Then lines with `-` for r against the second program with the rounds that the report gives them. Then inputs that come in
+many reads: each piece is written to a pipe when the program has read the one before it.
 """
 import fcntl
 import os
@@ -19,7 +20,7 @@ RANDOM_INPUTS = 1100
 RANDOM_CUTS = 150
 BUFFER = 65536
 
-# what document 01 says of these inputs
+# what documents 01 and 02 say of these inputs
 TOLD = [
     (b"8 64 0 -\n", b"0100000000000000 0000401100000008\n00\n"),
     (b"", b"refused line\n"),
@@ -32,6 +33,18 @@ TOLD = [
     (b"8 65 256 " + b"5a" * 5000 + b"\n", b"refused 2\n"),
     (b"8 65 256 -\n", b"refused 3\n"),
     (b"8 64 256 -\n", b"refused 4\n"),
+    # the key's digits decide about the default before any refusal (document 02, M-102)
+    (b"128 64 - " + b"5a" * 65 + b"\nabc", b"refused 2\n"),
+    (b"128 65 - " + b"5a" * 66 + b"\n", b"refused 2\n"),
+    (b"0 64 - " + b"5a" * 65 + b"\n", b"refused 1\n"),
+    (b"513 65 - 5a\n", b"refused 1\n"),
+    (b"128 65 - 5a\n", b"refused 3\n"),
+]
+
+# default rounds as the report has them: d, key bytes, r (formula 2.1 without a key, 2.2 with one)
+REPORT_ROUNDS = [
+    (128, 0, 72), (159, 0, 79), (160, 0, 80), (224, 0, 96), (256, 0, 104), (384, 0, 136), (512, 0, 168),
+    (1, 1, 80), (128, 1, 80), (128, 16, 80), (128, 64, 80), (159, 1, 80), (160, 1, 80), (164, 1, 81), (256, 1, 104), (256, 64, 104), (512, 64, 168),
 ]
 
 
@@ -64,6 +77,9 @@ def inputs(rng):
     yield line("256", "64", "5") + b"abc"
     yield line("224", "64", "5", b"abcde12345".hex()) + (bytes.fromhex("11223344556677") * 100)[:600]
     yield line("256", "0", "104") + (bytes.fromhex("11223344556677") * 200)[:800]
+    for d in (1, 2, 127, 128, 129, 158, 159, 160, 161, 163, 164, 256, 511, 512):
+        for key_bytes in (0, 1, 2, 63, 64, 65):
+            yield line(str(d), "64", "-", rng.randbytes(key_bytes).hex() or "-") + message
     for limit in range(0, 66):
         yield line("256", str(limit), "1") + rng.randbytes(40000)
     for edge in BLOCK_EDGES:
@@ -161,26 +177,38 @@ class Tally:
                 print("differs on", data[:80], "of", len(data), "bytes" + cut + ":", found[:60], "for", expected[:60])
 
 
-def whole(program, data):
-    run = subprocess.run([program], input=data, capture_output=True, check=False)
+def whole(program, data, *flags):
+    run = subprocess.run([program, *flags], input=data, capture_output=True, check=False)
     return run.stdout, run.returncode
+
+
+def by_default(rng):
+    """Inputs with `-` for r, and the same with the rounds of the report."""
+    for d, key_bytes, rounds in REPORT_ROUNDS:
+        key = rng.randbytes(key_bytes).hex() or "-"
+        for limit in ("0", "64"):
+            message = rng.randbytes(rng.randint(0, 3000))
+            yield line(str(d), limit, "-", key) + message, line(str(d), limit, str(rounds), key) + message
 
 
 def main():
     ours, second = sys.argv[1], sys.argv[2]
     seed = int(sys.argv[3]) if len(sys.argv) > 3 else random.randrange(1 << 32)
     rng = random.Random(seed)
-    all_at_once, in_reads = Tally(), Tally()
+    all_at_once, defaults, in_reads = Tally(), Tally(), Tally()
     for data, expected in TOLD:
         all_at_once.add(data, *whole(ours, data), expected)
     for data in inputs(rng):
-        all_at_once.add(data, *whole(ours, data), whole(second, data)[0])
+        all_at_once.add(data, *whole(ours, data), whole(second, data, "--m102")[0])
+    for data, given in by_default(rng):
+        defaults.add(data, *whole(ours, data), whole(second, given)[0])
     told = dict(TOLD)
     for pieces in cut_inputs(rng):
         data = b"".join(pieces)
-        expected = told[data] if data in told else whole(second, data)[0]
+        expected = told[data] if data in told else whole(second, data, "--m102")[0]
         in_reads.add(data, *run_cut(ours, pieces), expected, f" in {len(pieces)} reads")
-    for what, tally, least in (("inputs", all_at_once, 1500), ("inputs in many reads", in_reads, 220)):
+    rows = (("inputs", all_at_once, 1500), ("by default rounds", defaults, 2 * len(REPORT_ROUNDS)), ("inputs in many reads", in_reads, 220))
+    for what, tally, least in rows:
         print(f"seed {seed}: {tally.count} {what}, {tally.bad} differ")
         if tally.bad or tally.count < least:
             sys.exit(1)

@@ -1,7 +1,8 @@
 -- Definitions: what the whole-message call answers. Document 01, the table of numbers, and "Whole message 5, 1, 2, 3, 4, 9".
-use mathlib.Core.Bool.{Bool}
+use mathlib.Core.Bool.{Bool, cond}
 use mathlib.Core.List.{List, [], _∷_, _++_}
-use Prim.Native.Nat.{ℕ, _+_, _/_}
+use Prim.Native.Nat.{ℕ, _+_, _/_, max}
+use lib.Dec.{ltb}
 use lib.ListN.{length, drop}
 use Rattle.bits.specs.Piece.{Piece, pieceBits, bitsTest}
 use Rattle.tree.specs.Tree.{Params, digestBytes, digest, order}
@@ -27,16 +28,24 @@ hashOf message P out =
 
 -- ---- default rounds
 
--- "Default rounds follow document 003: 40 + d/4, rounded down."
-abbrev pub defaultRounds : ℕ → ℕ
-defaultRounds d = 40 + d / 4
+-- "Default rounds follow document 003: 40 + d/4, rounded down": without a key; the report's formula 2.1
+abbrev pub unkeyedRounds : ℕ → ℕ
+unkeyedRounds d = 40 + d / 4
+
+-- document 02, M-102: "The report gives a keyed digest at least 80 rounds"
+abbrev pub leastKeyedRounds : ℕ
+leastKeyedRounds = 80
+
+-- "the default is the larger of 80 and 40 + d/4 if the key has any byte"; the report's formula 2.2
+abbrev pub defaultRounds : ℕ → ℕ → ℕ
+defaultRounds d keyBytes = cond (ltb 0 keyBytes) (max leastKeyedRounds (unkeyedRounds d)) (unkeyedRounds d)
 
 -- a number and a count
 pub record Told : Type 0 where
   pub number : ℕ
   pub count : ℕ
 
--- "A public call tells them for a d"; "a count: .. for default rounds r"; "Default rounds: 1"
-unfoldable pub defaultRoundsOf : ℕ → Told
-defaultRoundsOf d =
-    answerOf (firstRefusal (sizeTests d)) record { number = 0; count = defaultRounds d } (λ k. record { number = k; count = 0 })
+-- "The call that tells the default now takes the key length and refuses 1, then 2"; "a count: .. for default rounds r"
+unfoldable pub defaultRoundsOf : ℕ → ℕ → Told
+defaultRoundsOf d keyBytes =
+    answerOf (firstRefusal (sizeTests d keyBytes)) record { number = 0; count = defaultRounds d keyBytes } (λ k. record { number = k; count = 0 })

@@ -1,2 +1,4 @@
 pub mod Hash
 pub mod HashLaws
+pub mod RoundsExamples
+pub mod RoundsLaws

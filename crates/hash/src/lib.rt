@@ -4,22 +4,39 @@ ghost use mathlib.Core.List.{_++_};
 ghost use lib.ListN.{length, drop};
 ghost use Rattle.bits.specs.Piece.{pieceOf, pieceBits};
 ghost use Rattle.tree.specs.Tree.{digest, digestBytes};
-ghost use Rattle.hash.specs.Hash.{hashNumber, hashOf, defaultRoundsOf};
+ghost use Rattle.hash.specs.Hash.{hashNumber, hashOf, defaultRounds, defaultRoundsOf};
 ghost use Rattle.hash.specs.HashLaws.{withKey, Accepted};
 use node::count;
 use node::digest;
 use refusals::Answer;
 use refusals::Params;
 
-// Tells the default rounds for a digest size.
-pub fn default_rounds(d: u64) -> Answer
-    ensures { λ o. ⌜ record { number = o .number; count = o .count } ≡ defaultRoundsOf d ⌝ }
+// The least default rounds of a keyed digest.
+const KEYED_ROUNDS: u64 = 80;
+
+// The rounds that a digest size and a key length have by default. It answers for sizes out of range too, for a caller that has
+// them refused elsewhere.
+pub fn rounds_by_default(d: u64, keylen: u64) -> u64
+    ensures { λ r. ⌜ r ≡ defaultRounds d keylen ⌝ }
 {
-    let number = refusals::size_number(d);
+    let rounds = 40 + d / 4;
+    if 0 < keylen {
+        if rounds < KEYED_ROUNDS {
+            return KEYED_ROUNDS;
+        }
+    }
+    rounds
+}
+
+// Tells the default rounds for a digest size and a key length.
+pub fn default_rounds(d: u64, keylen: u64) -> Answer
+    ensures { λ o. ⌜ record { number = o .number; count = o .count } ≡ defaultRoundsOf d keylen ⌝ }
+{
+    let number = refusals::size_number(d, keylen);
     if number != 0 {
         return Answer::refused(number);
     }
-    Answer::accepted(40 + d / 4)
+    Answer::accepted(rounds_by_default(d, keylen))
 }
 
 // The number that refuses the whole-message call, and otherwise 0.

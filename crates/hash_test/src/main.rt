@@ -1,6 +1,7 @@
 // Runs the whole-message call on the rows of document 01's "Reels by hand", on the edges of each parameter and on the
 // messages of the report's Appendix C. A line is the number, the count and the output, which held a5 in every byte before
-// the call. tests/hash/expected.py makes the expected lines with the second program.
+// the call. Then the default rounds of every digest size, a line a size. tests/hash/expected.py makes the expected lines with
+// the second program and from document 02.
 ghost use mathlib.Core.Path.{_≡_};
 ghost use Prim.Native.Nat.{_≤_};
 ghost use lib.ListN.{length};
@@ -89,21 +90,39 @@ fn report() {
     show(&bytes, 6400, b"abcde12345", 256, 0, 5, 32);
 }
 
-// The default rounds at the edges of d.
-fn default_rounds(d: u64) {
-    let answer = hash::default_rounds(d);
+// What is told for a digest size and a key length, behind a byte that goes before it.
+fn told(before: &[u8], d: u64, key_bytes: u64) {
+    let answer = hash::default_rounds(d, key_bytes);
+    io::write_all(STDOUT_FILENO, before);
     test_print::answer(answer.number, answer.count);
+}
+
+// The default rounds of a digest size without a key, and with keys about the edges of their length, in one line.
+fn default_rounds(d: u64) {
+    told(b"", d, 0);
+    told(b" ", d, 1);
+    told(b" ", d, 63);
+    told(b" ", d, 64);
+    told(b" ", d, 65);
+    told(b" ", d, 4294967296);
+    told(b" ", d, 18446744073709551615);
     io::write_all(STDOUT_FILENO, b"\n");
+}
+
+// Those of every digest size and of the first past each edge, then those of sizes whose low bits are a digest size's.
+fn all_default_rounds() {
+    let mut d = 0;
+    while d < 514 {
+        default_rounds(d);
+        d += 1;
+    }
+    default_rounds(4294967304);
+    default_rounds(18446744073709551615);
 }
 
 fn main() {
     reels();
     edges();
     report();
-    default_rounds(0);
-    default_rounds(1);
-    default_rounds(160);
-    default_rounds(256);
-    default_rounds(512);
-    default_rounds(513);
+    all_default_rounds();
 }

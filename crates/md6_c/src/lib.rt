@@ -21,12 +21,12 @@ pub extern "C" fn md6_hash(
     answer.number
 }
 
-// Tells the default rounds for a digest size.
+// Tells the default rounds for a digest size and a key length.
 #[no_mangle]
-pub extern "C" fn md6_default_rounds(d: u64) -> refusals::Answer
-    ensures { λ o. ⌜ record { number = o .number; count = o .count } ≡ defaultRoundsOf d ⌝ }
+pub extern "C" fn md6_default_rounds(d: u64, key_bytes: u64) -> refusals::Answer
+    ensures { λ o. ⌜ record { number = o .number; count = o .count } ≡ defaultRoundsOf d «key_bytes» ⌝ }
 {
-    hash::default_rounds(d)
+    hash::default_rounds(d, key_bytes)
 }
 
 // Opens a stream in an area.

@@ -62,7 +62,7 @@ opened-fits line area P rest =
 read-fits : (r : Reading) (line : State) (area rest : List ℕ) → Fits (lineStep r line area rest .text)
 read-fits Unreadable line area rest = line-fits
 read-fits (Readable d limit rounds n) line area rest =
-    opened-fits line area (record { key = take n (line .key .bytes); d = d; limit = limit; rounds = roundsFor rounds d }) rest
+    opened-fits line area (record { key = take n (line .key .bytes); d = d; limit = limit; rounds = roundsFor rounds d n }) rest
 
 scanned-fits : (o : Option Cut) (line : State) (area bytes : List ℕ) → Fits (scanned o line area bytes .text)
 scanned-fits none line area bytes = omega arith

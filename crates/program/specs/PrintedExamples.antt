@@ -1,24 +1,24 @@
 -- Examples: inputs and what is printed for them, computed from the definition; and the same by the calls, with an input cut in two ways.
 use mathlib.Core.Path.{_≡_, refl}
 use mathlib.Core.List.{List, [], _∷_, _++_, map}
+use mathlib.Core.Option.{Option, none, some}
 use Prim.Native.Nat.{ℕ}
 use Prim.Native.Char.{code}
 use Prim.Native.String as string
 use Prim.Native.String.{String}
 use native.Mathlib.Omega.{arith}
 use lib.ListN.{replicate, length-replicate}
-use Rattle.lists.specs.Below.{none, more}
+use Rattle.lists.specs.Below.{none as no-reads, more}
 use Rattle.bits.specs.Bits.{numbers}
-use Rattle.compress.specs.Compress.{grown, compressed}
+use Rattle.compress.specs.Compress.{S, nextS, stepped, word, grown, compressed}
 use Rattle.tree.specs.Tree.{keyWords, output, noChain}
 use Rattle.digits.specs.Digits.{hexDigits}
 use Rattle.calls.specs.Area.{areaWords, paramsOf, levelsOf, withLevels, emptyLevel, emptyLevels, sound}
 use Rattle.calls.specs.Calls.{withBit, outWords, receive, feedBit, feedBits, closeAbove, closing, openNumber, openedArea, openOf, fedBits, feedNumber, fedArea, feedOf, closedBy, endNumber, endedArea, digestOut, endOf, logWordsOf}
-use Rattle.line.specs.Line.{lineOf}
+use Rattle.line.specs.Line.{Line, lineOf}
 use Rattle.line.specs.Fold.{stepOf, readingOf}
-use Rattle.line.specs.declared.Rounds.the-variants.{Default}
 use Rattle.print.specs.Print.{nodeLine, nodeLines, digestLine}
-use Rattle.program.specs.Printed.{refusedLine, refusedNumber, roundsFor, hashed, printed}
+use Rattle.program.specs.Printed.{refusedLine, refusedNumber, paramsFor, hashed, printed}
 use Rattle.program.specs.Steps.{fedStep, openedStep, takeOf, endedStep, lastOf, startOf, written}
 use Rattle.program.specs.WholeInput.{Input}
 
@@ -51,6 +51,8 @@ table =
     ∷ (ln "0 64 - -", ln "refused 1")
     ∷ (ln "513 64 - -", ln "refused 1")
     ∷ (bytes "8 64 0 " ++ longKey, ln "refused 2")
+    ∷ (bytes "128 64 - " ++ longKey, ln "refused 2")
+    ∷ (bytes "0 64 - " ++ longKey, ln "refused 1")
     ∷ (ln "8 65 0 -" ++ bytes "abc", ln "refused 3")
     ∷ (ln "8 64 256 -", ln "refused 4")
     ∷ (bytes "0 65 256 " ++ longKey, ln "refused 1")
@@ -58,6 +60,8 @@ table =
     ∷ (ln "8 65 256 -", ln "refused 3")
     -- leading zeros, and a key of one byte: V has its length
     ∷ (ln "00008 064 00 00", ln "0100000000000000 0000401100001008" ++ ln "00")
+    -- the same with a round, which is used as given; the digest is the second program's
+    ∷ (ln "8 64 1 00", ln "0100000000000000 0001401100001008" ++ ln "53")
     -- messages; "r = 0 gives C = the last 16 words of B", so the digest is the block's last bits; a further byte 10 is the message's
     ∷ (ln "8 64 0 -" ++ bytes "abc", ln "0100000000000000 00004010fe800008" ++ ln "00")
     ∷ (ln "8 64 0 -" ++ ln "abc", ln "0100000000000000 00004010fe000008" ++ ln "00")
@@ -70,12 +74,35 @@ table =
     ∷ []
 
 pub every-input : map (λ (t : List ℕ × List ℕ). printed (t .0)) table ≡ map (λ (t : List ℕ × List ℕ). t .1) table
-unfolding printed lineOf refusedLine refusedNumber hashed nodeLine digestLine hexDigits numbers keyWords output noChain compressed grown mathlib.Core.List.flatten
+unfolding printed lineOf refusedLine refusedNumber hashed nodeLine digestLine hexDigits numbers keyWords output noChain compressed grown word stepped S nextS mathlib.Core.List.flatten
 every-input = refl
 
--- "r may be - for the default", which is 40 + d/4, rounded down
-pub default-rounds : map (roundsFor Default) (1 ∷ 8 ∷ 255 ∷ 512 ∷ []) ≡ 40 ∷ 42 ∷ 103 ∷ 168 ∷ []
-default-rounds = refl
+-- first lines and the rounds of their streams: "r may be - for the default", which is 40 + d/4, rounded down, without a key, and
+-- "the larger of 80 and 40 + d/4 if the key has any byte"; given rounds "are used as given"
+abbrev lines : List (String × ℕ)
+lines =
+    ("1 64 - -", 40)
+    ∷ ("128 64 - -", 72)
+    ∷ ("159 64 - -", 79)
+    ∷ ("255 64 - -", 103)
+    ∷ ("512 64 - -", 168)
+    ∷ ("1 64 - 00", 80)
+    ∷ ("128 64 - 00", 80)
+    ∷ ("159 64 - 00", 80)
+    ∷ ("164 64 - 00", 81)
+    ∷ ("256 64 - 00ff", 104)
+    ∷ ("512 64 - 00", 168)
+    ∷ ("128 64 79 00", 79)
+    ∷ ("128 64 0 00", 0)
+    ∷ []
+
+abbrev roundsSaid : Option Line → Option ℕ
+roundsSaid none = none
+roundsSaid (some l) = some (paramsFor l .rounds)
+
+pub line-rounds : map (λ (t : String × ℕ). roundsSaid (lineOf (bytes (t .0)))) lines ≡ map (λ (t : String × ℕ). some (t .1)) lines
+unfolding lineOf
+line-rounds = refl
 
 -- ---- by the calls
 
@@ -101,4 +128,4 @@ every-cut = refl
 pub input-met : Input used (ln "8 64 0 -" ∷ bytes "abc" ∷ [])
 unfolding mathlib.Core.List.flatten
 input-met =
-    record { long = rw (length-replicate {A = ℕ} areaWords 7) (omega arith); short = more {w = 9} (omega arith) (more {w = 3} (omega arith) none); few = omega arith }
+    record { long = rw (length-replicate {A = ℕ} areaWords 7) (omega arith); short = more {w = 9} (omega arith) (more {w = 3} (omega arith) no-reads); few = omega arith }

@@ -16,16 +16,14 @@ use Rattle.refusals.specs.RefusalLaws.{first-part, answer-refused}
 use Rattle.calls.specs.Area.{areaWords, totalOf, paramsOf}
 use Rattle.calls.specs.Calls.{Opened, Fed, Finished, openNumber, openOf, feedNumber, feedOf, endNumber, endOf, fedBits, closedBy, logWordsOf, shortTest, openTests, feedTests, endTests}
 use Rattle.calls.specs.CallLaws.{open-number, open-refused, feed-number, feed-accepted, feed-refused, feed-passed, end-number, end-accepted, end-refused, end-passed}
-use Rattle.hash.specs.Hash.{defaultRoundsOf, defaultRounds}
 use Rattle.line.specs.Fold.{readingOf}
 use Rattle.line.specs.declared.Reading.the-variants.{Unreadable, Readable}
 use Rattle.line.specs.declared.Rounds.{Rounds}
-use Rattle.line.specs.declared.Rounds.the-variants.{Default, Given}
 use Rattle.line.specs.declared.State.{State}
 use Rattle.print.specs.Print.{nodeLines, digestLine}
 use Rattle.program.specs.Printed.{firstLine, refusedLine, refusedNumber, roundsFor}
 use Rattle.program.specs.Steps.{allBits, emptyLog, emptyDigest, Step, refuse, fedStep, openedStep, lineStep, scanned, takeOf, Last, endedStep, lastOf}
-use Rattle.program.specs.Taken.{Put, putOf, tookBy, tookOf, tookLastBy, tookLastOf, roundsTold}
+use Rattle.program.specs.Taken.{Put, putOf, tookBy, tookOf, tookLastBy, tookLastOf}
 use Rattle.program.specs.declared.Phase.the-variants.{Line as InLine, Message as InMessage, Refused as IsRefused}
 use Rattle.program.specs.declared.Program.{Program}
 
@@ -116,46 +114,6 @@ module _ {number count : ℕ} {area′ : List ℕ} (line : State) (area : List �
   unfolding openedStep
   open-gives z = rw (← e, z)
 
--- a d out of range is refused before the rounds are looked at, so that its default does not matter
-module _ (area key : List ℕ) (d limit r q : ℕ) (h : firstRefusal (sizeTests d) ≡ 0 → ⊥) where
-  abbrev with-rounds : ℕ → Params
-  with-rounds n = record { key = key; d = d; limit = limit; rounds = n }
-
-  abbrev later : ℕ → List (Bool × ℕ)
-  later n = (ltb mostKeyBytes (length key), 2) ∷ (ltb mostLimit limit, 3) ∷ (ltb mostRounds n, 4) ∷ []
-
-  same-number : openNumber area (with-rounds r) ≡ openNumber area (with-rounds q)
-  unfolding openNumber
-  same-number =
-      ap (cond (ltb (length area) areaWords) 7) (sym (first-part (sizeTests d) (later r) h) ∙ first-part (sizeTests d) (later q) h)
-
-  not-opened : openNumber area (with-rounds r) ≡ 0 → ⊥
-  unfolding openNumber
-  not-opened = by (ltb (length area) areaWords)
-    where
-      by : (t : Bool) → cond t 7 (firstRefusal (sizeTests d ++ later r)) ≡ 0 → ⊥
-      by true e = omega arith
-      by false e = h (first-part (sizeTests d) (later r) h ∙ e)
-
-  same-open : openOf area (with-rounds r) ≡ openOf area (with-rounds q)
-  same-open =
-      let k : ℕ = openNumber area (with-rounds r) in
-      sym (open-refused area (with-rounds r) k refl not-opened) ∙ open-refused area (with-rounds q) k same-number not-opened
-
-told-opens : (line : State) (area key : List ℕ) (rounds : Rounds) (d limit : ℕ) (rest : List ℕ) →
-    openedStep line area (record { key = key; d = d; limit = limit; rounds = roundsTold rounds d }) rest
-    ≡ openedStep line area (record { key = key; d = d; limit = limit; rounds = roundsFor rounds d }) rest
-unfolding openedStep defaultRoundsOf
-told-opens line area key (Given r) d limit rest = refl
-told-opens line area key Default d limit rest =
-    ap (λ (o : Opened). answerOf (o .number) (fedStep line (o .area) rest) (λ k. refuse line area (refusedNumber k))) (by (firstRefusal (sizeTests d)) refl)
-  where
-    by : (n : ℕ) → firstRefusal (sizeTests d) ≡ n →
-        openOf area (record { key = key; d = d; limit = limit; rounds = defaultRoundsOf d .count })
-        ≡ openOf area (record { key = key; d = d; limit = limit; rounds = defaultRounds d })
-    by zero e = rw e
-    by (suc n) e = same-open area key d limit (defaultRoundsOf d .count) (defaultRounds d) (omega (arith, e))
-
 -- ---- end
 
 module _ {number count : ℕ} {area′ digest′ log′ : List ℕ} (area : List ℕ)
@@ -239,10 +197,10 @@ unfolding tookOf
 line-refuses line area rest out h e = rw h (ap (tookBy (record { phase = IsRefused; line = line }) area) e)
 
 -- one that is readable
-pub line-opens : {r : ℕ} (line : State) (area rest out : List ℕ) (d limit : ℕ) (rounds : Rounds) (n : ℕ) → readingOf line ≡ Readable d limit rounds n → r ≡ roundsTold rounds d →
+pub line-opens : {r : ℕ} (line : State) (area rest out : List ℕ) (d limit : ℕ) (rounds : Rounds) (n : ℕ) → readingOf line ≡ Readable d limit rounds n → r ≡ roundsFor rounds d n →
     tookOf (openedStep line area (record { key = take n (line .key .bytes); d = d; limit = limit; rounds = r }) rest) out ≡ tookOf (lineStep (readingOf line) line area rest) out
 line-opens line area rest out d limit rounds n h e =
-    rw (h, e) (ap (λ (s : Step). tookOf s out) (told-opens line area (take n (line .key .bytes)) rounds d limit rest))
+    rw (h, e)
 
 -- one that goes on
 pub no-text : (p : Program) (area out : List ℕ) → record { program = p; count = 0; area = area; out = out } ≡ tookOf (record { program = p; area = area; text = [] }) out

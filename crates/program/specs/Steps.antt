@@ -63,7 +63,7 @@ openedStep line area P rest =
 abbrev pub lineStep : Reading → State → List ℕ → List ℕ → Step
 lineStep Unreadable line area rest = refuse line area refusedLine
 lineStep (Readable d limit rounds n) line area rest =
-    openedStep line area (record { key = take n (line .key .bytes); d = d; limit = limit; rounds = roundsFor rounds d }) rest
+    openedStep line area (record { key = take n (line .key .bytes); d = d; limit = limit; rounds = roundsFor rounds d n }) rest
 
 -- bytes of the first line, to their end or to byte 10
 abbrev pub scanned : Option Cut → State → List ℕ → List ℕ → Step

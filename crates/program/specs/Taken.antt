@@ -4,10 +4,7 @@ use mathlib.Core.Option.{Option, none, some}
 use mathlib.Core.Bool.{true, false}
 use Prim.Native.Nat.{ℕ, _+_, _*_}
 use lib.ListN.{length, drop}
-use Rattle.hash.specs.Hash.{defaultRoundsOf}
 use Rattle.line.specs.Fold.{foldOf}
-use Rattle.line.specs.declared.Rounds.{Rounds}
-use Rattle.line.specs.declared.Rounds.the-variants.{Default, Given}
 use Rattle.line.specs.declared.State.{State}
 use Rattle.print.specs.Print.{lineBytes}
 use Rattle.program.specs.Printed.{Cut, firstLine}
@@ -61,8 +58,3 @@ scannedBy (some c) line bytes = record { ended = true; line = foldOf line (c .li
 
 unfoldable pub scanOf : State → List ℕ → Scanned
 scanOf line bytes = scannedBy (firstLine bytes) line bytes
-
--- the rounds that are handed to `open`: the default is what `default_rounds` tells, which for a d out of range is 0
-abbrev pub roundsTold : Rounds → ℕ → ℕ
-roundsTold Default d = defaultRoundsOf d .count
-roundsTold (Given r) d = r

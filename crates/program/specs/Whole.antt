@@ -13,10 +13,12 @@ use Rattle.calls.specs.Area.{Long}
 use Rattle.calls.specs.Calls.{openNumber}
 use Rattle.calls.specs.CallLaws.{open-number, open-accepted}
 use Rattle.calls.specs.Stands.{settled-opened, open-stands}
+use Rattle.hash.specs.Hash.{defaultRounds}
 use Rattle.line.specs.Line.{Line, lineOf}
 use Rattle.line.specs.Fold.{keptBytes, Says, start, foldOf, readingOf}
 use Rattle.line.specs.Keys.{counted}
 use Rattle.line.specs.Decides.{decides}
+use Rattle.line.specs.declared.Rounds.the-variants.{Default}
 use Rattle.line.specs.declared.State.{State}
 use Rattle.program.specs.Printed.{Cut, firstLine, refusedLine, refusedNumber, paramsFor, printedWith, printedFor, printedOf, printed, hashed}
 use Rattle.program.specs.Steps.{bufferBytes, Step, refuse, openedStep, lineStep, scanned, takeOf, lastOf, startOf, written}
@@ -25,7 +27,7 @@ use Rattle.program.specs.declared.Program.{Program}
 use Rattle.program.specs.WholeInput.{messageIn, Input}
 use Rattle.program.specs.WholeLine.{first-parts, message-length, fold-parts}
 use Rattle.program.specs.WholeMessage.{message}
-use Rattle.program.specs.WholeKey.{KeyBytes, key-bytes, keptParams, kept-number, kept-whole}
+use Rattle.program.specs.WholeKey.{KeyBytes, key-bytes, keptParams, kept-rounds, kept-number, kept-whole}
 
 -- after a refusal nothing more is written
 pub refused-silent : (p : Program) (area : List ℕ) (reads : List (List ℕ)) → p .phase ≡ IsRefused → written p area reads ≡ []
@@ -49,6 +51,20 @@ from-refused : (line : State) (area text : List ℕ) (reads : List (List ℕ)) �
 from-refused line area text reads = rw (refused-silent (record { phase = IsRefused; line = line }) area reads refl) (append-nil text)
 
 -- ---- the line that has ended
+
+-- a readable line opens the stream with its parameters, the key as far as it is kept
+said-opens : (s : State) (l : Line) (area rest : List ℕ) → Says s (some l)
+    → lineStep (readingOf s) s area rest ≡ openedStep s area (keptParams (paramsFor l)) rest
+said-opens s l area rest h =
+    let k : take (min (length (l .key)) keptBytes) (s .key .bytes) ≡ take keptBytes (l .key) =
+    ap (take (min (length (l .key)) keptBytes)) (h .1) ∙ counted (l .key) in
+    rw (h .0, k, kept-rounds (l .rounds) (l .d) (length (l .key)))
+
+-- with `-` for r, the rounds that the stream is opened with are the default of the line's d and of the length of its key
+pub dash-opens : (line : List ℕ) (l : Line) (area rest : List ℕ) → lineOf line ≡ some l → l .rounds ≡ Default
+    → (let s : State = foldOf start line in lineStep (readingOf s) s area rest)
+    ≡ openedStep (foldOf start line) area (record { key = take keptBytes (l .key); d = l .d; limit = l .limit; rounds = defaultRounds (l .d) (length (l .key)) }) rest
+dash-opens line l area rest e r = rw r at (said-opens (foldOf start line) l area rest (rw e at (decides line)))
 
 module _ (area rest : List ℕ) (reads : List (List ℕ)) (long : Long area) (short : Below (suc bufferBytes) (map length (rest ∷ reads)))
     (few : 8 * length (flatten (rest ∷ reads)) < 2 ^ 64) where
@@ -80,10 +96,7 @@ module _ (area rest : List ℕ) (reads : List (List ℕ)) (long : Long area) (sh
   from-said : (s : State) (o : Option Line) → Says s o → KeyBytes o
       → from (lineStep (readingOf s) s area rest) reads ≡ printedFor o (flatten (rest ∷ reads))
   from-said s none h b = rw h (from-refused s area refusedLine reads)
-  from-said s (some l) h b =
-      let k : take (min (length (l .key)) keptBytes) (s .key .bytes) ≡ take keptBytes (l .key) =
-      ap (take (min (length (l .key)) keptBytes)) (h .1) ∙ counted (l .key) in
-      rw (h .0, k) (from-params s (paramsFor l) b)
+  from-said s (some l) h b = rw (said-opens s l area rest h) (from-params s (paramsFor l) b)
 
   -- which its state decides
   from-line : (line : List ℕ) → (let s : State = foldOf start line in from (lineStep (readingOf s) s area rest) reads)

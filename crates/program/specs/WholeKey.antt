@@ -3,7 +3,8 @@ use mathlib.Core.Path.{_≡_, refl, sym, _∙_}
 use mathlib.Core.Bool.{Bool, true, false, cond}
 use mathlib.Core.List.{List, [], _∷_}
 use mathlib.Core.Option.{Option, none, some}
-use Prim.Native.Nat.{ℕ, min}
+use Prim.Native.Nat.{ℕ, _≤_, min}
+use native.Mathlib.Nat.{min-comm}
 use native.Mathlib.Omega.{arith}
 use borrow.Author.Tests.{ltb-true, ltb-false, lt-ltb, le-ltb}
 use lib.Dec.{leb, ltb}
@@ -20,6 +21,8 @@ use Rattle.calls.specs.Calls.{openNumber}
 use Rattle.line.specs.Line.{Line, fields, isDash, numberOf, roundsOf, keyOf, together, fourOf, lineOf}
 use Rattle.line.specs.Fold.{keptBytes}
 use Rattle.line.specs.declared.Rounds.{Rounds}
+use Rattle.line.specs.declared.Rounds.the-variants.{Default, Given}
+use Rattle.program.specs.Printed.{roundsFor}
 
 -- ---- the key is bytes
 
@@ -74,18 +77,25 @@ key-bytes line = four-bytes (fields line)
 abbrev pub keptParams : Params → Params
 keptParams P = record { key = take keptBytes (P .key); d = P .d; limit = P .limit; rounds = P .rounds }
 
--- they are over 64 bytes if the key is
-over-kept : (n : ℕ) → ltb mostKeyBytes (min keptBytes n) ≡ ltb mostKeyBytes n
-over-kept n = by (ltb 64 n) refl
+-- they are over a number of bytes up to 64 if the key is
+over-kept : (b n : ℕ) → b ≤ mostKeyBytes → ltb b (min n keptBytes) ≡ ltb b n
+over-kept b n h = by (ltb b n) refl
   where
-    by : (t : Bool) → ltb 64 n ≡ t → ltb 64 (min 65 n) ≡ ltb 64 n
-    by true e = lt-ltb 64 (min 65 n) (omega (arith, ltb-true 64 n e)) ∙ sym e
-    by false e = le-ltb 64 (min 65 n) (omega (arith, ltb-false 64 n e)) ∙ sym e
+    by : (t : Bool) → ltb b n ≡ t → ltb b (min n keptBytes) ≡ ltb b n
+    by true e = lt-ltb b (min n keptBytes) (omega (arith, ltb-true b n e)) ∙ sym e
+    by false e = le-ltb b (min n keptBytes) (omega (arith, ltb-false b n e)) ∙ sym e
 
--- so an open with them is refused by the same number
+-- so the rounds by default, which go by whether the key has any byte, are the same
+pub kept-rounds : (rounds : Rounds) (d n : ℕ) → roundsFor rounds d (min n keptBytes) ≡ roundsFor rounds d n
+kept-rounds Default d n = rw (over-kept 0 n (omega arith))
+kept-rounds (Given r) d n = refl
+
+-- an open with them is refused by the same number
 pub kept-number : (area : List ℕ) (P : Params) → Long area → openNumber area (keptParams P) ≡ firstRefusal (paramTests P)
 unfolding openNumber
-kept-number area P long = rw (le-ltb (length area) areaWords long, length-take keptBytes (P .key), over-kept (length (P .key)))
+kept-number area P long =
+    let n : ℕ = length (P .key) in
+    rw (le-ltb (length area) areaWords long, length-take keptBytes (P .key), min-comm keptBytes n, over-kept mostKeyBytes n (omega arith))
 
 -- and where none refuses, they are all of the key
 pub kept-whole : (P : Params) → firstRefusal (paramTests P) ≡ 0 → keptParams P ≡ P

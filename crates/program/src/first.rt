@@ -3,9 +3,9 @@ ghost use mathlib.Core.Path.{_≡_};
 ghost use Prim.Native.Nat.{_≤_};
 ghost use lib.ListN.{length, take};
 ghost use Rattle.line.specs.Fold.{keptBytes, readingOf};
-ghost use Rattle.program.specs.Printed.{firstLine};
+ghost use Rattle.program.specs.Printed.{firstLine, roundsFor};
 ghost use Rattle.program.specs.Steps.{bufferBytes, openedStep, lineStep, scanned};
-ghost use Rattle.program.specs.Taken.{textBytes, tookOf, scanOf, roundsTold};
+ghost use Rattle.program.specs.Taken.{textBytes, tookOf, scanOf};
 use super::Phase;
 use super::Program;
 use super::Taken;
@@ -48,15 +48,12 @@ fn scan(start: State, bytes: &[u8]) -> Scanned
     }
 }
 
-// The rounds that a line names. The default for a d out of range is not used: open refuses such a d first.
-fn rounds_for(rounds: Rounds, d: u64) -> u64
-    ensures { λ r. ⌜ r ≡ roundsTold rounds d ⌝ }
+// The rounds that a line names. A d or a key length out of range is left to open, which refuses it.
+fn rounds_for(rounds: Rounds, d: u64, keylen: u64) -> u64
+    ensures { λ r. ⌜ r ≡ roundsFor rounds d keylen ⌝ }
 {
     match rounds {
-        Rounds::Default => {
-            let answer = hash::default_rounds(d);
-            answer.count
-        }
+        Rounds::Default => hash::rounds_by_default(d, keylen),
         Rounds::Given(r) => r,
     }
 }
@@ -115,7 +112,7 @@ fn open_line(line: State, rest: &[u8], area: &mut [u64], out: &mut [u8]) -> Take
         } => {
             let key = line.key;
             let kept = key.bytes;
-            let r = rounds_for(rounds, d);
+            let r = rounds_for(rounds, d, key_bytes as u64);
             open_with(line, kept, key_bytes, d, limit, r, rest, area, out)
         }
     }

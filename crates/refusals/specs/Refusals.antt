@@ -22,14 +22,13 @@ answerOf (suc n) accepted refused = refused (suc n)
 
 -- ---- tests that several calls share
 
--- "1, 0: d not 1 to 512"
-abbrev pub sizeTests : ℕ → List (Bool × ℕ)
-sizeTests d = (ltb d 1, 1) ∷ (ltb mostDigestBits d, 1) ∷ []
+-- the sizes of digest and key: "1, 0: d not 1 to 512", then "2, 0: key over 64 bytes"
+abbrev pub sizeTests : ℕ → ℕ → List (Bool × ℕ)
+sizeTests d keyBytes = (ltb d 1, 1) ∷ (ltb mostDigestBits d, 1) ∷ (ltb mostKeyBytes keyBytes, 2) ∷ []
 
--- then "2, 0: key over 64 bytes", "3, 0: L over 64", "4, 0: r over 255", in that order
+-- then "3, 0: L over 64", "4, 0: r over 255", in that order
 abbrev pub rangeTests : ℕ → ℕ → ℕ → ℕ → List (Bool × ℕ)
-rangeTests keyBytes d limit rounds =
-    sizeTests d ++ ((ltb mostKeyBytes keyBytes, 2) ∷ (ltb mostLimit limit, 3) ∷ (ltb mostRounds rounds, 4) ∷ [])
+rangeTests keyBytes d limit rounds = sizeTests d keyBytes ++ ((ltb mostLimit limit, 3) ∷ (ltb mostRounds rounds, 4) ∷ [])
 
 abbrev pub paramTests : Params → List (Bool × ℕ)
 paramTests P = rangeTests (length (P .key)) (P .d) (P .limit) (P .rounds)

@@ -73,15 +73,19 @@ pub fn bits_over(bits: u64, bytes: u64) -> bool
     bytes < bits / 8 + (bits % 8 + 7) / 8
 }
 
-// 1 for a digest size that is not 1 to 512, and otherwise 0.
-pub fn size_number(d: u64) -> u64
-    ensures { λ r. ⌜ r ≡ firstRefusal (sizeTests d) ⌝ }
+// The number that refuses the sizes of digest and key, and otherwise 0: 1 for a digest size that is not 1 to 512, then 2 for a
+// key of over 64 bytes.
+pub fn size_number(d: u64, keylen: u64) -> u64
+    ensures { λ r. ⌜ r ≡ firstRefusal (sizeTests d keylen) ⌝ }
 {
     if d < 1 {
-        return 1;
+        return 1; // no digest
     }
     if Params::MOST_DIGEST_BITS < d {
-        return 1;
+        return 1; // too long a digest
+    }
+    if Params::MOST_KEY_BYTES < keylen {
+        return 2;
     }
     0
 }
@@ -90,12 +94,9 @@ pub fn size_number(d: u64) -> u64
 pub fn params_number(params: Params) -> u64
     ensures { λ r. ⌜ r ≡ firstRefusal (rangeTests (params .keylen) (params .d) (params .limit) (params .rounds)) ⌝ }
 {
-    let size = size_number(params.d);
+    let size = size_number(params.d, params.keylen);
     if size != 0 {
         return size;
-    }
-    if Params::MOST_KEY_BYTES < params.keylen {
-        return 2;
     }
     if Params::MOST_LIMIT < params.limit {
         return 3;

@@ -159,13 +159,16 @@ wholeRows =
     ∷ (hashOf (pieceOf byte 8) (params 513 0 0 0) room .number, 1)
     ∷ []
 
--- "Default rounds: 1"
+-- document 02, M-102: "refuses 1, then 2"; edges: d 0, 1, 512 and 513; key 64 and 65
 abbrev roundsRows : List Row
 roundsRows =
-    (defaultRoundsOf 0 .number, 1)
-    ∷ (defaultRoundsOf 1 .number, 0)
-    ∷ (defaultRoundsOf 512 .number, 0)
-    ∷ (defaultRoundsOf 513 .number, 1)
+    (defaultRoundsOf 0 65 .number, 1)
+    ∷ (defaultRoundsOf 513 65 .number, 1)
+    ∷ (defaultRoundsOf 512 65 .number, 2)
+    ∷ (defaultRoundsOf 512 64 .number, 0)
+    ∷ (defaultRoundsOf 513 0 .number, 1)
+    ∷ (defaultRoundsOf 1 0 .number, 0)
+    ∷ (defaultRoundsOf 0 0 .number, 1)
     ∷ []
 
 abbrev pub rows : List Row

@@ -14,10 +14,12 @@ returns c =
 
 returns-2 : tie.Need-returns-2
 unfolding defaultRoundsOf
-returns-2 c = rw (c .accepted .ensures .0, c .accepted .ensures .1, sym (c .before .before .size-number .ensures) ∙ c .before .if1 .left)
+returns-2 c =
+    let size = c .before .before .before .size-number in
+    rw (c .accepted .ensures .0, c .accepted .ensures .1, c .before .rounds-by-default .ensures, sym (size .ensures) ∙ c .before .before .if1 .left)
 
 pub default-rounds-spec : {M : Type 1} → statement M
 default-rounds-spec =
     tie.close
     (tie.spec
-    (λ c κs. search needs) (λ c κs. search needs) returns (λ c. search needs) (λ c κs. search needs) returns-2)
+    (λ c κs. search needs) (λ c κs. search needs) returns (λ c κs. search needs) (λ c κs. search needs) returns-2)

@@ -1,12 +1,10 @@
--- `program::first::rounds_for` meets its contract: each arm is a case of `roundsTold`.
-use mathlib.Core.Path.{ap}
+-- `program::first::rounds_for` meets its contract: each arm is a case of `roundsFor`.
 use borrow.Author.Needs.{needs}
-use Rattle.hash.specs.Hash.{Told}
 use Rattle.program.proofs.first.rounds_for.Statement.{statement}
 use Rattle.program.proofs.first.rounds_for.Tie as tie
 
 returns : tie.Need-returns
-returns c = rw (c .before .enum-told .given .1) (ap (λ (t : Told). t .count) (c .default-rounds .ensures))
+returns c = rw (c .before .enum-told .given .1) (c .rounds-by-default .ensures)
 
 pub rounds-for-spec : {M : Type 1} → statement M
 rounds-for-spec =
