@@ -2,7 +2,7 @@
 use mathlib.Core.Path.{_≡_, refl}
 use mathlib.Core.List.{List, [], _∷_, map}
 use Prim.Native.Nat.{ℕ}
-use Rattle.hash.specs.Hash.{Told, defaultRoundsOf}
+use Rattle.hash.specs.Hash.{defaultRoundsOf}
 
 -- a digest size, a key length, and the rounds that are told for them
 pub record Row : Type 0 where

@@ -1,19 +1,19 @@
--- Laws: each branch of a step, by what the stream's call printedWith: the numbers that refuse it are below 100, the log has room for its nodes,
+-- Laws: each branch of a step, by what the stream's call answers: the numbers that refuse it are below 100, the log has room for its nodes,
 -- and what is put into the text makes up what the step gives.
 use mathlib.Core.Path.{_≡_, refl, sym, ap, _∙_}
-use mathlib.Core.Bool.{Bool, true, false, cond, _&&_}
+use mathlib.Core.Bool.{Bool, true, false, _&&_}
 use mathlib.Core.List.{List, [], _∷_, _++_}
-use Prim.Native.Nat.{ℕ, zero, suc, _*_, _≤_, _<_}
+use Prim.Native.Nat.{ℕ, _*_, _≤_, _<_}
 use native.Mathlib.Omega.{arith}
 use borrow.Author.Tests.{ltb-true}
 use lib.Dec.{ltb}
 use lib.ListN.{length, take, getD, replicate}
 use Rattle.lists.specs.And.{and-parts}
-use Rattle.tree.specs.Tree.{Params, mostKeyBytes, mostLimit, mostRounds, digestBytes}
+use Rattle.tree.specs.Tree.{Params, digestBytes}
 use Rattle.bits.specs.Piece.{pieceBits}
-use Rattle.refusals.specs.Refusals.{firstRefusal, answerOf, sizeTests, paramTests}
-use Rattle.refusals.specs.RefusalLaws.{first-part, answer-refused}
-use Rattle.calls.specs.Area.{areaWords, totalOf, paramsOf}
+use Rattle.refusals.specs.Refusals.{firstRefusal, paramTests}
+use Rattle.refusals.specs.RefusalLaws.{answer-refused}
+use Rattle.calls.specs.Area.{totalOf, paramsOf}
 use Rattle.calls.specs.Calls.{Opened, Fed, Finished, openNumber, openOf, feedNumber, feedOf, endNumber, endOf, fedBits, closedBy, logWordsOf, shortTest, openTests, feedTests, endTests}
 use Rattle.calls.specs.CallLaws.{open-number, open-refused, feed-number, feed-accepted, feed-refused, feed-passed, end-number, end-accepted, end-refused, end-passed}
 use Rattle.line.specs.Fold.{readingOf}

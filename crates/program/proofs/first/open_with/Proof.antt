@@ -1,4 +1,4 @@
--- `program::first::open_with` meets its contract, by what `stream::open` printedWith.
+-- `program::first::open_with` meets its contract, by what `stream::open` answers.
 use mathlib.Core.Path.{sym, ap, _∙_}
 use lib.Seq.{length-take-le}
 use lib.ListN.{take}

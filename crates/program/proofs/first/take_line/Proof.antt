@@ -1,4 +1,4 @@
--- `program::first::take_line` meets its contract, by what `scan` printedWith.
+-- `program::first::take_line` meets its contract, by what `scan` answers.
 use mathlib.Core.Path.{ap, _∙_}
 use borrow.Author.Needs.{needs}
 use Rattle.program.specs.Taken.{tookOf}

@@ -1,4 +1,4 @@
--- `program::message::end` meets its contract, by what `stream::end` printedWith.
+-- `program::message::end` meets its contract, by what `stream::end` answers.
 use native.Mathlib.Omega.{arith}
 use borrow.Author.Needs.{needs}
 use Rattle.program.specs.StepLaws.{end-small, end-room, end-size, end-refuses, end-gives}

@@ -1,4 +1,4 @@
--- `program::message::feed` meets its contract, by what `stream::feed` printedWith.
+-- `program::message::feed` meets its contract, by what `stream::feed` answers.
 use native.Mathlib.Omega.{arith}
 use borrow.Author.Needs.{needs}
 use Rattle.program.specs.StepLaws.{feed-small, feed-room, feed-refuses, feed-gives}
