@@ -66,5 +66,9 @@ int main(int argc, char **argv)
     for (i = 0; i < sizeof tag; i++)
         printf("%02x", (unsigned)tag[i]);
     printf("\n");
+    if (fflush(stdout) != 0) {
+        perror("standard output");
+        return 1;
+    }
     return 0;
 }

@@ -145,7 +145,7 @@ static int default_right(uint64_t d, uint64_t key_bytes)
     return told.number == number && told.count == (number == 0 ? rounds : 0);
 }
 
-/* every digest size with every key length and some past the edges, then numbers far out of range */
+/* every digest size with every key length and some past the edges, then numbers of `far` */
 static int default_rounds_right(void)
 {
     uint64_t d, key_bytes, i, j;

@@ -1,4 +1,5 @@
--- Definitions: what the whole-message call answers. Document 01, the table of numbers, and "Whole message 5, 1, 2, 3, 4, 9".
+-- Definitions: what the whole-message call and the telling of default rounds answer. Document 01, the table of numbers, and "Whole
+-- message 5, 1, 2, 3, 4, 9"; document 02, M-102.
 use mathlib.Core.Bool.{Bool, cond}
 use mathlib.Core.List.{List, [], _∷_, _++_}
 use Prim.Native.Nat.{ℕ, _+_, _/_, max}
@@ -37,8 +38,8 @@ abbrev pub leastKeyedRounds : ℕ
 leastKeyedRounds = 80
 
 -- "the default is the larger of 80 and 40 + d/4 if the key has any byte"; the report's formula 2.2
-abbrev pub defaultRounds : ℕ → ℕ → ℕ
-defaultRounds d keyBytes = cond (ltb 0 keyBytes) (max leastKeyedRounds (unkeyedRounds d)) (unkeyedRounds d)
+abbrev pub roundsByDefault : ℕ → ℕ → ℕ
+roundsByDefault d keyBytes = cond (ltb 0 keyBytes) (max leastKeyedRounds (unkeyedRounds d)) (unkeyedRounds d)
 
 -- a number and a count
 pub record Told : Type 0 where
@@ -48,4 +49,4 @@ pub record Told : Type 0 where
 -- "The call that tells the default now takes the key length and refuses 1, then 2"; "a count: .. for default rounds r"
 unfoldable pub defaultRoundsOf : ℕ → ℕ → Told
 defaultRoundsOf d keyBytes =
-    answerOf (firstRefusal (sizeTests d keyBytes)) record { number = 0; count = defaultRounds d keyBytes } (λ k. record { number = k; count = 0 })
+    answerOf (firstRefusal (sizeTests d keyBytes)) record { number = 0; count = roundsByDefault d keyBytes } (λ k. record { number = k; count = 0 })

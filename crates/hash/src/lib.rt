@@ -4,7 +4,7 @@ ghost use mathlib.Core.List.{_++_};
 ghost use lib.ListN.{length, drop};
 ghost use Rattle.bits.specs.Piece.{pieceOf, pieceBits};
 ghost use Rattle.tree.specs.Tree.{digest, digestBytes};
-ghost use Rattle.hash.specs.Hash.{hashNumber, hashOf, defaultRounds, defaultRoundsOf};
+ghost use Rattle.hash.specs.Hash.{hashNumber, hashOf, roundsByDefault, defaultRoundsOf};
 ghost use Rattle.hash.specs.HashLaws.{withKey, Accepted};
 use node::count;
 use node::digest;
@@ -12,17 +12,17 @@ use refusals::Answer;
 use refusals::Params;
 
 // The least default rounds of a keyed digest.
-const KEYED_ROUNDS: u64 = 80;
+const LEAST_KEYED_ROUNDS: u64 = 80;
 
 // The rounds that a digest size and a key length have by default. It answers for sizes out of range too, for a caller that has
 // them refused elsewhere.
 pub fn rounds_by_default(d: u64, keylen: u64) -> u64
-    ensures { λ r. ⌜ r ≡ defaultRounds d keylen ⌝ }
+    ensures { λ r. ⌜ r ≡ roundsByDefault d keylen ⌝ }
 {
     let rounds = 40 + d / 4;
     if 0 < keylen {
-        if rounds < KEYED_ROUNDS {
-            return KEYED_ROUNDS;
+        if rounds < LEAST_KEYED_ROUNDS {
+            return LEAST_KEYED_ROUNDS;
         }
     }
     rounds

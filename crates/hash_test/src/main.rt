@@ -90,7 +90,7 @@ fn report() {
     show(&bytes, 6400, b"abcde12345", 256, 0, 5, 32);
 }
 
-// What is told for a digest size and a key length, behind a byte that goes before it.
+// What is told for a digest size and a key length, behind what separates it from what stands before it.
 fn told(before: &[u8], d: u64, key_bytes: u64) {
     let answer = hash::default_rounds(d, key_bytes);
     io::write_all(STDOUT_FILENO, before);

@@ -1,4 +1,5 @@
--- Examples: inputs and what is printed for them, computed from the definition; and the same by the calls, with an input cut in two ways.
+-- Examples: inputs and what is printed for them, computed from the definition; the rounds that first lines have; and what is printed by
+-- the calls, with an input cut in two ways.
 use mathlib.Core.Path.{_≡_, refl}
 use mathlib.Core.List.{List, [], _∷_, _++_, map}
 use mathlib.Core.Option.{Option, none, some}

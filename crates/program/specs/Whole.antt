@@ -13,14 +13,14 @@ use Rattle.calls.specs.Area.{Long}
 use Rattle.calls.specs.Calls.{openNumber}
 use Rattle.calls.specs.CallLaws.{open-number, open-accepted}
 use Rattle.calls.specs.Stands.{settled-opened, open-stands}
-use Rattle.hash.specs.Hash.{defaultRounds}
+use Rattle.hash.specs.Hash.{roundsByDefault}
 use Rattle.line.specs.Line.{Line, lineOf}
 use Rattle.line.specs.Fold.{keptBytes, Says, start, foldOf, readingOf}
 use Rattle.line.specs.Keys.{counted}
 use Rattle.line.specs.Decides.{decides}
 use Rattle.line.specs.declared.Rounds.the-variants.{Default}
 use Rattle.line.specs.declared.State.{State}
-use Rattle.program.specs.Printed.{Cut, firstLine, refusedLine, refusedNumber, paramsFor, printedWith, printedFor, printedOf, printed, hashed}
+use Rattle.program.specs.Printed.{Cut, firstLine, refusedLine, refusedNumber, roundsFor, paramsFor, printedWith, printedFor, printedOf, printed, hashed}
 use Rattle.program.specs.Steps.{bufferBytes, Step, refuse, openedStep, lineStep, scanned, takeOf, lastOf, startOf, written}
 use Rattle.program.specs.declared.Phase.the-variants.{Line as InLine, Refused as IsRefused}
 use Rattle.program.specs.declared.Program.{Program}
@@ -52,7 +52,7 @@ from-refused line area text reads = rw (refused-silent (record { phase = IsRefus
 
 -- ---- the line that has ended
 
--- a readable line opens the stream with its parameters, the key as far as it is kept
+-- what a state says is opened: the line's parameters, the key as far as it is kept
 said-opens : (s : State) (l : Line) (area rest : List ℕ) → Says s (some l)
     → lineStep (readingOf s) s area rest ≡ openedStep s area (keptParams (paramsFor l)) rest
 said-opens s l area rest h =
@@ -60,11 +60,17 @@ said-opens s l area rest h =
     ap (take (min (length (l .key)) keptBytes)) (h .1) ∙ counted (l .key) in
     rw (h .0, k, kept-rounds (l .rounds) (l .d) (length (l .key)))
 
--- with `-` for r, the rounds that the stream is opened with are the default of the line's d and of the length of its key
+-- a readable line opens the stream with its own d, L and key, of which 65 bytes are kept, and with the rounds that it names
+pub readable-opens : (line : List ℕ) (l : Line) (area rest : List ℕ) → lineOf line ≡ some l
+    → (let s : State = foldOf start line in lineStep (readingOf s) s area rest)
+    ≡ openedStep (foldOf start line) area (record { key = take keptBytes (l .key); d = l .d; limit = l .limit; rounds = roundsFor (l .rounds) (l .d) (length (l .key)) }) rest
+readable-opens line l area rest e = said-opens (foldOf start line) l area rest (rw e at (decides line))
+
+-- with `-` for r, these are the default of the line's d and of the length of its key
 pub dash-opens : (line : List ℕ) (l : Line) (area rest : List ℕ) → lineOf line ≡ some l → l .rounds ≡ Default
     → (let s : State = foldOf start line in lineStep (readingOf s) s area rest)
-    ≡ openedStep (foldOf start line) area (record { key = take keptBytes (l .key); d = l .d; limit = l .limit; rounds = defaultRounds (l .d) (length (l .key)) }) rest
-dash-opens line l area rest e r = rw r at (said-opens (foldOf start line) l area rest (rw e at (decides line)))
+    ≡ openedStep (foldOf start line) area (record { key = take keptBytes (l .key); d = l .d; limit = l .limit; rounds = roundsByDefault (l .d) (length (l .key)) }) rest
+dash-opens line l area rest e r = rw r at (readable-opens line l area rest e)
 
 module _ (area rest : List ℕ) (reads : List (List ℕ)) (long : Long area) (short : Below (suc bufferBytes) (map length (rest ∷ reads)))
     (few : 8 * length (flatten (rest ∷ reads)) < 2 ^ 64) where

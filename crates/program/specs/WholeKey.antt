@@ -1,4 +1,4 @@
--- Laws: a first line's key is bytes, and what is kept of it is refused as it is itself.
+-- Laws: a first line's key is bytes, and what is kept of it has the same default rounds and is refused as it is itself.
 use mathlib.Core.Path.{_≡_, refl, sym, _∙_}
 use mathlib.Core.Bool.{Bool, true, false, cond}
 use mathlib.Core.List.{List, [], _∷_}
@@ -77,7 +77,7 @@ key-bytes line = four-bytes (fields line)
 abbrev pub keptParams : Params → Params
 keptParams P = record { key = take keptBytes (P .key); d = P .d; limit = P .limit; rounds = P .rounds }
 
--- they are over a number of bytes up to 64 if the key is
+-- they are over a number of bytes up to 64 exactly if the key is
 over-kept : (b n : ℕ) → b ≤ mostKeyBytes → ltb b (min n keptBytes) ≡ ltb b n
 over-kept b n h = by (ltb b n) refl
   where

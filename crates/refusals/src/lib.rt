@@ -85,7 +85,7 @@ pub fn size_number(d: u64, keylen: u64) -> u64
         return 1; // too long a digest
     }
     if Params::MOST_KEY_BYTES < keylen {
-        return 2;
+        return 2; // too long a key
     }
     0
 }

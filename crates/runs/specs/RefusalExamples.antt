@@ -1,4 +1,4 @@
--- Examples: every number of the table of refusals and every order of document 01, by computing. For any two numbers that follow
+-- Examples: every number of the table of refusals and every order of documents 01 and 02, by computing. For any two numbers that follow
 -- each other in an order there is a call to which both apply, which answers the first, and then one to which only the later
 -- applies; after these come the edges, each with what is accepted at it and refused past it.
 use mathlib.Core.Path.{_≡_, refl}
