@@ -109,7 +109,7 @@ fn default_rounds(d: u64) {
     io::write_all(STDOUT_FILENO, b"\n");
 }
 
-// Those of every digest size and of the first past each edge, then those of sizes whose low bits are a digest size's.
+// Those of every digest size and of the first past each edge, then of 2^32 + 8, whose low half is a digest size, and of 2^64 - 1.
 fn all_default_rounds() {
     let mut d = 0;
     while d < 514 {
