@@ -66,5 +66,9 @@ int main(int argc, char **argv)
     for (i = 0; i < sizeof digest; i++)
         printf("%02x", (unsigned)digest[i]);
     printf("  %s\n", argv[1]);
+    if (fflush(stdout) != 0) {
+        perror("standard output");
+        return 1;
+    }
     return 0;
 }
