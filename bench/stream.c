@@ -1,7 +1,8 @@
 /*
  * The stream's calls of the archive, zero bytes, L = 64: a message fed in
  * pieces of 64 KB against md6_hash of it, both in one run, interleaved, best
- * of several; pieces of one byte; and an end. The targets stand in the table.
+ * of several; pieces of one byte; an end; and log words told. The targets stand
+ * in the table.
  */
 #define _POSIX_C_SOURCE 199309L
 #include "reference.h"
@@ -96,6 +97,26 @@ static int time_end(const uint8_t *message)
     return bad;
 }
 
+/* told log words for a bit, and for as many bits as the total leaves */
+static int time_telling(const uint8_t *message)
+{
+    double best[2] = { 0, 0 };
+    uint64_t bits[2] = { 1, UINT64_MAX - 8 * (uint64_t)SHORT };
+    unsigned k, i, calls = 10000;
+    int bad = open_area(256, md6_default_rounds(256, 0).count);
+
+    bad |= feed_pieces(message, SHORT, PIECE);
+    for (k = 0; k < 10; k++) {
+        double t0 = seconds();
+        for (i = 0; i < calls; i++)
+            bad |= md6_log_words(area, MD6_AREA_WORDS, bits[k % 2]).number != 0;
+        keep_best(&best[k % 2], seconds() - t0);
+    }
+    printf("log words told for a bit, microseconds          %7.3f     3\n", best[0] * 1e6 / calls);
+    printf("and for nearly 2^64 bits                        %7.3f     3\n", best[1] * 1e6 / calls);
+    return bad;
+}
+
 int main(void)
 {
     uint8_t *message = get(MESSAGE, 1);
@@ -106,6 +127,7 @@ int main(void)
     bad = time_pieces(message);
     bad |= time_bytes(message);
     bad |= time_end(message);
+    bad |= time_telling(message);
     free(message);
     return bad;
 }

@@ -22,11 +22,11 @@ def load(path):
     u64, size = ctypes.c_uint64, ctypes.c_size_t
     words, octets = ctypes.POINTER(u64), ctypes.c_char_p
     md6.md6_default_rounds.argtypes = [u64, u64]
-    md6.md6_log_words.argtypes = [u64]
     md6.md6_open.argtypes = [words, size, octets, size, u64, u64, u64]
+    md6.md6_log_words.argtypes = [words, size, u64]
     md6.md6_feed.argtypes = [words, size, octets, size, u64, words, size]
     md6.md6_end.argtypes = [words, size, ctypes.POINTER(ctypes.c_uint8), size, words, size]
-    for call in (md6.md6_default_rounds, md6.md6_log_words, md6.md6_open, md6.md6_feed, md6.md6_end):
+    for call in (md6.md6_default_rounds, md6.md6_open, md6.md6_log_words, md6.md6_feed, md6.md6_end):
         call.restype = Answer
     return md6
 
@@ -42,7 +42,7 @@ def seal(md6, file):
     rounds = accepted(md6.md6_default_rounds(D, 0))
     accepted(md6.md6_open(area, AREA_WORDS, b"", 0, D, LIMIT, rounds))
     while piece := file.read(1 << 16):
-        told = accepted(md6.md6_log_words(8 * len(piece)))
+        told = accepted(md6.md6_log_words(area, AREA_WORDS, 8 * len(piece)))
         log = (ctypes.c_uint64 * told)()
         accepted(md6.md6_feed(area, AREA_WORDS, piece, len(piece), 8 * len(piece), log, told))
     digest = (ctypes.c_uint8 * (D // 8))()

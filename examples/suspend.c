@@ -6,7 +6,7 @@
 
 #include "../include/md6.h"
 
-enum { D = 256, LIMIT = 64, LOG_WORDS = 256 };
+enum { D = 256, LIMIT = 64 };
 
 static void need(int good, const char *what)
 {
@@ -24,11 +24,26 @@ static void show_nodes(const uint64_t *log, uint64_t count)
         printf("%016" PRIx64 " %016" PRIx64 "\n", log[2 * i], log[2 * i + 1]);
 }
 
+/* feeds bits with a log of just the words that are told for them, and prints the nodes; a log of no words may be a null pointer */
+static void feed(uint64_t *area, const uint8_t *piece, size_t bytes, uint64_t bits)
+{
+    md6_answer told = md6_log_words(area, MD6_AREA_WORDS, bits), o;
+    size_t words = (size_t)told.count;
+    uint64_t *log = malloc(words * sizeof *log);
+
+    need(told.number == 0, "log words");
+    need(log != NULL || words == 0, "memory for a log");
+    o = md6_feed(area, MD6_AREA_WORDS, piece, bytes, bits, log, words);
+    need(o.number == 0, "feed");
+    show_nodes(log, o.count);
+    free(log);
+}
+
 int main(void)
 {
-    static uint64_t here[MD6_AREA_WORDS], there[MD6_AREA_WORDS], log[LOG_WORDS];
+    static uint64_t here[MD6_AREA_WORDS], there[MD6_AREA_WORDS], log[MD6_END_LOG_WORDS];
     static uint8_t text[MD6_TEXT_BYTES], message[1500];
-    uint8_t digest[D / 8], whole[D / 8];
+    uint8_t digest[D / 8], whole[D / 8], rest;
     uint64_t rounds = md6_default_rounds(D, 0).count;
     md6_answer o;
     size_t i;
@@ -36,12 +51,9 @@ int main(void)
     for (i = 0; i < sizeof message; i++)
         message[i] = (uint8_t)i;
 
-    /* 1,000 bytes, then 3 bits of the next byte: cuts may fall anywhere; what a feed needs of log is told before */
+    /* 1,000 bytes, then 3 bits of the next byte: cuts may fall anywhere */
     need(md6_open(here, MD6_AREA_WORDS, NULL, 0, D, LIMIT, rounds).number == 0, "open");
-    need(md6_log_words(8 * 1000 + 3).count <= LOG_WORDS, "a log of that size");
-    o = md6_feed(here, MD6_AREA_WORDS, message, 1001, 8 * 1000 + 3, log, LOG_WORDS);
-    need(o.number == 0, "feed");
-    show_nodes(log, o.count);
+    feed(here, message, 1001, 8 * 1000 + 3);
 
     /* the stream as text; from the read on it is in the other area */
     o = md6_write(here, MD6_AREA_WORDS, text, sizeof text);
@@ -49,12 +61,12 @@ int main(void)
     need(md6_read(there, MD6_AREA_WORDS, text, (size_t)o.count).number == 0, "read");
 
     /* the other 5 bits of that byte, moved to the front of a byte of their own, and the rest */
-    text[0] = (uint8_t)(message[1000] << 3);
-    need(md6_feed(there, MD6_AREA_WORDS, text, 1, 5, log, LOG_WORDS).number == 0, "feed");
-    o = md6_feed(there, MD6_AREA_WORDS, message + 1001, 499, 8 * 499, log, LOG_WORDS);
-    need(o.number == 0, "feed");
-    show_nodes(log, o.count);
-    o = md6_end(there, MD6_AREA_WORDS, digest, sizeof digest, log, LOG_WORDS);
+    rest = (uint8_t)(message[1000] << 3);
+    feed(there, &rest, 1, 5);
+    feed(there, message + 1001, 499, 8 * 499);
+
+    /* an end needs at most MD6_END_LOG_WORDS */
+    o = md6_end(there, MD6_AREA_WORDS, digest, sizeof digest, log, MD6_END_LOG_WORDS);
     need(o.number == 0, "end");
     show_nodes(log, o.count);
     for (i = 0; i < sizeof digest; i++)

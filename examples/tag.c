@@ -11,8 +11,12 @@
 
 enum { D = 128, LIMIT = 64, KEY_ROOM = 65, PIECE_BYTES = 1 << 16 };
 
-/* always enough for a piece (docs/C.md, "Sizes to lend"), and for the end */
-enum { LOG_WORDS = 4 * (8 * PIECE_BYTES / 4096) + MD6_END_LOG_WORDS };
+/* a log that grows when a piece needs more words than it has; a piece of 64 KB never needs more than some hundreds, however long
+ * the input is */
+struct log {
+    uint64_t *words;
+    size_t room;
+};
 
 static uint64_t accepted(md6_answer o)
 {
@@ -41,10 +45,27 @@ static size_t read_key(const char *name, uint8_t key[KEY_ROOM])
     return n;
 }
 
+/* a log of at least so many words */
+static void make_room(struct log *log, uint64_t words)
+{
+    uint64_t *more;
+
+    if (words <= log->room)
+        return;
+    more = realloc(log->words, (size_t)words * sizeof *more);
+    if (more == NULL) {
+        perror("log");
+        exit(1);
+    }
+    log->words = more;
+    log->room = (size_t)words;
+}
+
 int main(int argc, char **argv)
 {
-    static uint64_t area[MD6_AREA_WORDS], log[LOG_WORDS];
+    static uint64_t area[MD6_AREA_WORDS];
     static uint8_t piece[PIECE_BYTES];
+    struct log log = { NULL, 0 };
     uint8_t key[KEY_ROOM], tag[D / 8];
     size_t key_bytes, n, i;
     uint64_t rounds;
@@ -56,13 +77,17 @@ int main(int argc, char **argv)
     key_bytes = read_key(argv[1], key);
     rounds = accepted(md6_default_rounds(D, key_bytes));
     accepted(md6_open(area, MD6_AREA_WORDS, key, key_bytes, D, LIMIT, rounds));
-    while ((n = fread(piece, 1, sizeof piece, stdin)) > 0)
-        accepted(md6_feed(area, MD6_AREA_WORDS, piece, n, 8 * (uint64_t)n, log, LOG_WORDS));
+    while ((n = fread(piece, 1, sizeof piece, stdin)) > 0) {
+        make_room(&log, accepted(md6_log_words(area, MD6_AREA_WORDS, 8 * (uint64_t)n)));
+        accepted(md6_feed(area, MD6_AREA_WORDS, piece, n, 8 * (uint64_t)n, log.words, log.room));
+    }
     if (ferror(stdin)) {
         perror("standard input");
         return 1;
     }
-    accepted(md6_end(area, MD6_AREA_WORDS, tag, sizeof tag, log, LOG_WORDS));
+    make_room(&log, MD6_END_LOG_WORDS);
+    accepted(md6_end(area, MD6_AREA_WORDS, tag, sizeof tag, log.words, log.room));
+    free(log.words);
     for (i = 0; i < sizeof tag; i++)
         printf("%02x", (unsigned)tag[i]);
     printf("\n");

@@ -69,7 +69,7 @@ md6_answer md6_open(uint64_t *area, size_t area_words,
  *   10  the stream has ended
  *   5   `bits` is over 8 times the piece's bytes
  *   6   the stream's total would pass 2^64 - 1 bits
- *   8   the log has fewer than two words for each node
+ *   8   the log has fewer than two words for each node; md6_log_words tells how many it needs
  */
 md6_answer md6_feed(uint64_t *area, size_t area_words,
                     const uint8_t *piece, size_t piece_bytes, uint64_t bits,
@@ -86,8 +86,14 @@ md6_answer md6_end(uint64_t *area, size_t area_words,
                    uint8_t *digest, size_t digest_bytes,
                    uint64_t *log, size_t log_words);
 
-/* As count, words of log that are enough to feed `bits` bits to any open area. Refuses nothing. */
-md6_answer md6_log_words(uint64_t bits);
+/* As count, the words of log that a feed of `bits` bits to this area needs: exactly two for each node that it would make. With
+ * that many words md6_feed does not answer 8, and with one fewer it does, unless it refuses the feed for another reason. The
+ * area is only read. Refuses, the first that holds:
+ *   7   the area is short or unsound
+ *   10  the stream has ended
+ *   6   the stream's total would pass 2^64 - 1 bits
+ */
+md6_answer md6_log_words(const uint64_t *area, size_t area_words, uint64_t bits);
 
 /* Writes a stream as text, to read it back later, there or elsewhere; the count is the text's bytes, at most MD6_TEXT_BYTES.
  * The bytes past the text stay. Refuses, the first that holds:

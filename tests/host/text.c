@@ -2,9 +2,9 @@
  *
  *   text [SEED]
  *
- * Suspensions at every edge, and each damage of a text that can be named. Random runs of 200 calls: feeds cut at random, refused calls, suspensions into a dirty area; the digest at the end is compared
- * with md6_hash of the joined message. Then damaged texts: whatever is read must write back to itself, and whatever is refused
- * must change nothing.
+ * Suspensions at every edge, and each damage of a text that can be named. Random runs of 200 calls: feeds cut at random, log
+ * words told, refused calls, suspensions into a dirty area; the digest at the end is compared with md6_hash of the joined
+ * message. Then damaged texts: whatever is read must write back to itself, and whatever is refused must change nothing.
  */
 #include "host.h"
 
@@ -22,7 +22,8 @@ static void join(uint8_t *message, uint64_t at, const uint8_t *piece, uint64_t b
     }
 }
 
-/* writes the stream and reads it into the other area, with refused calls between; the areas change places */
+/* writes the stream and reads it into the other area; the areas change places. Only refused calls stand between the two: with an
+ * accepted one, be it a telling, which changes nothing, document 01 has the read begin another stream. */
 static void suspend(uint64_t **area, uint64_t **other)
 {
     static uint8_t text[MD6_TEXT_BYTES + 8], again[MD6_TEXT_BYTES];
@@ -33,6 +34,8 @@ static void suspend(uint64_t **area, uint64_t **other)
     expect(o.number == 0 && o.count <= MD6_TEXT_BYTES, "write");
     expect(md6_write(a, MD6_AREA_WORDS, again, (size_t)o.count - 1).number == 9, "write to a short output");
     expect(md6_feed(a, MD6_AREA_WORDS, digest, 1, 9, log, 2).number != 0, "feed of too many bits");
+    if (a[0] == 2 || a[1] > 0)          /* otherwise it would be accepted */
+        expect(md6_log_words(a, MD6_AREA_WORDS, UINT64_MAX).number == (a[0] == 2 ? 10 : 6), "a refused telling");
     random_bytes((uint8_t *)*other, 8 * MD6_AREA_WORDS);
     expect(md6_read(*other, MD6_AREA_WORDS, text, (size_t)o.count - 1).number == 11, "read of a short text");
     expect(md6_read(*other, MD6_AREA_WORDS - 1, text, (size_t)o.count).number == 7, "read into a short area");
@@ -43,23 +46,54 @@ static void suspend(uint64_t **area, uint64_t **other)
     *other = a;
 }
 
+/* a telling for so many bits and the feed of them with just the told words: both are refused by 10 once the stream has ended,
+ * and otherwise the words are two for each node made. Answers whether the bits were fed. */
+static int tell_and_feed(uint64_t *area, const uint8_t *piece, size_t bytes, uint64_t bits, int ended)
+{
+    uint64_t log[LOG_WORDS];
+    md6_answer told = md6_log_words(area, MD6_AREA_WORDS, bits), o;
+
+    expect(told.number == (ended ? 10 : 0) && told.count <= LOG_WORDS, "telling before a feed");
+    o = md6_feed(area, MD6_AREA_WORDS, piece, bytes, bits, log, told.count <= LOG_WORDS ? (size_t)told.count : LOG_WORDS);
+    expect(o.number == told.number && 2 * o.count == told.count, "feed with just the told words");
+    return o.number == 0;
+}
+
+/* a telling with no feed after it, for so many bits that half of the totals would pass 2^64 - 1 */
+static void tell_much(const uint64_t *area, uint64_t total, int ended)
+{
+    uint64_t over = below(2 * total + 1), bits = UINT64_MAX - over;
+
+    expect(md6_log_words(area, MD6_AREA_WORDS, bits).number == (ended ? 10 : over < total ? 6 : 0), "telling for many bits");
+}
+
+/* feeds bits of a random piece behind the message's first `total`, and answers the total then */
+static uint64_t feed_some(uint64_t *area, uint8_t *message, uint64_t total, int ended)
+{
+    uint8_t piece[PIECE_BYTES];
+    uint64_t bits = below(2) == 0 ? below(8 * PIECE_BYTES) : below(20);
+
+    random_bytes(piece, sizeof piece);
+    if (total + bits > 8 * MESSAGE_BYTES || !tell_and_feed(area, piece, sizeof piece, bits, ended))
+        return total;
+    join(message, total, piece, bits);
+    return total + bits;
+}
+
 static void one_run(void)
 {
     static uint64_t areas[2][MD6_AREA_WORDS];
     static uint8_t message[MESSAGE_BYTES];
     uint64_t *area = areas[0], *other = areas[1], total = 0, log[LOG_WORDS];
     uint64_t d = 1 + below(512), limit = below(2) == 0 ? below(4) : below(65), rounds = below(6);
-    uint8_t key[64], piece[PIECE_BYTES], digest[64], whole[64];
+    uint8_t key[64], digest[64], whole[64];
     size_t key_bytes = (size_t)below(65), size = (size_t)(d + 7) / 8;
     int i, ended = 0;
-    md6_answer o;
 
     random_bytes(key, sizeof key);
     expect(md6_open(area, MD6_AREA_WORDS, key, key_bytes, d, limit, rounds).number == 0, "open");
     for (i = 0; i < CALLS; i++) {
-        uint64_t n = below(2) == 0 ? below(8 * PIECE_BYTES) : below(20);
-
-        switch (below(8)) {
+        switch (below(9)) {
         case 0:
             suspend(&area, &other);
             break;
@@ -68,21 +102,15 @@ static void one_run(void)
             break;
         case 2:
             if (!ended && i > CALLS / 2 && below(8) == 0) {
-                o = md6_end(area, MD6_AREA_WORDS, digest, size, log, LOG_WORDS);
-                expect(o.number == 0, "end");
+                expect(md6_end(area, MD6_AREA_WORDS, digest, size, log, LOG_WORDS).number == 0, "end");
                 ended = 1;
             }
             break;
+        case 3:
+            tell_much(area, total, ended);
+            break;
         default:
-            random_bytes(piece, sizeof piece);
-            if (total + n > 8 * MESSAGE_BYTES)
-                break;
-            o = md6_feed(area, MD6_AREA_WORDS, piece, sizeof piece, n, log, LOG_WORDS);
-            expect(o.number == (ended ? 10 : 0), "feed");
-            if (o.number == 0) {
-                join(message, total, piece, n);
-                total += n;
-            }
+            total = feed_some(area, message, total, ended);
         }
     }
     if (!ended)
@@ -104,16 +132,16 @@ static void one_edge(uint64_t bits, uint64_t limit)
 
     random_bytes(message, sizeof message);
     expect(md6_open(area, MD6_AREA_WORDS, message, 5, 256, limit, 3).number == 0, "open at an edge");
-    expect(md6_feed(area, MD6_AREA_WORDS, message, sizeof message, bits, log, LOG_WORDS).number == 0, "feed to an edge");
+    expect(tell_and_feed(area, message, sizeof message, bits, 0), "feed to an edge");
     suspend(&area, &other);
     memset(rest, 0, sizeof rest);
     for (i = 0; i < left; i++)
         rest[i / 8] |= (uint8_t)((message[(bits + i) / 8] >> (7 - (bits + i) % 8) & 1u) << (7 - i % 8));
-    expect(md6_feed(area, MD6_AREA_WORDS, rest, sizeof rest, left, log, LOG_WORDS).number == 0, "feed past an edge");
+    expect(tell_and_feed(area, rest, sizeof rest, left, 0), "feed past an edge");
     suspend(&area, &other);
     expect(md6_end(area, MD6_AREA_WORDS, digest, sizeof digest, log, LOG_WORDS).number == 0, "end past an edge");
     suspend(&area, &other);             /* an ended stream has a text too */
-    expect(md6_feed(area, MD6_AREA_WORDS, rest, 1, 1, log, LOG_WORDS).number == 10, "feed after the end");
+    expect(!tell_and_feed(area, rest, 1, 1, 1), "feed after the end");
     md6_hash(message, sizeof message, 8 * sizeof message, message, 5, 256, limit, 3, whole, sizeof whole);
     expect(memcmp(digest, whole, sizeof digest) == 0, "digest past an edge");
 }

@@ -3,7 +3,9 @@
 
 MD6REF is the second program (tests/second/md6ref.c), compiled: it prints a line for each node of the tree of the message fed
 so far, and the digest. Document 01, "Runs", says which of those nodes have been made before the end: those that do not reach
-the last bit, so all but the last of each level. Refusals are those of document 01's table, and change nothing.
+the last bit, so all but the last of each level. Refusals are those of document 01's table, and change nothing. Told log words
+are those of document 02, M-103: two for each node that the feed would make; what is past the second program is counted level
+by level, by document 01's "Tree".
 """
 import functools
 import subprocess
@@ -24,6 +26,33 @@ def tree(message, bits, key, d, limit):
 def made_before_end(nodes):
     last = {node[:2]: node for node in nodes}
     return [node for node in nodes if node != last[node[:2]]]
+
+
+def level_sizes(limit, bits):
+    """How many nodes each level of the tree of so many bits has, from level 1 up to the root's."""
+    sizes = [max(1, -(-bits // (4096 if limit else 3072)))]
+    while sizes[-1] > 1 and len(sizes) <= limit:
+        children = 4 if len(sizes) < limit else 3
+        sizes.append(-(-sizes[-1] // children))
+    return sizes
+
+
+def made(limit, total):
+    """How many nodes a stream has made: all of its tree but the last of each level. The second program is asked if it can be."""
+    count = sum(size - 1 for size in level_sizes(limit, total))
+    if total <= 8 * len(ONES):
+        assert count == len(made_before_end(tree(ONES, total, KEY, 8, limit)[0]))
+    return count
+
+
+def telling(number, words=0):
+    return [f"{number} {words} same"]
+
+
+def told(limit, total, bits):
+    if total + bits >= 2 ** 64:
+        return telling(6)
+    return telling(0, 2 * (made(limit, total + bits) - made(limit, total)))
 
 
 def answer(number, count, area, log="same"):
@@ -86,7 +115,11 @@ def refused_opens():
 
 
 def unsound(count, number=7, room=3, shown=0):
-    return (refused(number) + refused_end(number, room) + [str(shown)]) * count
+    return (telling(number) + refused(number) + refused_end(number, room) + [str(shown)]) * count
+
+
+def short_areas():
+    return unsound(2, 7, 0) + telling(7)
 
 
 def sound_areas():
@@ -100,7 +133,7 @@ def sound_areas():
     ):
         stream = Stream(KEY, 8, limit, message)
         stream.feed(bits)
-        lines += stream.feed(8) + stream.end(3) + ["64"]
+        lines += told(limit, bits, 8) + stream.feed(8) + stream.end(3) + ["64"]
     return lines
 
 
@@ -115,13 +148,51 @@ def short_logs():
     return lines + refused_end(9, 0) + refused_end(8, 1) + stream.end(1)
 
 
+def told_edges():
+    rows = [(64, 0, 0), (64, 0, 1), (64, 0, 4096), (64, 0, 4097), (64, 1, 4095), (64, 1, 4096),
+            (64, 4096, 0), (64, 4096, 1), (64, 4096, 4096), (64, 4096, 4097), (64, 16384, 0), (64, 16384, 1),
+            (0, 0, 3072), (0, 0, 3073), (0, 3072, 0), (0, 3072, 1), (0, 3072, 3072), (0, 3072, 3073),
+            (1, 0, 12288), (1, 0, 12289), (1, 12288, 0), (1, 12288, 1), (1, 12289, 12287), (1, 12289, 12288)]
+    return [line for r in rows for line in told(*r)]
+
+
+def told_longest():
+    return [line for limit in (0, 1, 2, 26, 27, 64) for line in told(limit, 0, 2 ** 64 - 1)]
+
+
+def last_nodes(limit, total, ended):
+    """U and V of the last node of each level, for totals that fill every level above the first: full blocks, but for the end's
+    padding at level 1; the end makes the root."""
+    sizes = level_sizes(limit, total)
+    lines = []
+    for level, size in enumerate(sizes, 1):
+        root = ended and level == len(sizes)
+        padding = -total % 4096 if level == 1 else 0
+        v = limit << 40 | root << 36 | padding << 20 | len(KEY) << 12 | 8
+        lines.append(f"{level << 56 | size - 1:016x} {v:016x}")
+    return lines
+
+
+def most_nodes():
+    """3 * 2^62 zero bits with L = 26: one bit more, and the last node of each of the 27 levels is no longer the last."""
+    limit, total = 26, 3 << 62
+    nodes = last_nodes(limit, total, False)
+    lines = told(limit, total, 0) + told(limit, total, 1) + refused(8) + [answer(0, 27, "changed")] + nodes
+    total += 1
+    left = 2 ** 64 - 1 - total
+    return lines + [str(made(limit, total))] + told(limit, total, left) + told(limit, total, left + 1)
+
+
 def long_stream():
     """2^64 - 1 zero bits: 27 levels, each with one node left; level 1 has one padding bit."""
-    v = 64 << 40 | len(KEY) << 12 | 8
-    nodes = [f"{k << 56 | 4 ** (27 - k) - 1:016x} {v | (k == 27) << 36 | (k == 1) << 20:016x}" for k in range(1, 28)]
-    lines = refused(6) + refused(5) + [answer(0, 0, "changed")] + refused(6) + refused_end(8, 3)
-    return lines + [answer(0, 27, "changed")] + nodes + ["00a5a5", str(sum(4 ** k for k in range(27)))]
+    limit, total = 64, 2 ** 64 - 2
+    lines = told(limit, total, 2) + refused(6) + refused(5) + told(limit, total, 1) + [answer(0, 0, "changed")]
+    total += 1
+    lines += told(limit, total, 0) + told(limit, total, 1) + refused(6) + refused_end(8, 3)
+    lines += [answer(0, 27, "changed")] + last_nodes(limit, total, True) + ["00a5a5", str(sum(level_sizes(limit, total)))]
+    return lines + telling(10)
 
 
-print("\n".join(whole_rows() + cut_rows() + refused_opens() + unsound(1, 7, 0) + unsound(15) + unsound(11) + sound_areas()
-                + ended_areas() + short_logs() + long_stream() + ["0", "64", "64", "0", "0"]))
+print("\n".join(whole_rows() + cut_rows() + refused_opens() + short_areas() + unsound(15) + unsound(11) + sound_areas()
+                + ended_areas() + short_logs() + told_edges() + told_longest() + most_nodes() + long_stream()
+                + ["0", "64", "64", "0", "0"]))

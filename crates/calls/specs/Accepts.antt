@@ -1,26 +1,24 @@
--- Laws: which calls are accepted: on an area that stands for a message, and with the told log words on any area.
+-- Laws: which calls are accepted on an area that stands for a message, and how many nodes a feed and an end make of any area.
 use mathlib.Core.Path.{_≡_, refl, ap, _∙_}
-use mathlib.Core.Bool.{Bool, true, false, cond}
+use mathlib.Core.Bool.{Bool, true}
 use mathlib.Core.List.{List, [], _++_, _∷_}
-use Prim.Native.Nat.{ℕ, _+_, _-_, _*_, _^_, _≤_, _<_}
+use Prim.Native.Nat.{ℕ, _+_, _^_, _≤_, _<_}
 use native.Mathlib.Nat.{zero-add}
 use native.Mathlib.Omega.{arith}
-use borrow.Author.Tests.{ltb-true, ltb-false, le-ltb, le-leb}
-use lib.Dec.{leb, ltb}
+use borrow.Author.Tests.{le-ltb, le-leb}
+use lib.Dec.{leb}
 use lib.ListN.{length, length-append}
-use Rattle.tree.specs.Tree.{Params, Node, order, digestBytes}
-use Rattle.refusals.specs.Refusals.{firstRefusal, outputTest}
+use Rattle.tree.specs.Tree.{Params, order}
+use Rattle.refusals.specs.Refusals.{firstRefusal}
 use Rattle.tree.specs.Sizes.{treeNodes}
 use Rattle.calls.specs.Area.{areaWords, totalOf, paramsOf, levelWords, levelsOf, emptyLevels, openCount, sound, areaLevels, Long}
-use Rattle.calls.specs.Calls.{feedBits, fedBits, feedNumber, closedBy, endNumber, shown, levelOf, logWordsOf, openTests, totalTest, logTest, feedTests, endTests}
+use Rattle.calls.specs.Calls.{feedBits, fedBits, feedNumber, closedBy, endNumber, logWordsNumber, shown, levelOf, openTests, totalTest, feedTests, endTests}
 use Rattle.calls.specs.CallLaws.{OpenArea, open-tests}
 use Rattle.calls.specs.Marks.{allNodes, settled}
 use Rattle.calls.specs.Machine
 use Rattle.calls.specs.Counts
-use Rattle.refusals.specs.RefusalLaws.{passed-by}
 use Rattle.lists.specs.And.{and-intro}
-use Rattle.bits.specs.Piece.{Piece, pieceBits, bitsTest}
-use Rattle.bits.specs.PieceLaws.{length-pieceBits, bits-there}
+use Rattle.bits.specs.Piece.{Piece, pieceBits}
 use Rattle.calls.specs.AreaLaws.{length-levelsOf}
 use Rattle.calls.specs.Sound.{state-size}
 use Rattle.calls.specs.Stands.{state-settled, state-all, Stands, Closed, stands-sound, closed-sound}
@@ -56,6 +54,11 @@ module _ {P : Params} {M : List Bool} {area : List ℕ} (s : Stands P M area) wh
   unfolding endNumber
   end-tests out log = open-tests opened (endTests (paramsOf area .d) (length (closedBy area)) out log) ∙ rw (s .head .params)
 
+  -- nor telling log words
+  pub logWords-tests : (n : ℕ) → logWordsNumber area n ≡ firstRefusal (totalTest (length M) n ∷ [])
+  unfolding logWordsNumber
+  logWords-tests n = open-tests opened (totalTest (totalOf area) n ∷ []) ∙ rw (s .head .total)
+
   -- the nodes that a feed of Y would make
   pub feed-nodes : (Y : List Bool) → length M + length Y < 2 ^ 64 → settled (order P (M ++ Y)) ≡ settled (order P M) ++ fedBits area Y .nodes
   unfolding fedBits
@@ -72,13 +75,21 @@ module _ {P : Params} {M : List Bool} {area : List ℕ} (s : Stands P M area) wh
 -- ---- an area that ended
 
 module _ {P : Params} {M : List Bool} {area : List ℕ} (s : Closed P M area) where
+  -- 10, whatever would be tested later
+  ended-tests : (later : List (Bool × ℕ)) → firstRefusal (openTests area ++ later) ≡ 10
+  ended-tests later = rw (le-ltb (length area) areaWords (s .head .long), closed-sound s, s .phase) refl
+
   pub feed-ended : (piece : Piece) (log : List ℕ) → feedNumber area piece log ≡ 10
   unfolding feedNumber
-  feed-ended piece log = rw (le-ltb (length area) areaWords (s .head .long), closed-sound s, s .phase) refl
+  feed-ended piece log = ended-tests (feedTests (totalOf area) (length (fedBits area (pieceBits piece) .nodes)) piece log)
 
   pub end-ended : (out log : List ℕ) → endNumber area out log ≡ 10
   unfolding endNumber
-  end-ended out log = rw (le-ltb (length area) areaWords (s .head .long), closed-sound s, s .phase) refl
+  end-ended out log = ended-tests (endTests (paramsOf area .d) (length (closedBy area)) out log)
+
+  pub logWords-ended : (n : ℕ) → logWordsNumber area n ≡ 10
+  unfolding logWordsNumber
+  logWords-ended n = ended-tests (totalTest (totalOf area) n ∷ [])
 
 -- ---- a level shown
 
@@ -106,39 +117,3 @@ pub closed-count : (area : List ℕ) → totalOf area < 2 ^ 64 →
     length (closedBy area) + openCount (paramsOf area .limit) (totalOf area) ≡ treeNodes (paramsOf area .limit) (totalOf area)
 unfolding closedBy
 closed-count area h = Counts.closing-count (paramsOf area) (paramsOf area .limit) (totalOf area) (levelsOf area) (length-levelsOf area) h
-
--- ---- log words
-
--- a call is refused by 8 only if the log is too short
-number-eight : (nodes : ℕ) (log : List ℕ) → firstRefusal (logTest nodes log ∷ []) ≡ 8 → length log < 2 * nodes
-number-eight nodes log = go (ltb (length log) (2 * nodes)) refl
-  where
-    go : (b : Bool) → ltb (length log) (2 * nodes) ≡ b → _≡_ {A = ℕ} (cond b 8 0) 8 → length log < 2 * nodes
-    go true t e = ltb-true (length log) (2 * nodes) t
-    go false t e = absurd (omega arith)
-
--- for all areas, pieces and logs: with the told log words a feed of so many bits does not answer 8
-pub told-enough : (area : List ℕ) (piece : Piece) (log : List ℕ) → logWordsOf (piece .count) ≤ length log → feedNumber area piece log ≡ 8 → ⊥
-unfolding feedNumber fedBits
-told-enough area piece log h e =
-    let Y : List Bool = pieceBits piece in
-    let nodes : List Node = feedBits (paramsOf area) (totalOf area) Y (levelsOf area) .nodes in
-    let p = passed-by 8 (openTests area) (feedTests (totalOf area) (length nodes) piece log) refl e in
-    let q = passed-by 8 (bitsTest piece ∷ totalTest (totalOf area) (piece .count) ∷ []) (logTest (length nodes) log ∷ []) refl (p .1) in
-    let few = number-eight (length nodes) log (q .1) in
-    let l : length Y ≡ piece .count = length-pieceBits piece (bits-there piece (q .0 0)) in
-    let small : totalOf area + piece .count < 2 ^ 64 = omega (arith, ltb-false (2 ^ 64 - 1) (totalOf area + piece .count) (q .0 1)) in
-    let c = Counts.feedBits-count (paramsOf area) (totalOf area) Y (levelsOf area) (length-levelsOf area) (rw l small) in
-    let g = Counts.logWords-enough (paramsOf area .limit) (totalOf area) (piece .count) (length nodes) small (rw l at c) in
-    omega arith
-
--- "End needs at most 54": with a log of 54 words an end does not answer 8
-pub end-enough : (area out log : List ℕ) → 54 ≤ length log → endNumber area out log ≡ 8 → ⊥
-unfolding endNumber closedBy
-end-enough area out log h e =
-    let nodes : List Node = Rattle.calls.specs.Calls.closing (paramsOf area) (paramsOf area .limit) (totalOf area) (levelsOf area) in
-    let p = passed-by 8 (openTests area ++ (outputTest (digestBytes (paramsOf area .d)) out ∷ [])) (logTest (length nodes) log ∷ []) refl e in
-    let few = number-eight (length nodes) log (p .1) in
-    let z = length-levelsOf area in
-    let g = Counts.closing-bound (paramsOf area) (paramsOf area .limit) (totalOf area) (levelsOf area) (omega arith) in
-    omega arith

@@ -5,15 +5,15 @@ use mathlib.Core.List.{List, [], _∷_, _++_}
 use Prim.Native.Nat.{ℕ, _+_, _-_, _*_, _^_, _≤_, _<_}
 use native.Mathlib.Omega.{arith}
 use borrow.Author.Tests.{ltb-false, eqb-false, not-false, le-ltb, ne-eqb}
-use lib.ListN.{length, take, drop}
+use lib.ListN.{length, take, drop, replicate}
 use lib.Seq.{take-at}
 use Rattle.bits.specs.Piece.{Piece, pieceBits, Fits}
 use Rattle.bits.specs.PieceLaws.{bits-there}
 use Rattle.tree.specs.Tree.{Params, Node, digestBytes}
-use Rattle.refusals.specs.Refusals.{firstRefusal, paramTests}
+use Rattle.refusals.specs.Refusals.{Told, firstRefusal, paramTests}
 use Rattle.refusals.specs.RefusalLaws.{testAt, passed-by, passed, answer-number, answer-refused}
 use Rattle.calls.specs.Area.{areaWords, phaseOf, totalOf, paramsOf, sound}
-use Rattle.calls.specs.Calls.{Made, nodeLog, logged, openNumber, openedArea, openOf, fedBits, feedNumber, fedArea, feedOf, closedBy, endNumber, endedArea, digestOut, endOf, shortTest, openTests, Opened, Fed, feedTests, Finished, endTests}
+use Rattle.calls.specs.Calls.{Made, nodeLog, logged, openNumber, openedArea, openOf, fedBits, feedNumber, fedArea, feedOf, closedBy, endNumber, endedArea, digestOut, endOf, shortTest, openTests, Opened, Fed, totalTest, feedTests, Finished, endTests, logWordsNumber, logWordsOf}
 
 -- ---- the log
 
@@ -42,6 +42,10 @@ open-area area p = record { long = ltb-false _ _ (p 0); sound = not-false _ (p 1
 
 pub open-tests : {area : List ℕ} → OpenArea area → (later : List (Bool × ℕ)) → firstRefusal (openTests area ++ later) ≡ firstRefusal later
 open-tests {area} o later = rw (le-ltb (length area) areaWords (o .long), o .sound, ne-eqb (phaseOf area) 2 (o .phase))
+
+-- a total that passes its test
+pub total-passed : (total n : ℕ) → totalTest total n .0 ≡ false → total + n < 2 ^ 64
+total-passed total n e = omega (arith, ltb-false (2 ^ 64 - 1) (total + n) e)
 
 -- ---- open
 
@@ -92,7 +96,7 @@ feed-passed area piece log e =
     let nodes : ℕ = length (fedBits area (pieceBits piece) .nodes) in
     let p = passed-by 0 (openTests area) (feedTests (totalOf area) nodes piece log) refl e in
     let q = passed (feedTests (totalOf area) nodes piece log) refl (p .1) in
-    record { opened = open-area area (p .0); bits = bits-there piece (q 0); total = omega (arith, ltb-false (2 ^ 64 - 1) (totalOf area + piece .count) (q 1)); room = ltb-false _ _ (q 2) }
+    record { opened = open-area area (p .0); bits = bits-there piece (q 0); total = total-passed (totalOf area) (piece .count) (q 1); room = ltb-false _ _ (q 2) }
 
 -- ---- end
 
@@ -122,3 +126,30 @@ end-passed area out log e =
     let p = passed-by 0 (openTests area) (endTests (paramsOf area .d) (length (closedBy area)) out log) refl e in
     let q = passed (endTests (paramsOf area .d) (length (closedBy area)) out log) refl (p .1) in
     record { opened = open-area area (p .0); output = ltb-false _ _ (q 0); room = ltb-false _ _ (q 1) }
+
+-- ---- log words
+
+pub logWords-number : (area : List ℕ) (n : ℕ) → logWordsOf area n .number ≡ logWordsNumber area n
+unfolding logWordsOf
+logWords-number area n = answer-number (λ (x : Told). x .number) (logWordsNumber area n) _ _ refl (λ k. refl)
+
+pub logWords-accepted : (area : List ℕ) (n : ℕ) → logWordsNumber area n ≡ 0
+    → logWordsOf area n ≡ record { number = 0; count = 2 * length (fedBits area (replicate n false) .nodes) }
+unfolding logWordsOf
+logWords-accepted area n e = rw e refl
+
+pub logWords-refused : (area : List ℕ) (n k : ℕ) → k ≡ logWordsNumber area n → (k ≡ 0 → ⊥) → record { number = k; count = 0 } ≡ logWordsOf area n
+unfolding logWordsOf
+logWords-refused area n k = answer-refused k (logWordsNumber area n) _ (λ k. record { number = k; count = 0 })
+
+-- what it means that telling is accepted
+pub record LogWordsPassed (area : List ℕ) (n : ℕ) : Type 0 where
+  pub opened : OpenArea area
+  pub total : totalOf area + n < 2 ^ 64
+
+pub logWords-passed : (area : List ℕ) (n : ℕ) → logWordsNumber area n ≡ 0 → LogWordsPassed area n
+unfolding logWordsNumber
+logWords-passed area n e =
+    let p = passed-by 0 (openTests area) (totalTest (totalOf area) n ∷ []) refl e in
+    let q = passed (totalTest (totalOf area) n ∷ []) refl (p .1) in
+    record { opened = open-area area (p .0); total = total-passed (totalOf area) n (q 0) }

@@ -1,5 +1,5 @@
 -- Definitions: what each call on an area answers: number, count and all that was lent, on exit. Document 01, "The stream's area" and the
--- table of numbers.
+-- table of numbers; document 02, M-103.
 use mathlib.Core.Bool.{Bool, true, false, not, _&&_}
 use mathlib.Core.List.{List, [], _∷_, _++_, flatten}
 use Prim.Native.Nat.{ℕ, zero, suc, _+_, _-_, _*_, _/_, _%_, _^_}
@@ -8,8 +8,8 @@ use lib.ListN.{length, drop, getD, set, replicate}
 use Rattle.lists.specs.Part.{put}
 use Rattle.bits.specs.Bits.{bits, spell}
 use Rattle.bits.specs.Piece.{Piece, pieceBits, bitsTest}
-use Rattle.tree.specs.Tree.{Params, Node, blockBits, sequentialBits, outputBits, mostLevels, words, keyWords, node, output, lastOr, noNode, digestBytes, rootDigest}
-use Rattle.refusals.specs.Refusals.{firstRefusal, answerOf, paramTests, outputTest}
+use Rattle.tree.specs.Tree.{Params, Node, blockBits, sequentialBits, outputBits, words, keyWords, node, output, lastOr, noNode, digestBytes, rootDigest}
+use Rattle.refusals.specs.Refusals.{firstRefusal, answerOf, Told, paramTests, outputTest}
 use Rattle.calls.specs.Area.{blockWords, outputWords, areaLevels, areaWords, phaseOf, totalOf, compressionsOf, paramsOf, levelWords, levelsOf, withLevels, emptyLevel, emptyLevels, doneBlocks, heldBits, heldParallel, heldSequential, sound}
 
 -- ---- one bit more
@@ -239,9 +239,16 @@ shown area level = leb areaWords (length area) && (sound area && (leb 1 level &&
 unfoldable pub levelOf : List ℕ → ℕ → List ℕ
 levelOf area level = elim (shown area level) [ true ↦ levelWords area level | false ↦ [] ]
 
--- ---- log words
+-- ---- log words (bit count)
 
--- "Log words for a piece are told from its bit count n alone: enough for any open area, at most 4 times (n/4,096 rounded up),
--- plus 54."
-unfoldable pub logWordsOf : ℕ → ℕ
-logWordsOf n = 4 * ((n + (blockBits - 1)) / blockBits) + 2 * mostLevels
+-- document 02, M-103: "It refuses 7, 10 and 6 in that order."
+unfoldable pub logWordsNumber : List ℕ → ℕ → ℕ
+logWordsNumber area n = firstRefusal (openTests area ++ (totalTest (totalOf area) n ∷ []))
+
+-- "It is now told from the area and the bit count, and is exactly two words for each node that the feed would make": that a feed
+-- of n zero bits would make, and any n bits make as many (`any-bits` in LogWords)
+unfoldable pub logWordsOf : List ℕ → ℕ → Told
+logWordsOf area n =
+    answerOf (logWordsNumber area n)
+    record { number = 0; count = 2 * length (fedBits area (replicate n false) .nodes) }
+    (λ k. record { number = k; count = 0 })

@@ -1,5 +1,5 @@
--- Laws: how many nodes a feed and an end make: word 14 is the number of compressions, and the told log words are enough. It goes by
--- the total and the limit alone, whatever the levels hold.
+-- Laws: how many nodes a feed and an end make, and at most how many: word 14 is the number of compressions. It goes by the total and
+-- the limit alone, whatever the levels hold.
 use mathlib.Core.Path.{_≡_, refl, ap, _∙_}
 use mathlib.Core.Bool.{Bool, true, false}
 use mathlib.Core.List.{List, [], _∷_}
@@ -12,7 +12,7 @@ use lib.ListN.{length, length-append}
 use Rattle.tree.specs.Tree.{Params, Node, blockBits, outputBits, mostLevels, node, blocks, sequentialBits}
 use Rattle.tree.specs.Sizes.{nodesFrom, treeNodes}
 use Rattle.calls.specs.Area.{doneBlocks, heldBits, openAbove, openCount}
-use Rattle.calls.specs.Calls.{Made, outWords, joinParallel, receive, feedBit, feedBits, closeAbove, closing, logWordsOf}
+use Rattle.calls.specs.Calls.{Made, outWords, joinParallel, receive, feedBit, feedBits, closeAbove, closing}
 use Rattle.calls.specs.Receive
 use Rattle.calls.specs.Close
 use Rattle.calls.specs.Machine
@@ -207,15 +207,6 @@ above-bound n zero c d h b = let e : d ≡ c = omega arith in rw e (omega arith)
 above-bound zero (suc k) c d h b = omega arith
 above-bound (suc n) (suc k) c d h b = omega (arith, above-bound n k (c / 4) (d / 4) (omega arith) (omega (arith, pow-succ' 4 k)))
 
-feed-bound : (limit T m : ℕ) → T + m < 2 ^ 64 → openCount limit (T + m) ≤ openCount limit T + 2 * ((m + (blockBits - 1)) / blockBits) + (mostLevels - 1)
+pub feed-bound : (limit T m : ℕ) → T + m < 2 ^ 64 → openCount limit (T + m) ≤ openCount limit T + 2 * ((m + (blockBits - 1)) / blockBits) + (mostLevels - 1)
 feed-bound zero T m h = omega arith
 feed-bound (suc n) T m h = omega (arith, above-bound n (mostLevels - 1) (doneBlocks blockBits T) (doneBlocks blockBits (T + m)) (omega arith) (omega arith))
-
--- the told log words are within their bound, and enough for the nodes of n bits after T
-pub logWords-bound : (n : ℕ) → logWordsOf n ≤ 4 * ((n + 4095) / 4096) + 54
-unfolding logWordsOf
-logWords-bound n = omega arith
-
-pub logWords-enough : (limit T n c : ℕ) → T + n < 2 ^ 64 → c + openCount limit T ≡ openCount limit (T + n) → 2 * c ≤ logWordsOf n
-unfolding logWordsOf
-logWords-enough limit T n c h e = omega (arith, feed-bound limit T n h)

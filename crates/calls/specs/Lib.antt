@@ -12,6 +12,7 @@ pub mod Holds
 pub mod Keeps
 pub mod Kept
 pub mod Leaves
+pub mod LogWords
 pub mod Machine
 pub mod Marks
 pub mod Meets

@@ -1,16 +1,18 @@
--- Examples: the rows of document 01, "Reels by hand", fed to a stream: by computing, the log and the digest are the tree's.
+-- Examples: the rows of document 01, "Reels by hand", fed to a stream: by computing, the log and the digest are the tree's; log words
+-- told, document 02, M-103.
 -- "r = 0 gives C = the last 16 words of B. Message all ones."
 use mathlib.Core.Path.{_≡_, refl, sym, _∙_}
 use mathlib.Core.Bool.{Bool, true}
 use mathlib.Core.List.{List, [], _∷_, _++_, map}
 use Prim.Native.Nat.{ℕ, zero, suc, _+_, _-_, _*_, _/_, _^_}
-use lib.ListN.{take, replicate}
+use lib.ListN.{take, set, replicate}
 use Rattle.bits.specs.Bits.{numbers}
 use Rattle.bits.specs.Piece.{Piece, pieceOf}
 use Rattle.compress.specs.Compress.{grown, compressed}
 use Rattle.tree.specs.Tree.{Params, Mark, keyWords, output, noChain, digest, order, digestBytes}
+use Rattle.refusals.specs.Refusals.{Told}
 use Rattle.calls.specs.Area.{areaWords, countFor, paramsOf, levelsOf, withLevels, emptyLevel, emptyLevels, sound}
-use Rattle.calls.specs.Calls.{Fed, Finished, withBit, outWords, receive, feedBit, feedBits, closeAbove, closing, nodeLog, openNumber, openedArea, openOf, fedBits, feedNumber, fedArea, feedOf, closedBy, endNumber, endedArea, digestOut, endOf}
+use Rattle.calls.specs.Calls.{Fed, Finished, withBit, outWords, receive, feedBit, feedBits, closeAbove, closing, nodeLog, openNumber, openedArea, openOf, fedBits, feedNumber, fedArea, feedOf, closedBy, endNumber, endedArea, digestOut, endOf, logWordsNumber, logWordsOf}
 
 -- a row: the bit counts of the pieces, d and L; U and V of each node, and the digest
 pub record Row : Type 0 where
@@ -107,3 +109,28 @@ pub counts-hold : map counts
     ∷ (6004799503160634, 6004799503160661) ∷ (6004799503160635, 6004799503160662) ∷ (6004799503160660, 6004799503160662)
     ∷ (6004799503160661, 6004799503160662) ∷ []
 counts-hold = refl
+
+-- ---- log words told: L, the total, word 14 and a bit count, and the words
+
+-- an open area of that total, all zero bits
+abbrev after : ℕ → ℕ → ℕ → List ℕ
+after limit total done = set (set (openOf used record { key = []; d = 8; limit = limit; rounds = 0 } .area) 1 total) 14 done
+
+abbrev told : ℕ × ℕ × ℕ × ℕ → Told
+told q = logWordsOf (after (q .0) (q .1) (q .2)) (q .3)
+
+abbrev accepted : ℕ → Told
+accepted n = record { number = 0; count = n }
+
+pub told-hold : map told
+    -- no bits; a bit that makes no node, as its block is not full; the bit behind a full block
+    ((64, 0, 0, 0) ∷ (64, 4096, 0, 0) ∷ (64, 4095, 0, 1) ∷ (64, 4096, 0, 1)
+    -- 4,097 bits to an open area with none; the bit behind four full blocks, which makes a node of level 2 too
+    ∷ (64, 0, 0, 4097) ∷ (64, 16384, 3, 1)
+    -- L = 0: blocks of 3,072 bits; L = 1: the bit behind three full blocks, whose outputs fill a sequential block
+    ∷ (0, 3072, 0, 3073) ∷ (1, 12287, 2, 1) ∷ (1, 12288, 2, 1)
+    -- one bit that makes 27 nodes, and 26 with a higher limit; the last bit that a stream can have
+    ∷ (26, 3 * 2 ^ 62, 4503599627370469, 1) ∷ (27, 3 * 2 ^ 62, 4503599627370469, 1) ∷ (64, 2 ^ 64 - 2, 6004799503160634, 1) ∷ [])
+    ≡ accepted 0 ∷ accepted 0 ∷ accepted 0 ∷ accepted 2 ∷ accepted 2 ∷ accepted 4 ∷ accepted 4 ∷ accepted 0 ∷ accepted 4 ∷ accepted 54 ∷ accepted 52 ∷ accepted 0 ∷ []
+unfolding numbers keyWords output compressed grown paramsOf levelsOf withLevels emptyLevel emptyLevels sound withBit outWords receive feedBit feedBits openNumber openedArea openOf fedBits logWordsNumber logWordsOf mathlib.Core.List.flatten
+told-hold = refl

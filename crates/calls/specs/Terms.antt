@@ -1,8 +1,8 @@
 -- Definitions: the terms of the theorems about areas that docs/PROOFS.md cites.
 use mathlib.Core.Path.{_≡_}
-use Prim.Native.Nat.{ℕ, zero, suc, _+_, _-_, _*_, _≤_, _<_}
+use Prim.Native.Nat.{ℕ, zero, suc, _+_, _-_, _*_, _/_, _≤_, _<_}
 use lib.ListN.{getD, length}
-use Rattle.tree.specs.Tree.{blockBits, sequentialBits, outputBits}
+use Rattle.tree.specs.Tree.{blockBits, sequentialBits, outputBits, mostLevels}
 use Rattle.calls.specs.Area.{parallelHold, openHolds, areaLevels, Long, sound}
 use mathlib.Core.Bool.{true}
 use mathlib.Core.List.{List}
@@ -29,3 +29,7 @@ pub record LeavesSound (area after : List ℕ) : Type 0 where
   pub size : length after ≡ length area
   pub long : Long after
   pub is-sound : sound after ≡ true
+
+-- words of log that are enough for a feed of n bits, whatever the area
+unfoldable pub enoughWords : ℕ → ℕ
+enoughWords n = 4 * ((n + (blockBits - 1)) / blockBits) + 2 * mostLevels

@@ -7,7 +7,7 @@ use lib.Dec.{ltb}
 use lib.ListN.{length, drop}
 use Rattle.bits.specs.Piece.{Piece, pieceBits, bitsTest}
 use Rattle.tree.specs.Tree.{Params, digestBytes, digest, order}
-use Rattle.refusals.specs.Refusals.{firstRefusal, answerOf, sizeTests, paramTests, outputTest}
+use Rattle.refusals.specs.Refusals.{firstRefusal, answerOf, Told, sizeTests, paramTests, outputTest}
 
 -- "Whole message 5, 1, 2, 3, 4, 9"; 0 if it is accepted
 unfoldable pub hashNumber : Piece → Params → List ℕ → ℕ
@@ -40,11 +40,6 @@ leastKeyedRounds = 80
 -- "the default is the larger of 80 and 40 + d/4 if the key has any byte"; the report's formula 2.2
 abbrev pub roundsByDefault : ℕ → ℕ → ℕ
 roundsByDefault d keyBytes = cond (ltb 0 keyBytes) (max leastKeyedRounds (unkeyedRounds d)) (unkeyedRounds d)
-
--- a number and a count
-pub record Told : Type 0 where
-  pub number : ℕ
-  pub count : ℕ
 
 -- "The call that tells the default now takes the key length and refuses 1, then 2"; "a count: .. for default rounds r"
 unfoldable pub defaultRoundsOf : ℕ → ℕ → Told

@@ -2,7 +2,8 @@
 use mathlib.Core.Path.{_≡_, refl}
 use mathlib.Core.List.{List, [], _∷_, map}
 use Prim.Native.Nat.{ℕ, _-_, _^_}
-use Rattle.hash.specs.Hash.{Told, defaultRoundsOf}
+use Rattle.refusals.specs.Refusals.{Told}
+use Rattle.hash.specs.Hash.{defaultRoundsOf}
 
 -- a digest size, a key length, and what is told for them
 pub record Row : Type 0 where

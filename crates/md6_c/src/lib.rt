@@ -64,12 +64,12 @@ pub extern "C" fn md6_end(area: &mut [u64], digest: &mut [u8], log: &mut [u64]) 
     stream::end(area, digest, log)
 }
 
-// Tells how many words of log are enough for a piece of so many bits.
+// Tells how many words of log a feed of so many bits needs.
 #[no_mangle]
-pub extern "C" fn md6_log_words(bits: u64) -> refusals::Answer
-    ensures { λ o. ⌜ (o .number ≡ 0) × (o .count ≡ logWordsOf bits) ⌝ }
+pub extern "C" fn md6_log_words(area: &[u64], bits: u64) -> refusals::Answer
+    ensures { λ o. ⌜ record { number = o .number; count = o .count } ≡ logWordsOf (now (area .entry)) bits ⌝ }
 {
-    stream::log_words(bits)
+    stream::log_words(area, bits)
 }
 
 // Writes a stream as text.

@@ -1,11 +1,12 @@
 -- Laws: of `fedBits` in Calls: what the code reads from an open area, and what it leaves there.
 use mathlib.Core.Path.{_≡_, refl, ap, _∙_}
+use mathlib.Core.Bool.{Bool}
 use mathlib.Core.List.{List, append-nil}
-use Prim.Native.Nat.{ℕ, zero, suc, _+_, _/_, _^_, _≤_, _<_}
+use Prim.Native.Nat.{ℕ, zero, suc, _+_, _*_, _/_, _^_, _≤_, _<_}
 use native.Mathlib.Omega.{arith}
 use lib.ListN.{length, take, drop, getD, set, replicate, length-drop, length-set}
 use lib.Seq.{paste, length-take-le, take-all}
-use Rattle.bits.specs.Piece.{Piece, pieceBits, Fits}
+use Rattle.bits.specs.Piece.{Piece, pieceBits}
 use Rattle.bits.specs.PieceLaws.{length-pieceBits}
 use Rattle.tree.specs.Tree.{blockBits}
 use Rattle.calls.specs.Area.{Long, totalOf, kOf, compressionsOf, paramsOf, withLevels, doneBlocks, openCount, areaWords}
@@ -19,14 +20,12 @@ use Rattle.climb.specs.OpenArea.{OpenArea, numbered, open-done, limit-read}
 use Rattle.calls.specs.Accepts.{fed-count}
 use Rattle.piece.specs.ChunkLaws.{Part, fedWhole, Leaves}
 
--- the nodes that a feed makes, and those made before
-pub made-count : {area : List ℕ} → OpenArea area → (piece : Piece) → Fits piece → totalOf area + piece .count < 2 ^ 64
-    → length (fedBits area (pieceBits piece) .nodes) + compressionsOf area ≡ openCount (getD area 4 0) (totalOf area + piece .count)
-made-count {area} o piece h g =
-    let l = length-pieceBits piece h in
-    let e : totalOf area + length (pieceBits piece) ≡ totalOf area + piece .count = omega arith in
-    let c = rw (e, limit-read area) at (fed-count area (pieceBits piece) (rw e g)) in
-    ap (λ (x : ℕ). length (fedBits area (pieceBits piece) .nodes) + x) (open-done o) ∙ c
+-- the nodes that n bits make, and those made before
+pub made-count : {area : List ℕ} → OpenArea area → (n : ℕ) (Y : List Bool) → length Y ≡ n → totalOf area + n < 2 ^ 64
+    → length (fedBits area Y .nodes) + compressionsOf area ≡ openCount (getD area 4 0) (totalOf area + n)
+made-count {area} o n Y l g =
+    let c = rw (l, limit-read area) at (fed-count area Y (rw l g)) in
+    ap (λ (x : ℕ). length (fedBits area Y .nodes) + x) (open-done o) ∙ c
 
 -- ---- what the code reads
 
@@ -58,7 +57,8 @@ fed-written area n count made long e =
     ∙ set-withLevels (set area 1 T) 14 (compressionsOf area + count) (made .levels) (omega arith) (rw length-set (omega arith))
     ∙ ap (λ (x : ℕ). withLevels (set (set area 1 T) 14 (compressionsOf area + x)) (made .levels)) e
 
-openCount-le : (limit T : ℕ) → openCount limit T ≤ T
+-- two words for each node that was made are at most as many as the bits
+pub openCount-le : (limit T : ℕ) → 2 * openCount limit T ≤ T
 openCount-le zero T = omega arith
 openCount-le (suc n) T = omega (arith, openAbove-le n (doneBlocks blockBits T))
 
@@ -76,9 +76,9 @@ module _ {area log : List ℕ} {piece : Piece} (p : FeedPassed area piece log) {
   -- the count that word 14 gets fits
   pub count-fits : compressionsOf area + words / 2 < 2 ^ 64
   count-fits =
-      fits (compressionsOf area) half (made-count (p .opened) piece (p .bits) (p .total)) (openCount-le (getD area 4 0) (totalOf area + piece .count)) (p .total)
+      fits (compressionsOf area) half (made-count (p .opened) (piece .count) (pieceBits piece) (length-pieceBits piece (p .bits)) (p .total)) (openCount-le (getD area 4 0) (totalOf area + piece .count)) (p .total)
     where
-      fits : (a : ℕ) {b c d t : ℕ} → b ≡ d → d + a ≡ c → c ≤ t → t < 2 ^ 64 → a + b < 2 ^ 64
+      fits : (a : ℕ) {b c d t : ℕ} → b ≡ d → d + a ≡ c → 2 * c ≤ t → t < 2 ^ 64 → a + b < 2 ^ 64
       fits a e m l h = omega arith
 
   pub fed-piece : FedPiece area piece log (set (set area′ 1 (totalOf area + piece .count)) 14 (compressionsOf area + words / 2)) log′ (words / 2)

@@ -14,7 +14,8 @@ use Rattle.bits.specs.Piece.{pieceBits}
 use Rattle.refusals.specs.Refusals.{firstRefusal, paramTests}
 use Rattle.refusals.specs.RefusalLaws.{answer-refused}
 use Rattle.calls.specs.Area.{totalOf, paramsOf}
-use Rattle.calls.specs.Calls.{Opened, Fed, Finished, openNumber, openOf, feedNumber, feedOf, endNumber, endOf, fedBits, closedBy, logWordsOf, shortTest, openTests, feedTests, endTests}
+use Rattle.calls.specs.Calls.{Opened, Fed, Finished, openNumber, openOf, feedNumber, feedOf, endNumber, endOf, fedBits, closedBy, shortTest, openTests, feedTests, endTests}
+use Rattle.calls.specs.Terms.{enoughWords}
 use Rattle.calls.specs.CallLaws.{open-number, open-refused, feed-number, feed-accepted, feed-refused, feed-passed, end-number, end-accepted, end-refused, end-passed}
 use Rattle.line.specs.Fold.{readingOf}
 use Rattle.line.specs.declared.Reading.the-variants.{Unreadable, Readable}
@@ -41,7 +42,7 @@ small-refusal ((false, n) ∷ ts) s = small-refusal ts (and-parts (ltb n 100) (s
 
 -- a log and a digest of zeros
 pub zero-log : replicate 566 0 ≡ emptyLog
-unfolding logWordsOf
+unfolding enoughWords
 zero-log = refl
 
 -- what was refused leaves the area, and the text is the refusal's

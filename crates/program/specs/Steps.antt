@@ -8,7 +8,8 @@ use Rattle.bits.specs.Piece.{Piece, pieceOf}
 use Rattle.tree.specs.Tree.{Params, digestBytes}
 use Rattle.refusals.specs.Refusals.{answerOf}
 use Rattle.calls.specs.Area.{paramsOf}
-use Rattle.calls.specs.Calls.{Opened, Fed, Finished, openOf, feedOf, endOf, logWordsOf}
+use Rattle.calls.specs.Calls.{Opened, Fed, Finished, openOf, feedOf, endOf}
+use Rattle.calls.specs.Terms.{enoughWords}
 use Rattle.line.specs.Fold.{start, foldOf, readingOf}
 use Rattle.line.specs.declared.State.{State}
 use Rattle.line.specs.declared.Reading.{Reading}
@@ -25,7 +26,7 @@ bufferBytes = 65536
 
 -- the log of a call is enough for the bits of a read, and begins as zeros
 abbrev pub emptyLog : List ℕ
-emptyLog = replicate (logWordsOf (8 * bufferBytes)) 0
+emptyLog = replicate (enoughWords (8 * bufferBytes)) 0
 
 -- the longest digest, of 64 bytes
 abbrev pub emptyDigest : List ℕ

@@ -14,11 +14,13 @@ use Rattle.bits.specs.Bits.{bitsOf}
 use Rattle.bits.specs.BitsLaws.{length-bitsOf, bitsOf-append, length-numbers}
 use Rattle.tree.specs.Tree.{Params, Node, order, digest, digestBytes}
 use Rattle.bits.specs.Piece.{pieceBits}
-use Rattle.calls.specs.Calls.{nodeLog, logged, fedBits, feedNumber, fedArea, closedBy, endNumber, digestOut, logWordsOf}
+use Rattle.calls.specs.Calls.{nodeLog, logged, fedBits, feedNumber, fedArea, closedBy, endNumber, digestOut}
 use Rattle.calls.specs.Marks.{settled}
-use Rattle.calls.specs.CallLaws.{feed-accepted, end-accepted}
+use Rattle.calls.specs.CallLaws.{feed-accepted, end-accepted, feed-number as feed-is, end-number as end-is}
 use Rattle.calls.specs.Stands.{Stands, FeedDone, feed-stands, end-closed}
-use Rattle.calls.specs.Accepts.{feed-tests, end-tests, end-nodes, told-enough, end-enough}
+use Rattle.calls.specs.Terms.{enoughWords}
+use Rattle.calls.specs.Accepts.{feed-tests, end-tests, end-nodes}
+use Rattle.calls.specs.LogWords.{log-enough, end-enough}
 use Rattle.line.specs.declared.State.{State}
 use Rattle.print.specs.Print.{nodeLine, nodeLines, digestLine}
 use Rattle.program.specs.Printed.{linesOf, hashed}
@@ -28,9 +30,9 @@ use Rattle.program.specs.declared.Phase.the-variants.{Message as InMessa
 -- ---- the log of a call
 
 -- it has room for a read of at most the buffer's bytes, and for an end
-log-room : (n : ℕ) → n ≤ 8 * bufferBytes → (logWordsOf n ≤ length emptyLog) × (54 ≤ length emptyLog)
-unfolding logWordsOf
-log-room n h = let e = length-replicate {A = ℕ} (logWordsOf (8 * bufferBytes)) 0 in (omega (arith, e), omega (arith, e))
+log-room : (n : ℕ) → n ≤ 8 * bufferBytes → (enoughWords n ≤ length emptyLog) × (54 ≤ length emptyLog)
+unfolding enoughWords
+log-room n h = let e = length-replicate {A = ℕ} (enoughWords (8 * bufferBytes)) 0 in (omega (arith, e), omega (arith, e))
 
 -- the first nodes of a log are those that were logged
 log-lines : (nodes : List Node) (rest : List ℕ) → nodeLines (length nodes) (nodeLog nodes ++ rest) ≡ linesOf nodes
@@ -65,7 +67,7 @@ module _ {P : Params} {M : List Bool} {area : List ℕ} (s : Stands P M area) wh
   end-number =
       first
       ∙ not-eight (ltb (length emptyLog) (2 * length (closedBy area)))
-      (λ e. end-enough area emptyDigest emptyLog (log-room 0 (omega arith) .1) (first ∙ e))
+      (λ e. end-enough area emptyDigest emptyLog (log-room 0 (omega arith) .1) (end-is area emptyDigest emptyLog ∙ first ∙ e))
     where
       first : endNumber area emptyDigest emptyLog ≡ cond (ltb (length emptyLog) (2 * length (closedBy area))) 8 0
       first = end-tests s emptyDigest emptyLog ∙ rw (le-ltb 64 (digestBytes (P .d)) (omega (arith, s .head .valid .dHigh)))
@@ -92,7 +94,7 @@ module _ {P : Params} {M : List Bool} {area : List ℕ} (s : Stands P M area) wh
     feed-number =
         first
         ∙ not-eight (ltb (length emptyLog) (2 * length (fedBits area (pieceBits (allBits bytes)) .nodes)))
-        (λ e. told-enough area (allBits bytes) emptyLog (log-room (8 * length bytes) (omega arith) .0) (first ∙ e))
+        (λ e. log-enough area (allBits bytes) emptyLog (log-room (8 * length bytes) (omega arith) .0) (feed-is area (allBits bytes) emptyLog ∙ first ∙ e))
       where
         first : feedNumber area (allBits bytes) emptyLog
             ≡ cond (ltb (length emptyLog) (2 * length (fedBits area (pieceBits (allBits bytes)) .nodes))) 8 0

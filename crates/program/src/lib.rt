@@ -18,7 +18,7 @@ mod first; // first.rt: the first line, and the stream that it opens
 // The bytes that one read gives at most.
 pub const BUFFER: usize = 65536;
 
-// The words of the log, 566: those that stream::log_words tells for the bits of a full buffer. An end needs no more than 54.
+// The words of the log, 566: enough for a feed of a full buffer, whatever the stream's area holds. An end needs no more than 54.
 const LOG: usize = 4 * (8 * BUFFER / Block::BITS as usize) + 2 * Params::LEVELS as usize;
 
 // The bytes of the longest digest, of 512 bits.

@@ -43,7 +43,7 @@ first-part [] ys h = absurd (h refl)
 first-part ((true, n) ∷ xs) ys h = refl
 first-part ((false, n) ∷ xs) ys h = first-part xs ys h
 
-second-part : (xs ys : List (Bool × ℕ)) → ((k : ℕ) → testAt xs k ≡ false) → firstRefusal (xs ++ ys) ≡ firstRefusal ys
+pub second-part : (xs ys : List (Bool × ℕ)) → ((k : ℕ) → testAt xs k ≡ false) → firstRefusal (xs ++ ys) ≡ firstRefusal ys
 second-part [] ys p = refl
 second-part (t ∷ xs) ys p = rw (p 0) (second-part xs ys (λ k. p (suc k)))
 

@@ -1,4 +1,4 @@
--- Definitions: the order of refusals, and the tests that several calls share. Document 01, the table of numbers: each test stands beside
+-- Definitions: the order of refusals, what a call answers, and the tests that several calls share. Document 01, the table of numbers: each test stands beside
 -- its number; number 5 has its test in bits/Piece.
 use mathlib.Core.Bool.{Bool, cond}
 use mathlib.Core.List.{List, [], _∷_, _++_}
@@ -19,6 +19,11 @@ firstRefusal (test ∷ later) = cond (test .0) (test .1) (firstRefusal later)
 abbrev pub answerOf : {A : Type 0} → ℕ → A → (ℕ → A) → A
 answerOf zero accepted refused = accepted
 answerOf (suc n) accepted refused = refused (suc n)
+
+-- what a call that only tells something answers: its number, and what it tells as count; it changes nothing
+pub record Told : Type 0 where
+  pub number : ℕ
+  pub count : ℕ
 
 -- ---- tests that several calls share
 

@@ -11,15 +11,15 @@ use lib.Seq.{take-at}
 use Rattle.bits.specs.BitsLaws.{length-numbers}
 use Rattle.bits.specs.Piece.{Piece}
 use Rattle.tree.specs.Tree.{Params, order, digest, digestBytes}
-use Rattle.calls.specs.Calls.{Opened, Fed, Finished, openNumber, openOf, feedNumber, feedOf, endNumber, endOf}
+use Rattle.calls.specs.Calls.{Opened, Fed, Finished, openNumber, openOf, feedNumber, feedOf, endNumber, endOf, logWordsNumber}
 use Rattle.calls.specs.Calls
 use Rattle.calls.specs.Marks.{allNodes, settled}
-use Rattle.calls.specs.CallLaws.{open-number, open-refused, feed-number, feed-refused, feed-passed, end-number, end-refused, end-passed}
+use Rattle.calls.specs.CallLaws.{open-number, open-refused, feed-number, feed-refused, feed-passed, end-number, end-refused, end-passed, logWords-number}
 use Rattle.calls.specs.Stands.{Stands, Closed}
 use Rattle.calls.specs.Meets.{feed-one, end-one}
-use Rattle.text.specs.Text.{Taken, textOf, writeNumber, writeOf, readNumber, readOf}
+use Rattle.text.specs.Text.{Taken, textOf, writeNumber, readNumber, readOf}
 use Rattle.text.specs.ReadLaws.{read-number, read-refused, write-number, written-text}
-use Rattle.runs.specs.Runs.{Bytes, Words, Call, feed, end, show, write, read, readInto, reopen, unless, outcomeOf, acceptedRole, roleOf, suspended, Allowed, Share, nothing, acceptedShare, shareOf, digestIn}
+use Rattle.runs.specs.Runs.{Bytes, Words, Call, feed, end, show, logWords, write, read, readInto, reopen, unless, outcomeOf, acceptedRole, roleOf, suspended, Allowed, Share, nothing, acceptedShare, shareOf, digestIn}
 use Rattle.runs.specs.Suspend.{At, isOpen, hasEnded, at-resumed}
 
 -- ---- effects
@@ -135,19 +135,23 @@ module _ (P : Params) (M : List Bool) (area : List ℕ) (text : Option (List ℕ
   unfolding outcomeOf shareOf roleOf
   show-step {e} level = record { after = e; effect = still refl refl; held = h }
 
+  -- a call that leaves the area as it was and adds nothing to the run, whether it is accepted or not
+  quiet : {e : Bool} (c : Call) (k : ℕ) → outcomeOf area c .number ≡ k → outcomeOf area c .area ≡ area
+      → acceptedShare c (outcomeOf area c) ≡ nothing → (k ≡ 0 → Held (suspended text (acceptedRole c (outcomeOf area c))) area) → Step P M area e text c
+  quiet c (suc k) n a s r = refused c k n a
+  quiet {e} c zero n a s r = record {
+    after = e;
+    effect = still (share-of c n ∙ s) a;
+    held = rw (role-of c n) (subst (λ (l : List ℕ). Held (suspended text (acceptedRole c (outcomeOf area c))) l) (sym a) (r refl));
+  }
+
+  logWords-step : {e : Bool} (bits : ℕ) (s : bits < 2 ^ 64) → Step P M area e text (logWords bits s)
+  unfolding outcomeOf
+  logWords-step bits s = quiet (logWords bits s) (logWordsNumber area bits) (logWords-number area bits) refl refl (λ q. tt)
+
   write-step : {e : Bool} (out : List ℕ) (b : Bytes out) → Step P M area e text (write out b)
   unfolding outcomeOf
-  write-step {e} out b = by (writeNumber area out) refl
-    where
-      c : Call
-      c = write out b
-
-      number : writeOf area out .number ≡ writeNumber area out
-      number = write-number area out
-
-      by : (k : ℕ) → writeNumber area out ≡ k → Step P M area e text c
-      by (suc k) q = refused c k (number ∙ q) refl
-      by zero q = record { after = e; effect = still (share-of c (number ∙ q)) refl; held = rw (role-of c (number ∙ q)) (written-text area out q) }
+  write-step out b = quiet (write out b) (writeNumber area out) (write-number area out) refl refl (written-text area out)
 
   -- the text of an accepted read is the area's own
   read-text : (x : List ℕ) → text ≡ some x → x ≡ textOf area
@@ -217,6 +221,7 @@ module _ (P : Params) (M : List Bool) (area : List ℕ) (text : Option (List ℕ
   step (feed piece log b s w) at a = feed-step piece log b s w at
   step (end out log b w) at a = end-step out log b w at
   step (show level) at a = show-step level
+  step (logWords bits s) at a = logWords-step bits s
   step (write out b) at a = write-step out b
   step (read x b) at a = read-step x b at a
   step (readInto other x w b) at a = readInto-step other x w b at a

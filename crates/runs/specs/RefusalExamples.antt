@@ -11,7 +11,7 @@ use Rattle.bits.specs.Piece.{pieceOf}
 use Rattle.compress.specs.Compress.{grown, compressed}
 use Rattle.tree.specs.Tree.{Params, keyWords, output, noChain}
 use Rattle.calls.specs.Area.{areaWords, paramsOf, levelsOf, withLevels, emptyLevel, emptyLevels, sound}
-use Rattle.calls.specs.Calls.{withBit, outWords, receive, feedBit, feedBits, closeAbove, closing, openNumber, openedArea, openOf, fedBits, feedNumber, fedArea, feedOf, closedBy, endNumber, endedArea, digestOut, endOf}
+use Rattle.calls.specs.Calls.{withBit, outWords, receive, feedBit, feedBits, closeAbove, closing, openNumber, openedArea, openOf, fedBits, feedNumber, fedArea, feedOf, closedBy, endNumber, endedArea, digestOut, endOf, logWordsNumber, logWordsOf}
 use Rattle.digits.specs.Digits.{hexDigits, speltWords}
 use Rattle.text.specs.Text.{textOf, speltHead, speltArea, same, writeNumber, writeOf, readable, readNumber, readOf}
 use Rattle.text.specs.ReadLaws.{same-eq}
@@ -171,8 +171,25 @@ roundsRows =
     ∷ (defaultRoundsOf 0 0 .number, 1)
     ∷ []
 
+-- document 02, M-103: "It refuses 7, 10 and 6 in that order"; edges: the length of the area; the highest total
+abbrev toldRows : List Row
+toldRows =
+    (logWordsOf (cut ended) 8 .number, 7)
+    ∷ (logWordsOf (set ended 15 1) 8 .number, 7)
+    ∷ (logWordsOf ended 8 .number, 10)
+    ∷ (logWordsOf (set ended 1 1) (2 ^ 64 - 1) .number, 10)
+    ∷ (logWordsOf (late (2 ^ 64 - 1)) 1 .number, 6)
+    ∷ (logWordsOf (set (late (2 ^ 64 - 1)) 15 1) 1 .number, 7)
+    ∷ (logWordsOf (cut opened) 0 .number, 7)
+    ∷ (logWordsOf opened 0 .number, 0)
+    ∷ (logWordsOf opened (2 ^ 64 - 1) .number, 0)
+    ∷ (logWordsOf (late (2 ^ 64 - 1)) 0 .number, 0)
+    ∷ (logWordsOf (late (2 ^ 64 - 2)) 1 .number, 0)
+    ∷ (logWordsOf (late (2 ^ 64 - 2)) 2 .number, 6)
+    ∷ []
+
 abbrev pub rows : List Row
-rows = openRows ++ (feedRows ++ (endRows ++ (writeRows ++ (readRows ++ (wholeRows ++ roundsRows)))))
+rows = openRows ++ (feedRows ++ (endRows ++ (writeRows ++ (readRows ++ (wholeRows ++ (roundsRows ++ toldRows))))))
 
 abbrev answered : List ℕ
 answered = map (λ (w : Row). w .0) rows
@@ -181,7 +198,7 @@ abbrev expected : List ℕ
 expected = map (λ (w : Row). w .1) rows
 
 computed : same answered expected ≡ true
-unfolding numbers keyWords output noChain compressed grown paramsOf levelsOf withLevels emptyLevel emptyLevels sound withBit outWords receive feedBit feedBits closeAbove closing openNumber openedArea openOf fedBits feedNumber fedArea feedOf closedBy endNumber endedArea digestOut endOf hexDigits textOf speltWords speltHead speltArea writeNumber writeOf readable readNumber readOf hashNumber hashOf defaultRoundsOf mathlib.Core.List.flatten
+unfolding numbers keyWords output noChain compressed grown paramsOf levelsOf withLevels emptyLevel emptyLevels sound withBit outWords receive feedBit feedBits closeAbove closing openNumber openedArea openOf fedBits feedNumber fedArea feedOf closedBy endNumber endedArea digestOut endOf logWordsNumber logWordsOf hexDigits textOf speltWords speltHead speltArea writeNumber writeOf readable readNumber readOf hashNumber hashOf defaultRoundsOf mathlib.Core.List.flatten
 computed = refl
 
 pub rows-hold : map (λ (w : Row). w .0) rows ≡ map (λ (w : Row). w .1) rows

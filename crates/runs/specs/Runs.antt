@@ -1,4 +1,5 @@
--- Definitions: runs. Document 01, "Runs": a list of calls on one stream, from an accepted open on, and its message, log, count and digest.
+-- Definitions: runs. Document 01, "Runs", and document 02, M-103: a list of calls on one stream, from an accepted open on, and its message,
+-- log, count and digest.
 -- Each call answers by the definition that the contract of its function is an equation with.
 use mathlib.Core.Path.{_≡_}
 use mathlib.Core.Bool.{Bool}
@@ -9,7 +10,8 @@ use lib.ListN.{take}
 use Rattle.lists.specs.Below.{Below}
 use Rattle.bits.specs.Piece.{Piece, pieceBits}
 use Rattle.tree.specs.Tree.{Params, digestBytes}
-use Rattle.calls.specs.Calls.{Opened, Fed, Finished, openOf, feedOf, endOf, levelOf}
+use Rattle.refusals.specs.Refusals.{Told}
+use Rattle.calls.specs.Calls.{Opened, Fed, Finished, openOf, feedOf, endOf, levelOf, logWordsOf}
 use Rattle.text.specs.Text.{Written, Taken, writeOf, readOf}
 
 -- lent bytes and lent words
@@ -21,12 +23,14 @@ Words = Below (2 ^ 64)
 
 -- ---- calls and their outcomes
 
--- "Then come, in any order and number, feed, end, show a level, write and read, and open where it is refused": a call with its
--- arguments and all that is lent to it but the stream's area; "a read may get another area, of any contents"
+-- "Then come, in any order and number, feed, end, show a level, write and read, and open where it is refused"; document 02, M-103, of
+-- log words: "a run may have it too". A call with its arguments and all that is lent to it but the stream's area; "a read may get
+-- another area, of any contents"
 pub data Call : Type 0 where
   feed : (piece : Piece) (log : List ℕ) → Bytes (piece .bytes) → piece .count < 2 ^ 64 → Words log → Call
   end : (digest log : List ℕ) → Bytes digest → Words log → Call
   show : (level : ℕ) → Call
+  logWords : (bits : ℕ) → bits < 2 ^ 64 → Call
   write : (text : List ℕ) → Bytes text → Call
   read : (text : List ℕ) → Bytes text → Call
   readInto : (other text : List ℕ) → Words other → Bytes text → Call
@@ -55,6 +59,9 @@ outcomeOf area (end digest log _ _) =
     let e : Finished = endOf area digest log in
     record { number = e .number; count = e .count; area = e .area; log = e .log; output = e .digest }
 outcomeOf area (show level) = record { number = 0; count = 0; area = area; log = []; output = levelOf area level }
+outcomeOf area (logWords bits _) =
+    let t : Told = logWordsOf area bits in
+    record { number = t .number; count = t .count; area = area; log = []; output = [] }
 outcomeOf area (write text _) =
     let w : Written = writeOf area text in
     record { number = w .number; count = w .count; area = area; log = []; output = w .text }
@@ -79,12 +86,13 @@ pub data Role : Type 0 where
   outside : Role  -- any other accepted call that a run may have
   opens : Role  -- an accepted open
 
--- of an accepted call: which of them may stand inside a suspension is said here alone; a write's text is the first c bytes
--- of its output, c its count
+-- of an accepted call: which of them may stand inside a suspension is said here alone, by the letter refused calls and shown levels;
+-- a write's text is the first c bytes of its output, c its count
 abbrev pub acceptedRole : Call → Outcome → Role
 acceptedRole (feed piece log _ _ _) o = outside
 acceptedRole (end digest log _ _) o = outside
 acceptedRole (show level) o = between
+acceptedRole (logWords bits _) o = outside
 acceptedRole (write text _) o = writes (take (o .count) (o .output))
 acceptedRole (read text _) o = reads text
 acceptedRole (readInto other text _ _) o = reads text
@@ -156,13 +164,15 @@ abbrev pub nothing : Share
 nothing = record { bits = []; log = []; count = 0; output = none }
 
 -- an accepted call: "The message of a run is the bits of its accepted feeds"; "Its log joins, in order, the logs of its accepted
--- feeds and end: of each the first 2c words as the call left them, c being the count it returned."
+-- feeds and end: of each the first 2c words as the call left them, c being the count it returned."; told words are no part of the
+-- run's count
 abbrev pub acceptedShare : Call → Outcome → Share
 acceptedShare (feed piece log _ _ _) o =
     record { bits = pieceBits piece; log = take (2 * o .count) (o .log); count = o .count; output = none }
 acceptedShare (end digest log _ _) o =
     record { bits = []; log = take (2 * o .count) (o .log); count = o .count; output = some (o .output) }
 acceptedShare (show level) o = nothing
+acceptedShare (logWords bits _) o = nothing
 acceptedShare (write text _) o = nothing
 acceptedShare (read text _) o = nothing
 acceptedShare (readInto other text _ _) o = nothing

@@ -5,13 +5,13 @@ use mathlib.Core.Bool.{Bool, true, false, not}
 use mathlib.Core.Logic.{_⊎_}
 use mathlib.Core.Option.{Option, none, some}
 use mathlib.Core.List.{List, [], _∷_, _++_}
-use Prim.Native.Nat.{ℕ, _+_, _-_, _^_, _≤_, _<_}
+use Prim.Native.Nat.{ℕ, _+_, _-_, _*_, _^_, _≤_, _<_}
 use lib.ListN.{length}
 use Rattle.bits.specs.Piece.{Piece, pieceBits}
 use Rattle.tree.specs.Tree.{Params, Valid, Node, Mark, mostLevels, order, digest}
 use Rattle.refusals.specs.Refusals.{firstRefusal, paramTests, outputTest}
 use Rattle.calls.specs.Area.{areaWords, phaseOf, totalOf, paramsOf, levelWords, sound}
-use Rattle.calls.specs.Calls.{nodeLog, shortTest, openOf, feedTests, feedOf, endTests, endOf, levelOf}
+use Rattle.calls.specs.Calls.{nodeLog, shortTest, totalTest, openOf, feedTests, feedOf, endTests, endOf, levelOf, logWordsOf}
 use Rattle.calls.specs.Marks.{allNodes, settled}
 use Rattle.text.specs.Text.{textOf, writeOf, readable, readOf}
 use Rattle.runs.specs.Runs.{Run, areaOf, messageOf, logOf, countOf, outputOf, digestIn}
@@ -74,6 +74,11 @@ pub record Table (r : Run) : Type 0 where
   -- "End 7, 10, 9, 8"
   pub end : (out log : List ℕ) → endOf (areaOf r) out log .number
       ≡ firstRefusal (endedTest (outputOf r) ∷ endTests (r .params .d) (endMakes (r .params) (messageOf r)) out log)
+  -- document 02, M-103: "It refuses 7, 10 and 6 in that order", and is "exactly two words for each node that the feed would make": of
+  -- any bits Y, if it is not refused
+  pub logWords : (n : ℕ) → logWordsOf (areaOf r) n .number ≡ firstRefusal (endedTest (outputOf r) ∷ totalTest (length (messageOf r)) n ∷ [])
+  pub logWordsCount : (Y : List Bool) → logWordsOf (areaOf r) (length Y) .number ≡ 0
+      → logWordsOf (areaOf r) (length Y) .count ≡ 2 * feedMakes (r .params) (messageOf r) Y
   -- "Write 7, 9"
   pub write : (out : List ℕ) → writeOf (areaOf r) out .number ≡ firstRefusal (outputTest (length (textOf (areaOf r))) out ∷ [])
   -- "Read 7, 11": 11 exactly if the text is not what writing some sound area gives; another area may be short

@@ -1,9 +1,9 @@
 -- Laws: "Which calls are accepted follows from the table", for every call after a run.
-use mathlib.Core.Path.{_≡_, refl, ap, _∙_}
+use mathlib.Core.Path.{_≡_, refl, sym, ap, _∙_}
 use mathlib.Core.Bool.{Bool, true, false, _&&_, and-false}
 use mathlib.Core.Logic.{_⊎_, inl, inr}
 use mathlib.Core.List.{List, [], _∷_}
-use Prim.Native.Nat.{ℕ, _+_, _-_, _^_, _<_}
+use Prim.Native.Nat.{ℕ, _+_, _-_, _*_, _^_, _<_}
 use native.Mathlib.Omega.{arith}
 use borrow.Author.Tests.{ltb-false, le-ltb, lt-leb}
 use lib.Dec.{leb, ltb}
@@ -11,13 +11,14 @@ use lib.ListN.{length, length-append, length-map}
 use Rattle.bits.specs.Piece.{Piece, pieceBits, bitsTest}
 use Rattle.bits.specs.PieceLaws.{length-pieceBits, bits-there}
 use Rattle.tree.specs.Tree.{Params, Mark, mostLevels, order}
-use Rattle.refusals.specs.Refusals.{firstRefusal}
+use Rattle.refusals.specs.Refusals.{Told, firstRefusal}
 use Rattle.calls.specs.Area.{areaWords, sound}
-use Rattle.calls.specs.Calls.{totalTest, logTest, openNumber, fedBits, feedTests, feedOf, closedBy, endTests, endOf, shown, levelOf}
+use Rattle.calls.specs.Calls.{totalTest, logTest, openNumber, fedBits, feedTests, feedOf, closedBy, endTests, endOf, shown, levelOf, logWordsOf}
 use Rattle.calls.specs.Marks.{settled}
-use Rattle.calls.specs.CallLaws.{open-number, feed-number, end-number}
+use Rattle.calls.specs.CallLaws.{open-number, feed-number, end-number, logWords-number, logWords-accepted, logWords-passed}
 use Rattle.calls.specs.Stands.{Stands}
-use Rattle.calls.specs.Accepts.{feed-tests, end-tests, feed-nodes, end-nodes, feed-ended, end-ended, level-shown}
+use Rattle.calls.specs.Accepts.{feed-tests, end-tests, logWords-tests, feed-nodes, end-nodes, feed-ended, end-ended, logWords-ended, level-shown}
+use Rattle.calls.specs.LogWords.{any-bits}
 use Rattle.text.specs.Text.{writeNumber, readNumber}
 use Rattle.text.specs.ReadLaws.{write-number, read-number}
 use Rattle.runs.specs.Runs.{Run, shares, answersOf, areaOf, messageOf, outputOf}
@@ -54,6 +55,15 @@ module _ {P : Params} {M : List Bool} {area : List ℕ} (s : Stands P M area) wh
       let small = ltb-false (2 ^ 64 - 1) (length M + piece .count) t in
       ap (λ (m : ℕ). firstRefusal (logTest m log ∷ [])) (feed-made (pieceBits piece) (omega arith))))
 
+  logWords-number-is : (n : ℕ) → logWordsOf area n .number ≡ firstRefusal (totalTest (length M) n ∷ [])
+  logWords-number-is n = logWords-number area n ∙ logWords-tests s n
+
+  logWords-count-is : (Y : List Bool) → logWordsOf area (length Y) .number ≡ 0 → logWordsOf area (length Y) .count ≡ 2 * feedMakes P M Y
+  logWords-count-is Y z =
+      let q = sym (logWords-number area (length Y)) ∙ z in
+      let small : length M + length Y < 2 ^ 64 = omega (arith, logWords-passed area (length Y) q .total, s .head .total) in
+      ap (λ (t : Told). t .count) (logWords-accepted area (length Y) q) ∙ ap (λ (m : ℕ). 2 * m) (sym (any-bits area Y) ∙ feed-made Y small)
+
   end-number-is : (out log : List ℕ) → endOf area out log .number ≡ firstRefusal (endTests (P .d) (endMakes P M) out log)
   end-number-is out log = end-number area out log ∙ end-tests s out log ∙ rw end-made refl
 
@@ -76,6 +86,8 @@ unfolding writeNumber readNumber openNumber
 table r = record {
   feed = λ piece log. feeds piece log (run-fits r .1);
   end = λ out log. ends out log (run-fits r .1);
+  logWords = λ n. tells n (run-fits r .1);
+  logWordsCount = λ Y z. tellsCount Y (run-fits r .1) z;
   write = λ out. write-number area out ∙ rw (long, d .sound) refl;
   read = λ text. read-number area text ∙ rw long refl;
   readInto = read-number;
@@ -108,3 +120,13 @@ table r = record {
         ≡ firstRefusal (endedTest (outputOf r) ∷ endTests (P .d) (endMakes P M) out log)
     ends out log (going g) = rw (g .output) (end-number-is (g .stands) out log)
     ends out log (over g) = rw (g .output) (end-number area out log ∙ end-ended (g .closed) out log)
+
+    tells : {e : Bool} (n : ℕ) → Fits P (shares (answersOf r)) area e
+        → logWordsOf area n .number ≡ firstRefusal (endedTest (outputOf r) ∷ totalTest (length M) n ∷ [])
+    tells n (going g) = rw (g .output) (logWords-number-is (g .stands) n)
+    tells n (over g) = rw (g .output) (logWords-number area n ∙ logWords-ended (g .closed) n)
+
+    tellsCount : {e : Bool} (Y : List Bool) → Fits P (shares (answersOf r)) area e → logWordsOf area (length Y) .number ≡ 0
+        → logWordsOf area (length Y) .count ≡ 2 * feedMakes P M Y
+    tellsCount Y (going g) z = logWords-count-is (g .stands) Y z
+    tellsCount Y (over g) z = absurd (omega (arith, logWords-number area (length Y), logWords-ended (g .closed) (length Y)))

@@ -1,30 +1,65 @@
--- Laws: the numbers that refuse a feed and an end, as the code tests them: first the area, and then the rest for an open area, whose
--- word 14 tells how many nodes would be made.
+-- Laws: the numbers that refuse a feed, an end and the telling of log words, as the code tests them: first the area, and then the rest
+-- for an open area, whose word 14 tells how many nodes were made already.
 use mathlib.Core.Path.{_≡_, refl, sym, ap, _∙_}
-use mathlib.Core.Bool.{true, false}
-use mathlib.Core.List.{List, [], _∷_}
-use Prim.Native.Nat.{ℕ, _+_, _-_, _^_, _≤_, _<_}
+use mathlib.Core.Bool.{Bool, true, false}
+use mathlib.Core.List.{List, [], _∷_, _++_}
+use Prim.Native.Nat.{ℕ, _+_, _-_, _*_, _^_, _≤_, _<_}
 use native.Mathlib.Omega.{arith}
-use borrow.Author.Tests.{lt-ltb, le-ltb}
-use lib.ListN.{length, getD}
+use borrow.Author.Tests.{le-ltb}
+use lib.ListN.{length, getD, replicate, length-replicate}
 use Rattle.bits.specs.Piece.{Piece, pieceBits, bitsTest}
-use Rattle.bits.specs.PieceLaws.{bits-there}
 use Rattle.tree.specs.Tree.{digestBytes}
 use Rattle.tree.specs.Sizes.{treeNodes}
 use Rattle.refusals.specs.Refusals.{firstRefusal}
 use Rattle.refusals.specs.RefusalLaws.{passed, first-part}
 use Rattle.calls.specs.Area.{totalOf, compressionsOf, openCount, paramsOf}
-use Rattle.calls.specs.Calls.{fedBits, closedBy, feedNumber, endNumber, openTests, logTest, feedTests, endTests}
-use Rattle.calls.specs.CallLaws.{OpenArea, open-area, open-tests}
+use Rattle.calls.specs.Calls.{fedBits, closedBy, feedNumber, endNumber, logWordsNumber, openTests, totalTest, logTest, feedTests, endTests}
+use Rattle.calls.specs.CallLaws.{OpenArea, LogWordsPassed, open-area, open-tests, total-passed}
 use Rattle.calls.specs.Accepts.{closed-count}
+use Rattle.calls.specs.LogWords.{piece-nodes}
 use Rattle.climb.specs.OpenArea.{open-done, limit-read, size-read}
-use Rattle.piece.specs.PieceLaws.{made-count}
+use Rattle.piece.specs.PieceLaws.{made-count, openCount-le}
+
+-- ---- the area's number, or that of the later tests for an open area
 
 -- the area's number is 0
 pub area-passed : {n : ℕ} (area : List ℕ) → n ≡ firstRefusal (openTests area) → n ≡ 0 → OpenArea area
 area-passed area e z = open-area area (passed (openTests area) refl (sym e ∙ z))
 
--- ---- a feed: the area's number, or that of the later tests for an open area
+module _ {n : ℕ} (area : List ℕ) (later : List (Bool × ℕ)) (e : n ≡ firstRefusal (openTests area)) where
+  area-decides : (n ≡ 0 → ⊥) → n ≡ firstRefusal (openTests area ++ later)
+  area-decides h = e ∙ first-part (openTests area) later (λ z. h (e ∙ z))
+
+  later-decide : n ≡ 0 → firstRefusal later ≡ firstRefusal (openTests area ++ later)
+  later-decide z = sym (open-tests (area-passed area e z) later)
+
+-- ---- the total's number
+
+-- it is 0
+pub total-fits : {n : ℕ} (total bits : ℕ) → n ≡ firstRefusal (totalTest total bits ∷ []) → n ≡ 0 → total + bits < 2 ^ 64
+total-fits total bits e z = total-passed total bits (passed (totalTest total bits ∷ []) refl (sym e ∙ z) 0)
+
+-- ---- log words told
+
+module _ {n : ℕ} (area : List ℕ) (bits : ℕ) (e : n ≡ firstRefusal (openTests area)) where
+  pub logWords-area : (n ≡ 0 → ⊥) → n ≡ logWordsNumber area bits
+  unfolding logWordsNumber
+  logWords-area = area-decides area (totalTest (totalOf area) bits ∷ []) e
+
+  pub logWords-open : n ≡ 0 → firstRefusal (totalTest (totalOf area) bits ∷ []) ≡ logWordsNumber area bits
+  unfolding logWordsNumber
+  logWords-open = later-decide area (totalTest (totalOf area) bits ∷ []) e
+
+module _ {area : List ℕ} {bits : ℕ} (p : LogWordsPassed area bits) where
+  -- the nodes that a feed would make, and those that were made
+  pub count-made : length (fedBits area (replicate bits false) .nodes) + compressionsOf area ≡ openCount (getD area 4 0) (totalOf area + bits)
+  count-made = made-count (p .opened) bits (replicate bits false) (length-replicate bits false) (p .total)
+
+  -- two words for each of them can be counted
+  pub words-fit : 2 * length (fedBits area (replicate bits false) .nodes) < 2 ^ 64
+  words-fit = omega (arith, count-made, openCount-le (getD area 4 0) (totalOf area + bits), p .total)
+
+-- ---- a feed
 
 abbrev pub openFeedNumber : List ℕ → Piece → List ℕ → ℕ
 openFeedNumber area piece log = firstRefusal (feedTests (totalOf area) (length (fedBits area (pieceBits piece) .nodes)) piece log)
@@ -32,32 +67,31 @@ openFeedNumber area piece log = firstRefusal (feedTests (totalOf area) (length (
 module _ {n : ℕ} (area : List ℕ) (piece : Piece) (log : List ℕ) (e : n ≡ firstRefusal (openTests area)) where
   pub feed-area : (n ≡ 0 → ⊥) → n ≡ feedNumber area piece log
   unfolding feedNumber
-  feed-area h = e ∙ first-part (openTests area) (feedTests (totalOf area) (length (fedBits area (pieceBits piece) .nodes)) piece log) (λ z. h (e ∙ z))
+  feed-area = area-decides area (feedTests (totalOf area) (length (fedBits area (pieceBits piece) .nodes)) piece log) e
 
   pub feed-open : n ≡ 0 → openFeedNumber area piece log ≡ feedNumber area piece log
   unfolding feedNumber
-  feed-open z = sym (open-tests (area-passed area e z) (feedTests (totalOf area) (length (fedBits area (pieceBits piece) .nodes)) piece log))
+  feed-open = later-decide area (feedTests (totalOf area) (length (fedBits area (pieceBits piece) .nodes)) piece log) e
 
--- the ways that the code takes with an open area; after the feed so many compressions will be done
-module _ {area : List ℕ} (o : OpenArea area) (piece : Piece) (log : List ℕ) where
+-- the ways that the code takes with an open area
+module _ (area : List ℕ) (piece : Piece) (log : List ℕ) where
   pub feed-over : bitsTest piece .0 ≡ true → 5 ≡ openFeedNumber area piece log
   feed-over b = rw b
 
-  pub feed-past : bitsTest piece .0 ≡ false → 2 ^ 64 - 1 < totalOf area + piece .count → 6 ≡ openFeedNumber area piece log
-  feed-past b h = rw (b, lt-ltb (2 ^ 64 - 1) (totalOf area + piece .count) h)
+  module _ {n : ℕ} (b : bitsTest piece .0 ≡ false) (e : n ≡ firstRefusal (totalTest (totalOf area) (piece .count) ∷ [])) where
+    pub feed-past : (n ≡ 0 → ⊥) → n ≡ openFeedNumber area piece log
+    feed-past h =
+        let made : ℕ = length (fedBits area (pieceBits piece) .nodes) in
+        e ∙ first-part (totalTest (totalOf area) (piece .count) ∷ []) (logTest made log ∷ []) (λ z. h (e ∙ z)) ∙ rw b
 
-  module _ {after : ℕ} (b : bitsTest piece .0 ≡ false) (t : totalOf area + piece .count < 2 ^ 64)
-      (e : after ≡ openCount (getD area 4 0) (totalOf area + piece .count)) where
-    -- the nodes that the feed would make, and those that were made
-    pub feed-made : length (fedBits area (pieceBits piece) .nodes) + compressionsOf area ≡ after
-    feed-made = made-count o piece (bits-there piece b) t ∙ sym e
+    -- the nodes that the feed would make
+    pub feed-log : {nodes : ℕ} → n ≡ 0 → nodes ≡ length (fedBits area (replicate (piece .count) false) .nodes)
+        → firstRefusal (logTest nodes log ∷ []) ≡ openFeedNumber area piece log
+    feed-log z m =
+        let t = total-fits (totalOf area) (piece .count) e z in
+        rw (m ∙ sym (piece-nodes area piece b), b, le-ltb (2 ^ 64 - 1) (totalOf area + piece .count) (omega arith))
 
-    pub feed-log : firstRefusal (logTest (after - compressionsOf area) log ∷ []) ≡ openFeedNumber area piece log
-    feed-log =
-        let m : after - compressionsOf area ≡ length (fedBits area (pieceBits piece) .nodes) = omega (arith, feed-made) in
-        rw (m, b, le-ltb (2 ^ 64 - 1) (totalOf area + piece .count) (omega arith))
-
--- ---- an end: likewise
+-- ---- an end
 
 abbrev pub openEndNumber : List ℕ → List ℕ → List ℕ → ℕ
 openEndNumber area out log = firstRefusal (endTests (getD area 3 0) (length (closedBy area)) out log)
@@ -65,11 +99,11 @@ openEndNumber area out log = firstRefusal (endTests (getD area 3 0) (length (clo
 module _ {n : ℕ} (area out log : List ℕ) (e : n ≡ firstRefusal (openTests area)) where
   pub end-area : (n ≡ 0 → ⊥) → n ≡ endNumber area out log
   unfolding endNumber
-  end-area h = e ∙ first-part (openTests area) (endTests (paramsOf area .d) (length (closedBy area)) out log) (λ z. h (e ∙ z))
+  end-area = area-decides area (endTests (paramsOf area .d) (length (closedBy area)) out log) e
 
   pub end-open : n ≡ 0 → openEndNumber area out log ≡ endNumber area out log
   unfolding endNumber
-  end-open z = sym (open-tests (area-passed area e z) (endTests (paramsOf area .d) (length (closedBy area)) out log) ∙ rw (size-read area))
+  end-open z = rw (← size-read area) (later-decide area (endTests (paramsOf area .d) (length (closedBy area)) out log) e z)
 
 pub end-log : {nodes : ℕ} (area out log : List ℕ) → digestBytes (getD area 3 0) ≤ length out → nodes ≡ length (closedBy area)
     → firstRefusal (logTest nodes log ∷ []) ≡ openEndNumber area out log

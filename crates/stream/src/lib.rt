@@ -7,28 +7,13 @@ ghost use lib.ListN.{length};
 ghost use Rattle.calls.specs.Area.{Long, levelStart};
 ghost use Rattle.calls.specs.Calls.{openedArea, openOf, feedOf, shown, levelOf, logWordsOf};
 use area::Area;
-use node::Block;
 use refusals::Answer;
 use refusals::Params;
 
-mod number; // number.rt: the numbers that refuse a feed and an end
+mod number; // number.rt: the numbers that refuse a feed, an end and the telling of log words, and how many nodes these would make
 mod close; // close.rt: the end of a stream
 
 pub use close::end;
-
-// The words of log that an end needs at most: two for its node at each level, of which a tree has at most 27.
-const END_WORDS: u64 = 2 * Params::LEVELS;
-
-// How many words of log are enough for a piece of so many bits, whatever open area it is fed to.
-pub fn log_words(bits: u64) -> Answer
-    ensures { λ o. ⌜ (o .number ≡ 0) × (o .count ≡ logWordsOf bits) ⌝ }
-{
-    if bits < 1 {
-        return Answer::accepted(END_WORDS);
-    }
-    let blocks = (bits - 1) / Block::BITS + 1;
-    Answer::accepted(4 * blocks + END_WORDS)
-}
 
 // Writes the words of an open area with no bits.
 fn write_open(area: &mut [u64], key: &[u8], d: u64, limit: u64, rounds: u64)
@@ -106,4 +91,16 @@ pub fn feed(area: &mut [u64], piece: &[u8], bits: u64, log: &mut [u64]) -> Answe
     }
     let count = piece::feed_piece(area, piece, bits, log);
     Answer::accepted(count)
+}
+
+// Tells how many words of log a feed of so many bits needs: two for each node that it would make.
+pub fn log_words(area: &[u64], bits: u64) -> Answer
+    ensures { λ o. ⌜ record { number = o .number; count = o .count } ≡ logWordsOf (now (area .entry)) bits ⌝ }
+{
+    let number = number::log_words_number(area, bits);
+    if number != 0 {
+        return Answer::refused(number);
+    }
+    let nodes = number::nodes_made(area, bits);
+    Answer::accepted(2 * nodes)
 }

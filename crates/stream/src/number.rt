@@ -1,10 +1,13 @@
-// The numbers that refuse a feed and an end. The nodes that would be made are known from the totals, before any is.
+// The numbers that refuse a feed, an end and the telling of log words. The nodes that would be made are known from the totals,
+// before any is.
 ghost use mathlib.Core.Path.{_≡_};
+ghost use mathlib.Core.Bool.{false};
 ghost use mathlib.Core.List.{[], _∷_};
-ghost use lib.ListN.{length};
+ghost use lib.ListN.{length, replicate};
 ghost use Rattle.bits.specs.Piece.{pieceOf};
 ghost use Rattle.refusals.specs.Refusals.{firstRefusal};
-ghost use Rattle.calls.specs.Calls.{openTests, logTest, closedBy, feedNumber, endNumber};
+ghost use Rattle.calls.specs.Calls.{openTests, totalTest, logTest, fedBits, closedBy, feedNumber, endNumber, logWordsNumber};
+ghost use Rattle.calls.specs.CallLaws.{LogWordsPassed};
 ghost use Rattle.climb.specs.OpenArea.{OpenArea};
 ghost use Rattle.stream.specs.NumberLaws.{openFeedNumber, openEndNumber};
 use area::Area;
@@ -15,13 +18,23 @@ fn area_number(area: &[u64]) -> u64
     ensures { λ r. ⌜ r ≡ firstRefusal (openTests (now (area .entry))) ⌝ }
 {
     if area.len() < Area::WORDS {
-        return 7;
+        return 7; // short
     }
     if !area::is_sound(area) {
-        return 7;
+        return 7; // unsound
     }
     if area[Area::PHASE] == 2 {
         return 10;
+    }
+    0
+}
+
+// 6 for a total that would pass 2^64 - 1, and otherwise 0.
+fn total_number(total: u64, bits: u64) -> u64
+    ensures { λ r. ⌜ r ≡ firstRefusal (totalTest total bits ∷ []) ⌝ }
+{
+    if u64::MAX - total < bits {
+        return 6;
     }
     0
 }
@@ -36,6 +49,14 @@ fn log_number(log: &[u64], nodes: u64) -> u64
     0
 }
 
+// How many nodes a feed of so many bits to an open area makes: those that are then made, without those that are made already.
+pub fn nodes_made(area: &[u64], bits: u64) -> u64
+    requires { ⌜ LogWordsPassed (now area) bits ⌝ }
+    ensures { λ r. ⌜ r ≡ length (fedBits (now (area .entry)) (replicate bits false) .nodes) ⌝ }
+{
+    count::open_count(area[Area::LIMIT], area[Area::TOTAL] + bits) - area[Area::DONE]
+}
+
 // The number that refuses a feed to an open area, and otherwise 0.
 fn open_feed_number(area: &[u64], piece: &[u8], bits: u64, log: &[u64]) -> u64
     requires { ⌜ OpenArea (now area) ⌝ }
@@ -44,11 +65,11 @@ fn open_feed_number(area: &[u64], piece: &[u8], bits: u64, log: &[u64]) -> u64
     if refusals::bits_over(bits, piece.len() as u64) {
         return 5;
     }
-    if u64::MAX - area[Area::TOTAL] < bits {
-        return 6;
+    let number = total_number(area[Area::TOTAL], bits);
+    if number != 0 {
+        return number;
     }
-    let after = count::open_count(area[Area::LIMIT], area[Area::TOTAL] + bits);
-    log_number(log, after - area[Area::DONE])
+    log_number(log, nodes_made(area, bits))
 }
 
 // The number that refuses a feed, and otherwise 0.
@@ -60,6 +81,17 @@ pub fn feed_number(area: &[u64], piece: &[u8], bits: u64, log: &[u64]) -> u64
         return number;
     }
     open_feed_number(area, piece, bits, log)
+}
+
+// The number that refuses the telling of log words, and otherwise 0.
+pub fn log_words_number(area: &[u64], bits: u64) -> u64
+    ensures { λ r. ⌜ r ≡ logWordsNumber (now (area .entry)) bits ⌝ }
+{
+    let number = area_number(area);
+    if number != 0 {
+        return number;
+    }
+    total_number(area[Area::TOTAL], bits)
 }
 
 // How many nodes the end of an open area makes: those of the whole tree that are not made yet.

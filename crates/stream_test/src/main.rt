@@ -1,6 +1,7 @@
 // Runs the stream's calls on the rows of document 01's "Reels by hand", fed whole and cut, and on every refusal. A call writes a
 // line: its number, its count, and whether the area, the words past the area and the log past the nodes are as before; then a
-// line U V for each node; an end then writes its output. tests/stream/expected.py makes the expected lines.
+// line U V for each node; an end then writes its output. A telling of log words writes its number, its count and whether the
+// area is as before. tests/stream/expected.py makes the expected lines.
 ghost use Prim.Native.Nat.{_≤_};
 use libc::STDOUT_FILENO;
 
@@ -125,11 +126,26 @@ fn end(area: &mut [u64], room: usize, words: usize)
     end_log(area, &mut digest[..room], &mut log[..words]);
 }
 
+// Tells the log words for a feed of so many bits.
+fn tell(area: &[u64], bits: u64) {
+    let mut before = [0u64; 1750];
+    copy(&mut before, area);
+    let answer = stream::log_words(area, bits);
+    test_print::answer(answer.number, answer.count);
+    test_print::same(area, &before, 0);
+    io::write_all(STDOUT_FILENO, b"\n");
+}
+
+// Writes a number on a line of its own.
+fn print_line(number: u64) {
+    io::print_decimal(STDOUT_FILENO, number);
+    io::write_all(STDOUT_FILENO, b"\n");
+}
+
 // Writes how many words are shown of a level.
 fn show(area: &[u64], level: u64) {
     let part = stream::level(area, level);
-    io::print_decimal(STDOUT_FILENO, part.len() as u64);
-    io::write_all(STDOUT_FILENO, b"\n");
+    print_line(part.len() as u64);
 }
 
 // A row of "Reels by hand" in four pieces: a message of ones, r = 0 and no key.
@@ -184,24 +200,31 @@ fn prepare(area: &mut [u64], limit: u64, bits: u64) {
     stream::feed(&mut *area, &ones, bits, &mut log);
 }
 
-// A feed, an end and a level of an area in which one word was changed.
+// Ends an area.
+fn finish(area: &mut [u64]) {
+    let mut digest = [0u8; 1];
+    let mut log = [FILL; 54];
+    stream::end(&mut *area, &mut digest, &mut log);
+}
+
+// A telling, a feed, an end and a level of an area in which one word was changed.
 fn altered(limit: u64, bits: u64, at: usize, value: u64) {
     let mut area = [FILL; 1750];
     prepare(&mut area, limit, bits);
     set(&mut area, at, value);
+    tell(&area, 8);
     feed(&mut area, b"a", 8, 64);
     end(&mut area, 3, 54);
     show(&area, 1);
 }
 
-// The same of an area that has ended.
+// The same of an area that has ended, each call with all later refusals as well.
 fn altered_ended(limit: u64, bits: u64, at: usize, value: u64) {
     let mut area = [FILL; 1750];
-    let mut digest = [0u8; 1];
-    let mut log = [FILL; 54];
     prepare(&mut area, limit, bits);
-    stream::end(&mut area, &mut digest, &mut log);
+    finish(&mut area);
     set(&mut area, at, value);
+    tell(&area, u64::MAX);
     feed(&mut area, b"a", 9, 0);
     end(&mut area, 0, 0);
     show(&area, 1);
@@ -274,15 +297,25 @@ fn refused_opens() {
     open(&mut area, b"", 1, 64, 255);
 }
 
-// An open area without its last word.
-fn short_area() {
-    let mut area = [FILL; 1750];
+// A telling, a feed, an end and a level of an area without its last word.
+fn shortened(area: &[u64]) {
     let mut short = [FILL; 1743];
-    prepare(&mut area, 64, 1);
-    copy(&mut short, &area);
+    copy(&mut short, area);
+    tell(&short, u64::MAX);
     feed(&mut short, b"a", 9, 0);
     end(&mut short, 0, 0);
     show(&short, 1);
+}
+
+// Short areas: of an open stream, of one that has ended, and no words at all.
+fn short_areas() {
+    let none = [0u64; 0];
+    let mut area = [FILL; 1750];
+    prepare(&mut area, 64, 1);
+    shortened(&area);
+    finish(&mut area);
+    shortened(&area);
+    tell(&none, 0);
 }
 
 // Logs and outputs that are too short by one, and long enough.
@@ -299,20 +332,88 @@ fn short_logs() {
     end(&mut area, 1, 4);
 }
 
+// The telling for a feed of so many bits to a stream that was fed ones.
+fn told(limit: u64, fed: u64, bits: u64) {
+    let mut area = [FILL; 1750];
+    prepare(&mut area, limit, fed);
+    tell(&area, bits);
+}
+
+// Tellings at the edges of the first blocks: parallel levels, the sequential level of L = 0, and that of L = 1.
+fn told_edges() {
+    told(64, 0, 0);
+    told(64, 0, 1);
+    told(64, 0, 4096);
+    told(64, 0, 4097);
+    told(64, 1, 4095);
+    told(64, 1, 4096);
+    told(64, 4096, 0);
+    told(64, 4096, 1);
+    told(64, 4096, 4096);
+    told(64, 4096, 4097);
+    told(64, 16384, 0);
+    told(64, 16384, 1);
+    told(0, 0, 3072);
+    told(0, 0, 3073);
+    told(0, 3072, 0);
+    told(0, 3072, 1);
+    told(0, 3072, 3072);
+    told(0, 3072, 3073);
+    told(1, 0, 12288);
+    told(1, 0, 12289);
+    told(1, 12288, 0);
+    told(1, 12288, 1);
+    told(1, 12289, 12287);
+    told(1, 12289, 12288);
+}
+
+// The longest feed to a stream of no bits, for several height limits.
+fn told_longest() {
+    told(0, 0, u64::MAX);
+    told(1, 0, u64::MAX);
+    told(2, 0, u64::MAX);
+    told(26, 0, u64::MAX);
+    told(27, 0, u64::MAX);
+    told(64, 0, u64::MAX);
+}
+
+// An open area that holds zeros: so many bits in all, and so many nodes made.
+fn zeros(area: &mut [u64], limit: u64, total: u64, made: u64) {
+    prepare(&mut *area, limit, 0);
+    set(&mut *area, 1, total);
+    set(&mut *area, 14, made);
+}
+
+// The bit that makes a node at each of 27 levels: L = 26, after 3 * 2^62 zero bits. Then the feeds that reach 2^64 - 1 bits and
+// that pass them.
+fn most_nodes() {
+    let mut area = [FILL; 1750];
+    zeros(&mut area, 26, 13835058055282163712, 4503599627370469);
+    tell(&area, 0);
+    tell(&area, 1);
+    feed(&mut area, b"a", 1, 53);
+    feed(&mut area, b"a", 1, 54);
+    print_line(area[14]);
+    tell(&area, 4611686018427387902);
+    tell(&area, 4611686018427387903);
+}
+
 // An area of 2^64 - 2 zero bits, up to the longest end.
 fn long_stream() {
     let mut area = [FILL; 1750];
-    prepare(&mut area, 64, 0);
-    set(&mut area, 1, 18446744073709551614);
-    set(&mut area, 14, 6004799503160634);
+    zeros(&mut area, 64, 18446744073709551614, 6004799503160634);
+    tell(&area, 2);
     feed(&mut area, b"a", 2, 0);
     feed(&mut area, b"a", 9, 0);
+    tell(&area, 1);
     feed(&mut area, b"a", 1, 0);
+    tell(&area, 0);
+    tell(&area, 1);
     feed(&mut area, b"a", 1, 0);
     end(&mut area, 3, 53);
     end(&mut area, 3, 54);
-    io::print_decimal(STDOUT_FILENO, area[14]);
-    io::write_all(STDOUT_FILENO, b"\n");
+    print_line(area[14]);
+    tell(&area, 1);
 }
 
 // The levels that there are, and those that there are not.
@@ -330,12 +431,15 @@ fn main() {
     whole_rows();
     cut_rows();
     refused_opens();
-    short_area();
+    short_areas();
     unsound_heads();
     unsound_levels();
     sound_areas();
     ended_areas();
     short_logs();
+    told_edges();
+    told_longest();
+    most_nodes();
     long_stream();
     levels();
 }

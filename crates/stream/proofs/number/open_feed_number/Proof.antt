@@ -2,47 +2,45 @@
 use native.Mathlib.Omega.{arith}
 use mathlib.Core.Path.{sym, _∙_}
 use Rattle.bits.specs.Piece.{pieceOf}
-use Rattle.stream.specs.NumberLaws.{feed-over, feed-past, feed-made, feed-log}
+use Rattle.calls.specs.Area.{totalOf}
+use Rattle.stream.specs.NumberLaws.{total-fits, feed-over, feed-past, feed-log}
 use Rattle.stream.proofs.number.open_feed_number.Statement.{statement}
 use Rattle.stream.proofs.number.open_feed_number.Tie as tie
 
 returns : tie.Need-returns
 returns c =
-    let start = c .before .before .before .before .before in
-    let a = start .args in
-    feed-over (start .pre) (pieceOf (a .piece .now) (a .bits)) (a .log .now) (sym (c .before .bits-over .ensures) ∙ c .if1 .taken)
+    let a = c .before .before .before .before .before .args in
+    feed-over (a .area .now) (pieceOf (a .piece .now) (a .bits)) (a .log .now) (sym (c .before .bits-over .ensures) ∙ c .if1 .taken)
 
 returns-2 : tie.Need-returns-2
 returns-2 c =
-    let over = c .before .before .before in
-    let start = over .before .before .before .before in
-    let a = start .args in
-    feed-past (start .pre) (pieceOf (a .piece .now) (a .bits)) (a .log .now) (sym (over .bits-over .ensures) ∙ c .before .before .if1 .left) (omega arith)
+    let total = c .before in
+    let test = total .before .before in
+    let over = test .before in
+    let a = over .before .before .before .before .args in
+    feed-past (a .area .now) (pieceOf (a .piece .now) (a .bits)) (a .log .now) (sym (over .bits-over .ensures) ∙ test .if1 .left) (total .total-number .ensures) (c .if2 .taken)
 
-sub-log-number : tie.Need-sub-log-number
-sub-log-number c =
-    let count = c .before in
-    let fits = count .before .before .before in
-    let over = fits .before .before .before in
-    let start = over .before .before .before .before in
+nodes-made-requires : tie.Need-nodes-made-requires
+nodes-made-requires c κs =
+    let total = c .before in
+    let start = total .before .before .before .before .before .before .before in
     let a = start .args in
-    let m = feed-made (start .pre) (pieceOf (a .piece .now) (a .bits)) (a .log .now) (sym (over .bits-over .ensures) ∙ fits .before .before .if1 .left) (omega (arith, count .before .shared-slice-known6 .given 1)) (count .open-count .ensures) in
-    omega arith
+    record { opened = start .pre; total = total-fits (totalOf (a .area .now)) (a .bits) (total .total-number .ensures) (c .if2 .left) }
 
 returns-3 : tie.Need-returns-3
 returns-3 c =
-    let count = c .before .before in
-    let fits = count .before .before .before in
-    let over = fits .before .before .before in
-    let start = over .before .before .before .before in
-    let a = start .args in
+    let made = c .before in
+    let fits = made .before in
+    let total = fits .before in
+    let test = total .before .before in
+    let over = test .before in
+    let a = over .before .before .before .before .args in
     c .log-number .ensures
-    ∙ feed-log (start .pre) (pieceOf (a .piece .now) (a .bits)) (a .log .now) (sym (over .bits-over .ensures) ∙ fits .before .before .if1 .left) (omega (arith, count .before .shared-slice-known6 .given 1)) (count .open-count .ensures)
+    ∙ feed-log (a .area .now) (pieceOf (a .piece .now) (a .bits)) (a .log .now) (sym (over .bits-over .ensures) ∙ test .if1 .left) (total .total-number .ensures) (fits .if2 .left) (made .nodes-made .ensures)
 
 pub open-feed-number-spec : {M : Type 1} → statement M
 open-feed-number-spec =
     tie.close
     (tie.spec
-    (λ c κs. omega arith) returns (λ c. omega arith) (λ c. omega (arith, c .shared-slice-known4 .given 1)) returns-2
-    (λ c. omega arith) (λ c. omega arith) (λ c. omega (arith, c .shared-slice-known6 .given 1)) (λ c κs. omega arith)
-    (λ c. omega arith) sub-log-number (λ c κs. omega arith) returns-3)
+    (λ c κs. omega arith) returns (λ c. omega arith) (λ c κs. omega arith) returns-2
+    nodes-made-requires (λ c κs. omega arith) returns-3)
