@@ -87,7 +87,8 @@ static double fill_time(const uint8_t *bytes, size_t at, size_t bit)
 int main(void)
 {
     static const struct { size_t at, bit; int aligned; } cases[] = {
-        { 0, 0, 1 }, { 8, 0, 1 }, { 56, 0, 1 }, { 0, 5, 0 }, { 1, 0, 0 }, { 13, 6, 0 }, { 3, 3, 0 },
+        { 0, 0, 1 }, { 8, 0, 1 }, { 56, 0, 1 }, { 0, 1, 0 }, { 0, 2, 0 }, { 0, 3, 0 }, { 0, 4, 0 }, { 0, 5, 0 }, { 0, 6, 0 }, { 0, 7, 0 },
+        { 1, 0, 0 }, { 13, 6, 0 }, { 3, 3, 0 },
     };
     static uint8_t bytes[BYTES];
     double compression = compression_time();

@@ -1,7 +1,9 @@
 /*
  * The reference of the benchmarks: tests/second/md6ref.c as it stands, with
- * its main under another name, and a clock. Each driver includes this file.
+ * its main under another name, and clocks. Each driver includes this file.
  */
+#include <sys/resource.h>
+
 #pragma GCC diagnostic push
 #pragma GCC diagnostic ignored "-Wunused-function"
 #define main md6ref_main
@@ -15,6 +17,14 @@ static inline double seconds(void)
     struct timespec t;
     clock_gettime(CLOCK_MONOTONIC, &t);
     return (double)t.tv_sec + (double)t.tv_nsec / 1e9;
+}
+
+/* seconds of processor time, of this program or of its children: what else runs on the machine is not counted */
+static inline double processor(int who)
+{
+    struct rusage u;
+    getrusage(who, &u);
+    return (double)(u.ru_utime.tv_sec + u.ru_stime.tv_sec) + (double)(u.ru_utime.tv_usec + u.ru_stime.tv_usec) / 1e6;
 }
 
 /* the best time of several runs */

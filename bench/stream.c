@@ -1,15 +1,16 @@
 /*
  * The stream's calls of the archive, zero bytes, L = 64: a message fed in
  * pieces of 64 KB against md6_hash of it, both in one run, interleaved, best
- * of several; pieces of one byte; an end; and log words told. The targets stand
- * in the table.
+ * of several; pieces of one byte; an end; log words told; and, of random bytes,
+ * pieces of 64 KB from each start bit on. The targets stand in the tables.
  */
 #define _POSIX_C_SOURCE 199309L
 #include "reference.h"
+#include "starts.h"
 
 #include "../include/md6.h"
 
-enum { MESSAGE = 64000000, PIECE = 65536, LOG = 4 * 128 + 54, SHORT = 5000000 };
+enum { MESSAGE = 64000000, PIECE = 65536, LOG = 4 * 128 + 54, SHORT = 5000000, TURNS = 12 };
 
 static uint64_t area[MD6_AREA_WORDS], kept[MD6_AREA_WORDS], log_words[LOG];
 
@@ -18,17 +19,23 @@ static int open_area(uint64_t d, uint64_t rounds)
     return md6_open(area, MD6_AREA_WORDS, NULL, 0, d, 64, rounds).number != 0;
 }
 
-/* feeds bytes in pieces of `piece` bytes, the last one shorter; 0 if all were accepted */
-static int feed_pieces(const uint8_t *message, size_t bytes, size_t piece)
+/* feeds the bits of so many bytes from a start bit on, in pieces of the bits of `piece` bytes, the last one shorter; 0 if all were
+ * accepted. Each piece begins at that bit, and one that does not begin at bit 0 shares its last byte with the next. */
+static int feed_from(const uint8_t *message, uint64_t start, size_t bytes, size_t piece)
 {
     size_t at, n;
 
     for (at = 0; at < bytes; at += n) {
         n = bytes - at < piece ? bytes - at : piece;
-        if (md6_feed(area, MD6_AREA_WORDS, message + at, n, 8 * (uint64_t)n, log_words, LOG).number != 0)
+        if (md6_feed(area, MD6_AREA_WORDS, message + at, n + (start > 0), start, 8 * (uint64_t)n, log_words, LOG).number != 0)
             return 1;
     }
     return 0;
+}
+
+static int feed_pieces(const uint8_t *message, size_t bytes, size_t piece)
+{
+    return feed_from(message, 0, bytes, piece);
 }
 
 static int time_pieces(const uint8_t *message)
@@ -41,7 +48,7 @@ static int time_pieces(const uint8_t *message)
 
     for (k = 0; k < 12; k++) {
         double t0 = seconds(), t1, t2;
-        bad |= md6_hash(message, MESSAGE, 8 * (uint64_t)MESSAGE, NULL, 0, 256, 64, rounds, whole, sizeof whole) != 0;
+        bad |= md6_hash(message, MESSAGE, 0, 8 * (uint64_t)MESSAGE, NULL, 0, 256, 64, rounds, whole, sizeof whole) != 0;
         t1 = seconds();
         bad |= open_area(256, rounds);
         bad |= feed_pieces(message, MESSAGE, PIECE);
@@ -117,9 +124,40 @@ static int time_telling(const uint8_t *message)
     return bad;
 }
 
+static uint8_t digests[STARTS][32];
+
+static int stream_from(const uint8_t *message, uint64_t start)
+{
+    int bad = open_area(256, md6_default_rounds(256, 0).count);
+
+    bad |= feed_from(message, start, MESSAGE, PIECE);
+    return bad | (md6_end(area, MD6_AREA_WORDS, digests[start], 32, log_words, LOG).number != 0);
+}
+
+/* the message is filled with random bytes first: of zero bytes every start bit gives the same bits */
+static int time_from_bits(uint8_t *message)
+{
+    uint8_t whole[32];
+    double best[STARTS];
+    unsigned differ = 0, start;
+    size_t i;
+    int bad;
+
+    for (i = 0; i <= MESSAGE; i++)
+        message[i] = (uint8_t)(random_word() >> 8);
+    bad = time_starts(stream_from, message, TURNS, best);
+    show_starts("64 MB in pieces of 64 KB, each from a start bit on", best, MESSAGE);
+    for (start = 0; start < STARTS; start++) {
+        bad |= md6_hash(message, MESSAGE + 1, start, 8 * (uint64_t)MESSAGE, NULL, 0, 256, 64, md6_default_rounds(256, 0).count, whole, sizeof whole) != 0;
+        differ += memcmp(whole, digests[start], sizeof whole) != 0;
+    }
+    printf("digests to md6_hash's: %u of %d differ\n", differ, STARTS);
+    return bad || differ != 0;
+}
+
 int main(void)
 {
-    uint8_t *message = get(MESSAGE, 1);
+    uint8_t *message = get(MESSAGE + 1, 1);
     int bad;
 
     memset(message, 0, MESSAGE);
@@ -128,6 +166,7 @@ int main(void)
     bad |= time_bytes(message);
     bad |= time_end(message);
     bad |= time_telling(message);
+    bad |= time_from_bits(message);
     free(message);
     return bad;
 }

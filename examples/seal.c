@@ -57,7 +57,7 @@ int main(int argc, char **argv)
     bytes = read_file(argv[1], &length);
     if (bytes == NULL)
         return 1;
-    number = md6_hash(bytes, length, 8 * (uint64_t)length, NULL, 0, D, LIMIT, md6_default_rounds(D, 0).count, digest, sizeof digest);
+    number = md6_hash(bytes, length, 0, 8 * (uint64_t)length, NULL, 0, D, LIMIT, md6_default_rounds(D, 0).count, digest, sizeof digest);
     free(bytes);
     if (number != 0) {
         fprintf(stderr, "refused %" PRIu64 "\n", number);

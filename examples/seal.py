@@ -24,7 +24,7 @@ def load(path):
     md6.md6_default_rounds.argtypes = [u64, u64]
     md6.md6_open.argtypes = [words, size, octets, size, u64, u64, u64]
     md6.md6_log_words.argtypes = [words, size, u64]
-    md6.md6_feed.argtypes = [words, size, octets, size, u64, words, size]
+    md6.md6_feed.argtypes = [words, size, octets, size, u64, u64, words, size]
     md6.md6_end.argtypes = [words, size, ctypes.POINTER(ctypes.c_uint8), size, words, size]
     for call in (md6.md6_default_rounds, md6.md6_open, md6.md6_log_words, md6.md6_feed, md6.md6_end):
         call.restype = Answer
@@ -44,7 +44,7 @@ def seal(md6, file):
     while piece := file.read(1 << 16):
         told = accepted(md6.md6_log_words(area, AREA_WORDS, 8 * len(piece)))
         log = (ctypes.c_uint64 * told)()
-        accepted(md6.md6_feed(area, AREA_WORDS, piece, len(piece), 8 * len(piece), log, told))
+        accepted(md6.md6_feed(area, AREA_WORDS, piece, len(piece), 0, 8 * len(piece), log, told))
     digest = (ctypes.c_uint8 * (D // 8))()
     log = (ctypes.c_uint64 * END_LOG_WORDS)()
     accepted(md6.md6_end(area, AREA_WORDS, digest, len(digest), log, END_LOG_WORDS))

@@ -79,7 +79,7 @@ int main(int argc, char **argv)
     accepted(md6_open(area, MD6_AREA_WORDS, key, key_bytes, D, LIMIT, rounds));
     while ((n = fread(piece, 1, sizeof piece, stdin)) > 0) {
         make_room(&log, accepted(md6_log_words(area, MD6_AREA_WORDS, 8 * (uint64_t)n)));
-        accepted(md6_feed(area, MD6_AREA_WORDS, piece, n, 8 * (uint64_t)n, log.words, log.room));
+        accepted(md6_feed(area, MD6_AREA_WORDS, piece, n, 0, 8 * (uint64_t)n, log.words, log.room));
     }
     if (ferror(stdin)) {
         perror("standard input");

@@ -27,17 +27,18 @@ typedef struct {
     uint64_t number, count;
 } md6_answer;
 
-/* The digest of the first `bits` bits of the message, under a key of 0 to 64 bytes, with digest size d (1 to 512 bits), height
- * limit `limit` (0 to 64) and `rounds` rounds (0 to 255), to the first (d + 7) / 8 bytes of `digest`; the bytes past them stay,
- * and so does everything if it is refused. Answers 0, or the first of these that holds:
- *   5  `bits` is over 8 times the message's bytes
+/* The digest of a message: `bits` bits, from bit `start` (0 to 7) of the message's first byte on, under a key of 0 to 64 bytes,
+ * with digest size d (1 to 512 bits), height limit `limit` (0 to 64) and `rounds` rounds (0 to 255), to the first (d + 7) / 8
+ * bytes of `digest`; the bytes past them stay, and so does everything if it is refused. Answers 0, or the first of these that
+ * holds:
+ *   5  `start` is above 7, or `start` and `bits` together are over 8 times the message's bytes
  *   1  d is not 1 to 512
  *   2  the key has over 64 bytes
  *   3  `limit` is over 64
  *   4  `rounds` is over 255
  *   9  `digest` has fewer than (d + 7) / 8 bytes
  */
-uint64_t md6_hash(const uint8_t *message, size_t message_bytes, uint64_t bits,
+uint64_t md6_hash(const uint8_t *message, size_t message_bytes, uint64_t start, uint64_t bits,
                   const uint8_t *key, size_t key_bytes,
                   uint64_t d, uint64_t limit, uint64_t rounds,
                   uint8_t *digest, size_t digest_bytes);
@@ -63,16 +64,17 @@ md6_answer md6_open(uint64_t *area, size_t area_words,
                     const uint8_t *key, size_t key_bytes,
                     uint64_t d, uint64_t limit, uint64_t rounds);
 
-/* Feeds the first `bits` bits of a piece. The count is the number of nodes compressed; U and V of each, in order, are written
- * to the log from its first word, and the rest of the log stays. Refuses, the first that holds:
+/* Feeds a piece: `bits` bits, from bit `start` (0 to 7) of the piece's first byte on. A piece may begin in the byte where the one
+ * before it ended. The count is the number of nodes compressed; U and V of each, in order, are written to the log from its first
+ * word, and the rest of the log stays. Refuses, the first that holds:
  *   7   the area is short or unsound
  *   10  the stream has ended
- *   5   `bits` is over 8 times the piece's bytes
+ *   5   `start` is above 7, or `start` and `bits` together are over 8 times the piece's bytes
  *   6   the stream's total would pass 2^64 - 1 bits
  *   8   the log has fewer than two words for each node; md6_log_words tells how many it needs
  */
 md6_answer md6_feed(uint64_t *area, size_t area_words,
-                    const uint8_t *piece, size_t piece_bytes, uint64_t bits,
+                    const uint8_t *piece, size_t piece_bytes, uint64_t start, uint64_t bits,
                     uint64_t *log, size_t log_words);
 
 /* Ends a stream: the digest to the first (d + 7) / 8 bytes of `digest`, U and V of the last nodes to the log, their number as

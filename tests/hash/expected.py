@@ -2,8 +2,9 @@
 """expected.py MD6REF: the lines that the program hash_test must write.
 
 MD6REF is the second program (tests/second/md6ref.c), compiled. Accepted calls are run by it: it prints a line for each node
-and then the digest. Refusals are those of document 01's table, and a refused call leaves the output as it was, a5. The
-default rounds are worked out from document 02.
+and then the digest. Bits from a start bit on are cut out here, and given to it as a message of their own. Refusals are those
+of document 01's table, number 5 as document 02 has it, and a refused call leaves the output as it was, a5. The default rounds
+are worked out from document 02.
 """
 import subprocess
 import sys
@@ -64,6 +65,37 @@ def report():
     ]
 
 
+def cut(message, start, bits):
+    """The bits of the bytes, high bit first, without the first `start`, and of these `bits`: as bytes, filled up with zeros."""
+    digits = "".join(f"{byte:08b}" for byte in message)[start:start + bits]
+    return bytes(int(digits[i:i + 8].ljust(8, "0"), 2) for i in range(0, bits, 8))
+
+
+def from_start(message, start, bits, limit):
+    """Document 02, M-104: "Number 5 is also given for a start bit above 7 or where start and count together pass the bytes'
+    bits"."""
+    if start > 7 or start + bits > 8 * len(message):
+        return refused(5, 8)
+    return accepted(cut(message, start, bits), bits, b"", 64, limit, 9, 8)
+
+
+def starts():
+    counts, sequential = (0, 1, 7, 8, 9, 4095, 4096, 4097), (0, 3071, 3072, 3073)
+    rows = [(start, bits, limit) for limit in (64, 1, 0) for start in range(8) for bits in (counts if limit else sequential)]
+    return [from_start(REPEATED[4:], *row) for row in rows]
+
+
+def last_bits():
+    rows = [row for start in range(8) for row in ((b"", start, 0), (b"abc", start, 24 - start), (b"abc", start, 25 - start))]
+    return [from_start(*row, 64) for row in rows]
+
+
+def refused_starts():
+    most = 2 ** 64 - 1
+    rows = [(8, 0), (8, 8), (2 ** 32, 8), (most, 0), (most, 1), (most, most), (1, most), (7, most), (7, most - 6), (7, most - 7)]
+    return [from_start(b"abc", start, bits, 64) for start, bits in rows] + [refused(5, 8), refused(5, 8), refused(1, 8)]
+
+
 def told(d, key_bytes):
     """Document 02, M-102: "the default is the larger of 80 and 40 + d/4 if the key has any byte", "refuses 1, then 2"."""
     if not 1 <= d <= 512:
@@ -79,4 +111,4 @@ def defaults():
     return [" ".join(told(d, key_bytes) for key_bytes in (0, 1, 63, 64, 65, 2**32, 2**64 - 1)) for d in sizes]
 
 
-print("\n".join(reels() + edges() + report() + defaults()))
+print("\n".join(reels() + edges() + report() + starts() + last_bits() + refused_starts() + defaults()))

@@ -4,17 +4,21 @@
  *
  * The rows of document 01's "Reels by hand" are fed whole, bit by bit, and cut at every edge. Random messages, cut at random,
  * are fed and ended, and the digest is compared with md6_hash's and the joined log with the nodes of the second program's tree.
- * Each of these feeds gets a log of just the told words, all of which it must use, and before that, if it needs any, one of a
- * word fewer, which is refused. On sound areas that no message in memory reaches the told words are compared with a count of the
- * nodes, level by level. Then random calls on damaged areas: whatever is refused must change nothing.
+ * Their pieces are lent where they stand in the message, from the byte on in which the one before ended, or copied to any start
+ * bit. Each of these feeds gets a log of just the told words, all of which it must use, and before that, if it needs any, one of
+ * a word fewer, which is refused. On sound areas that no message in memory reaches the told words are compared with a count of
+ * the nodes, level by level. Pieces at every start bit are fed at every reach of a block, and must do what the same bits do when
+ * they are moved to the front. The edges of number 5 are tried on areas of every kind, and random calls on damaged areas:
+ * whatever is refused must change nothing.
  */
 #include "host.h"
 
 enum { CUTTINGS = 2000, SOUND = 3000, TELLINGS = 10, DAMAGED = 2000, MESSAGE_BYTES = 9000, LOG_WORDS = 4096, TAIL = 8 };
 
-/* what ran: feeds with just the told words, and those of them before which one word fewer was refused; sound areas; tellings on
- * them that were accepted and that were refused by 6; tellings on damaged areas by number */
-static uint64_t fed, fed_short, sound, told_accepted, told_past, told_damaged[11];
+/* what ran: feeds with just the told words, those of them before which one word fewer was refused, and those that began inside
+ * the byte where the one before ended; sound areas; tellings on them that were accepted and that were refused by 6; tellings on
+ * damaged areas by number; edges of number 5 by number; pieces at every reach */
+static uint64_t fed, fed_short, shared, sound, told_accepted, told_past, told_damaged[11], edge_numbers[11], reached;
 
 /* the node lines of the second program's tree, as words U, V, in order */
 static size_t second_log(const struct tree *T, int level, uint64_t i, uint64_t *log, size_t at)
@@ -28,12 +32,6 @@ static size_t second_log(const struct tree *T, int level, uint64_t i, uint64_t *
     log[at + 1] = T->lv[level].v[i];
     return at + 2;
 }
-
-struct params {
-    uint8_t key[64];
-    size_t key_bytes;
-    uint64_t d, limit, rounds;
-};
 
 static struct params pick_params(void)
 {
@@ -82,12 +80,31 @@ static md6_answer tell(const struct guarded *area, uint64_t bits)
 
 struct piece {
     const uint8_t *bytes;
-    size_t length;
-    uint64_t bits;
+    struct span span;
 };
 
-/* a feed with a log of fewer words than it needs: refused by 8, and nothing changes */
-static void refused_short(const struct guarded *area, const struct piece *piece, size_t words)
+static md6_answer feed(const struct guarded *area, const struct piece *piece, uint64_t *log, size_t words)
+{
+    const struct span *span = &piece->span;
+
+    return md6_feed(lent_words(area), area->length / 8, piece->bytes, span->bytes, span->start, span->bits, log, words);
+}
+
+/* whether an answer is the one that a feed of this piece must get; otherwise says what differs */
+static int answer_right(const struct piece *piece, md6_answer o, uint64_t number, uint64_t count)
+{
+    const struct span *span = &piece->span;
+
+    if (o.number == number && o.count == count)
+        return 1;
+    if (shown())
+        printf("a feed of %" PRIu64 " bits from bit %" PRIu64 " of %zu bytes: number %" PRIu64 ", count %" PRIu64 ", expected %" PRIu64 ", %" PRIu64 "\n",
+               span->bits, span->start, span->bytes, o.number, o.count, number, count);
+    return 0;
+}
+
+/* a feed, with a log of so many words, that changes nothing: it is refused by this number, or is accepted and has no bits */
+static void quiet_feed(const struct guarded *area, const struct piece *piece, size_t words, uint64_t number)
 {
     static uint64_t kept[MD6_AREA_WORDS + TAIL], kept_log[LOG_WORDS];
     struct guarded log = guarded_new(8 * words, 1);
@@ -96,17 +113,17 @@ static void refused_short(const struct guarded *area, const struct piece *piece,
     random_bytes(log.bytes, log.length);
     memcpy(kept, area->bytes, area->length);
     memcpy(kept_log, log.bytes, log.length);
-    o = md6_feed(lent_words(area), area->length / 8, piece->bytes, piece->length, piece->bits, lent_words(&log), words);
-    expect(o.number == 8 && o.count == 0, "a feed with one word fewer than told");
+    o = feed(area, piece, lent_words(&log), words);
+    expect(answer_right(piece, o, number, 0), "the number of a feed");
     expect(memcmp(kept, area->bytes, area->length) == 0 && memcmp(kept_log, log.bytes, log.length) == 0 && guarded_intact(&log),
-           "a feed refused by 8 changed something");
+           "a feed that is refused or has no bits changed something");
     guarded_free(&log);
 }
 
 /* feeds a piece with a log of just the told words, joins them to a log that has room for `room` more, and answers how many */
 static size_t feed_told(const struct guarded *area, const struct piece *piece, uint64_t *joined, size_t room)
 {
-    md6_answer told = tell(area, piece->bits), o;
+    md6_answer told = tell(area, piece->span.bits), o;
     size_t words = (size_t)told.count;
     struct guarded log;
 
@@ -115,28 +132,16 @@ static size_t feed_told(const struct guarded *area, const struct piece *piece, u
         return 0;
     }
     if (words > 0) {
-        refused_short(area, piece, words - 1);
+        quiet_feed(area, piece, words - 1, 8);
         fed_short++;
     }
     log = guarded_new(8 * words, 1);
-    o = md6_feed(lent_words(area), area->length / 8, piece->bytes, piece->length, piece->bits, lent_words(&log), words);
-    expect(o.number == 0 && 2 * o.count == told.count && guarded_intact(&log), "a feed with just the told words");
+    o = feed(area, piece, lent_words(&log), words);
+    expect(answer_right(piece, o, 0, words / 2) && words % 2 == 0 && guarded_intact(&log), "a feed with just the told words");
     memcpy(joined, log.bytes, log.length);
     guarded_free(&log);
     fed++;
     return words;
-}
-
-/* bits from a bit position of the message, to the front of a piece */
-static void cut_piece(const uint8_t *message, uint64_t from, uint64_t bits, uint8_t *piece, size_t bytes)
-{
-    uint64_t i;
-
-    random_bytes(piece, bytes);         /* bits past the piece are ignored, whatever they are */
-    for (i = 0; i < bits; i++) {
-        unsigned bit = message[(from + i) / 8] >> (7 - (from + i) % 8) & 1u;
-        piece[i / 8] = (uint8_t)((piece[i / 8] & ~(0x80u >> i % 8)) | bit << (7 - i % 8));
-    }
 }
 
 static uint64_t pick_length(void)
@@ -157,57 +162,102 @@ static uint64_t pick_piece(uint64_t left)
     return n < left ? n : left;
 }
 
+/* a message: bits from a bit of its first byte on; its bytes end with the last of them, at a page that may not be touched */
+struct message {
+    struct guarded bytes;
+    uint64_t first, bits;
+};
+
+static struct message pick_message(void)
+{
+    struct message m = { .first = below(2) == 0 ? 0 : below(STARTS), .bits = pick_length() };
+
+    m.bytes = guarded_new(bytes_for(m.first, m.bits), 1);
+    random_bytes(m.bytes.bytes, m.bytes.length);
+    return m;
+}
+
+/* feeds so many bits, from bit `at` of the message's bytes on, where they stand: the piece begins in the byte where the one
+ * before it ended, and shares it if that was inside a byte */
+static size_t feed_in_place(const struct guarded *area, const struct message *m, uint64_t at, uint64_t bits, uint64_t *joined, size_t room)
+{
+    struct piece piece = { m->bytes.bytes + at / 8, just(at % 8, bits) };
+
+    shared += at > m->first && at % 8 != 0;
+    return feed_told(area, &piece, joined, room);
+}
+
+/* feeds the same bits out of bytes of their own, at the front or at any start bit; the bits beside them are random */
+static size_t feed_copied(const struct guarded *area, const struct message *m, uint64_t at, uint64_t bits, uint64_t *joined, size_t room)
+{
+    uint64_t start = below(2) == 0 ? 0 : below(STARTS);
+    struct guarded bytes = guarded_new(bytes_for(start, bits) + (size_t)below(2), (int)below(2));
+    struct piece piece = { bytes.bytes, { bytes.length, start, bits } };
+    size_t logged;
+
+    random_bytes(bytes.bytes, bytes.length);
+    copy_bits(bytes.bytes, start, m->bytes.bytes, at, bits);
+    logged = feed_told(area, &piece, joined, room);
+    expect(guarded_intact(&bytes), "feed wrote outside");
+    guarded_free(&bytes);
+    return logged;
+}
+
 /* feeds a message in pieces cut at random, and answers how many words of log that gave */
-static size_t feed_cut(const struct guarded *area, const uint8_t *message, uint64_t bits, uint64_t *joined)
+static size_t feed_cut(const struct guarded *area, const struct message *m, uint64_t *joined)
 {
     uint64_t at = 0, n;
     size_t logged = 0;
 
-    for (; at < bits; at += n) {
-        struct guarded bytes;
-        struct piece piece;
-
-        n = pick_piece(bits - at);
-        bytes = guarded_new((size_t)(n + 7) / 8 + (size_t)below(2), (int)below(2));
-        piece = (struct piece){ bytes.bytes, bytes.length, n };
-        cut_piece(message, at, n, bytes.bytes, bytes.length);
-        logged += feed_told(area, &piece, joined + logged, LOG_WORDS - MD6_END_LOG_WORDS - logged);
-        expect(guarded_intact(&bytes), "feed wrote outside");
-        guarded_free(&bytes);
+    for (; at < m->bits; at += n) {
+        n = pick_piece(m->bits - at);
+        logged += (below(3) == 0 ? feed_copied : feed_in_place)(area, m, m->first + at, n, joined + logged,
+                                                               LOG_WORDS - MD6_END_LOG_WORDS - logged);
     }
     return logged;
 }
 
+/* the digest and the log of a message that was fed are md6_hash's, at its start bit, and the second program's, at the front */
+static void fed_right(const struct params *p, const struct message *m, const uint8_t *digest, const uint64_t *joined, size_t logged)
+{
+    static uint8_t front[MESSAGE_BYTES];
+    static uint64_t expected[LOG_WORDS];
+    uint8_t whole[64], second[64];
+    size_t words, size = (size_t)(p->d + 7) / 8;
+
+    expect(md6_hash(m->bytes.bytes, m->bytes.length, m->first, m->bits, p->key, p->key_bytes, p->d, p->limit, p->rounds, whole, size) == 0, "hash");
+    random_bytes(front, sizeof front);
+    copy_bits(front, 0, m->bytes.bytes, m->first, m->bits);
+    words = second_tree(p, front, m->bits, expected, second);
+    expect(memcmp(digest, whole, size) == 0 && memcmp(digest, second, size) == 0, "digest");
+    expect(logged == words && memcmp(joined, expected, 8 * words) == 0, "log");
+}
+
 static void one_cutting(void)
 {
-    static uint8_t message[MESSAGE_BYTES];
-    static uint64_t expected[LOG_WORDS], joined[LOG_WORDS];
+    static uint64_t joined[LOG_WORDS];
     struct params p = pick_params();
-    uint64_t bits = pick_length();
-    size_t logged, words, i, size = (size_t)(p.d + 7) / 8;
+    struct message m = pick_message();
     struct guarded area = guarded_new(8 * (MD6_AREA_WORDS + TAIL), 1);
     uint64_t *a = lent_words(&area);
-    uint8_t digest[64], whole[64], second[64];
+    uint8_t digest[64];
+    size_t logged, i;
     md6_answer o;
 
-    random_bytes(message, sizeof message);
     random_bytes(area.bytes, area.length);
     for (i = 0; i < TAIL; i++)
         a[MD6_AREA_WORDS + i] = i;
     o = md6_open(a, MD6_AREA_WORDS + TAIL, p.key, p.key_bytes, p.d, p.limit, p.rounds);
     expect(o.number == 0 && o.count == 0, "open");
-    logged = feed_cut(&area, message, bits, joined);
-    o = md6_end(a, MD6_AREA_WORDS + TAIL, digest, size, joined + logged, MD6_END_LOG_WORDS);
+    logged = feed_cut(&area, &m, joined);
+    o = md6_end(a, MD6_AREA_WORDS + TAIL, digest, (size_t)(p.d + 7) / 8, joined + logged, MD6_END_LOG_WORDS);
     expect(o.number == 0, "end");
-    logged += 2 * (size_t)o.count;
-    expect(md6_hash(message, sizeof message, bits, p.key, p.key_bytes, p.d, p.limit, p.rounds, whole, size) == 0, "hash");
-    words = second_tree(&p, message, bits, expected, second);
-    expect(memcmp(digest, whole, size) == 0 && memcmp(digest, second, size) == 0, "digest");
-    expect(logged == words && memcmp(joined, expected, 8 * words) == 0, "log");
+    fed_right(&p, &m, digest, joined, logged + 2 * (size_t)o.count);
     for (i = 0; i < TAIL; i++)
         expect(a[MD6_AREA_WORDS + i] == i, "tail");
-    expect(guarded_intact(&area), "wrote outside the area");
+    expect(guarded_intact(&area) && guarded_intact(&m.bytes), "wrote outside the area or the message");
     guarded_free(&area);
+    guarded_free(&m.bytes);
 }
 
 /* document 01, "Reels by hand": bits, L and d; the message is all ones and r = 0 */
@@ -223,7 +273,7 @@ static void one_row(const struct row *row, uint64_t first, uint64_t step)
     static uint64_t expected[LOG_WORDS], joined[LOG_WORDS];
     struct params p = { .key_bytes = 0, .d = row->d, .limit = row->limit, .rounds = 0 };
     struct guarded area = guarded_new(8 * MD6_AREA_WORDS, 1);
-    struct piece piece = { ones, sizeof ones, 0 };
+    struct piece piece = { ones, { sizeof ones, 0, 0 } };
     uint8_t digest[2], second[64];
     uint64_t at;
     size_t logged = 0, words;
@@ -231,10 +281,10 @@ static void one_row(const struct row *row, uint64_t first, uint64_t step)
 
     memset(ones, 0xff, sizeof ones);
     expect(md6_open(lent_words(&area), MD6_AREA_WORDS, NULL, 0, p.d, p.limit, 0).number == 0, "open of a row");
-    for (at = 0; at < row->bits; at += piece.bits) {
-        piece.bits = at == 0 ? first : step;
-        if (piece.bits > row->bits - at)
-            piece.bits = row->bits - at;
+    for (at = 0; at < row->bits; at += piece.span.bits) {
+        piece.span.bits = at == 0 ? first : step;
+        if (piece.span.bits > row->bits - at)
+            piece.span.bits = row->bits - at;
         logged += feed_told(&area, &piece, joined + logged, LOG_WORDS - MD6_END_LOG_WORDS - logged);
     }
     o = md6_end(lent_words(&area), MD6_AREA_WORDS, digest, sizeof digest, joined + logged, MD6_END_LOG_WORDS);
@@ -351,7 +401,7 @@ static size_t one_sound(const struct params *p, uint64_t total, uint64_t bits)
     static uint8_t bytes[2600];
     static uint64_t log[LOG_WORDS];
     struct guarded area = guarded_new(8 * MD6_AREA_WORDS, 1);
-    struct piece piece = { bytes, sizeof bytes, bits };
+    struct piece piece = { bytes, { sizeof bytes, below(STARTS), bits } };
     size_t words;
     int i;
 
@@ -397,6 +447,203 @@ static void random_sound(void)
     one_sound(&p, total, pick_piece(UINT64_MAX - total));
 }
 
+/* The areas on which each edge of number 5 is tried, with the number that comes before 5 there, or 0. Level 1 of the open ones is
+ * full, so that any bit makes a node and needs a log. */
+enum { FULL, LATE, ENDED, UNSOUND, SHORT, EDGE_AREAS };
+static struct edge_area {
+    uint64_t total, number;
+    struct guarded area;
+} edge_areas[EDGE_AREAS] = {
+    [FULL] = { .total = 8192, .number = 0 },
+    [LATE] = { .total = UINT64_MAX - 4095, .number = 0 },
+    [ENDED] = { .total = 8192, .number = 10 },
+    [UNSOUND] = { .total = 8192, .number = 7 },
+    [SHORT] = { .total = 8192, .number = 7 },
+};
+
+/* a copy of the first bytes of an area, which ends at a page that may not be touched */
+static struct guarded copy_of(const struct guarded *area, size_t length)
+{
+    struct guarded copy = guarded_new(length, 1);
+
+    memcpy(copy.bytes, area->bytes, length);
+    return copy;
+}
+
+static void make_edge_areas(void)
+{
+    struct guarded whole = guarded_new(8 * MD6_AREA_WORDS, 1);
+    struct params p = pick_params();
+    uint8_t digest[64];
+    uint64_t log[MD6_END_LOG_WORDS];
+    size_t i;
+
+    p.limit = 64;
+    for (i = 0; i < EDGE_AREAS; i++) {
+        sound_area(lent_words(&whole), &p, edge_areas[i].total);
+        edge_areas[i].area = copy_of(&whole, whole.length - (i == SHORT ? 8 : 0));
+    }
+    expect(md6_end(lent_words(&edge_areas[ENDED].area), MD6_AREA_WORDS, digest, sizeof digest, log, MD6_END_LOG_WORDS).number == 0, "end of a sound area");
+    lent_words(&edge_areas[UNSOUND].area)[4] = 65;      /* the height limit */
+    guarded_free(&whole);
+}
+
+/* a feed with just the told words, to a copy of an area */
+static void feed_to_copy(const struct guarded *area, const struct piece *piece)
+{
+    static uint64_t log[LOG_WORDS];
+    struct guarded copy = copy_of(area, area->length);
+
+    feed_told(&copy, piece, log, LOG_WORDS);
+    guarded_free(&copy);
+}
+
+/* A piece at an edge of number 5, on each of the areas, with no log: the first of 7, 10, 5, 6 and 8 that holds is given, and
+ * nothing changes. If that is 8 the bits are fed, with a log; otherwise a log changes nothing, and stays. */
+static void edge_feed(const struct span *span, uint64_t number)
+{
+    struct guarded bytes = guarded_new(span->bytes, 1);
+    struct piece piece = { bytes.bytes, *span };
+    size_t i;
+
+    random_bytes(bytes.bytes, bytes.length);
+    for (i = 0; i < EDGE_AREAS; i++) {
+        const struct edge_area *e = &edge_areas[i];
+        uint64_t last = span->bits > UINT64_MAX - e->total ? 6 : span->bits > 0 ? 8 : 0;
+        uint64_t expected = e->number != 0 ? e->number : number != 0 ? number : last;
+
+        quiet_feed(&e->area, &piece, 0, expected);
+        if (expected == 8)
+            feed_to_copy(&e->area, &piece);
+        else
+            quiet_feed(&e->area, &piece, MD6_END_LOG_WORDS, expected);
+        edge_numbers[expected]++;
+    }
+    guarded_free(&bytes);
+}
+
+static void feed_edges(void)
+{
+    struct piece none = { NULL, { 0, 0, 0 } };
+    size_t i;
+
+    make_edge_areas();
+    edge_spans(edge_feed);
+    quiet_feed(&edge_areas[FULL].area, &none, 0, 0);
+    none.span.start = 3;
+    quiet_feed(&edge_areas[FULL].area, &none, 0, 5);
+    for (i = 0; i < EDGE_AREAS; i++)
+        guarded_free(&edge_areas[i].area);
+}
+
+/* the same bits twice: from a start bit on, and moved to the front of bytes of their own; the bits beside them are random, and
+ * both end at a page that may not be touched */
+struct twins {
+    struct guarded at_start, at_front;
+    uint64_t start, bits;
+};
+
+enum { COUNTS = 8, REACH_LOG = 64 };
+
+static struct twins make_twins(uint64_t start, uint64_t bits)
+{
+    struct twins t = { guarded_new(bytes_for(start, bits), 1), guarded_new(bytes_for(0, bits), 1), start, bits };
+
+    random_bytes(t.at_start.bytes, t.at_start.length);
+    random_bytes(t.at_front.bytes, t.at_front.length);
+    copy_bits(t.at_front.bytes, 0, t.at_start.bytes, start, bits);
+    return t;
+}
+
+/* an area and a log, used again and again; a feed is lent the end of the log */
+struct desk {
+    struct guarded area, log;
+};
+
+/* feeds a piece to a copy of an area with so many words of log, which begin as bytes that are given; the words in front of them
+ * stay */
+static md6_answer feed_at_desk(const struct desk *desk, const struct guarded *from, const struct piece *piece, size_t words, int byte)
+{
+    uint64_t *log = lent_words(&desk->log), before[REACH_LOG];
+    md6_answer o;
+
+    memcpy(desk->area.bytes, from->bytes, from->length);
+    memset(log, byte, desk->log.length);
+    memcpy(before, log, sizeof before);
+    o = feed(&desk->area, piece, log + REACH_LOG - words, words);
+    expect(memcmp(before, log, 8 * (REACH_LOG - words)) == 0, "words in front of the log changed");
+    return o;
+}
+
+/* twins fed to copies of an area, each with just the told words: areas, logs and counts are the same. With a word fewer the one
+ * at the start bit is refused. */
+static void twins_same(const struct guarded *from, const struct twins *t, const struct desk desks[2], size_t words)
+{
+    struct piece at_start = { t->at_start.bytes, { t->at_start.length, t->start, t->bits } };
+    struct piece at_front = { t->at_front.bytes, { t->at_front.length, 0, t->bits } };
+    size_t log_at = 8 * (REACH_LOG - words);
+    int same;
+
+    if (words > 0) {
+        expect(answer_right(&at_start, feed_at_desk(&desks[0], from, &at_start, words - 1, 0), 8, 0), "a twin with a word fewer than told");
+        expect(memcmp(desks[0].area.bytes, from->bytes, from->length) == 0, "a twin that was refused changed something");
+    }
+    expect(answer_right(&at_start, feed_at_desk(&desks[0], from, &at_start, words, 0x11), 0, words / 2), "a twin at a start bit");
+    expect(answer_right(&at_front, feed_at_desk(&desks[1], from, &at_front, words, 0x22), 0, words / 2), "a twin at the front");
+    same = memcmp(desks[0].area.bytes, desks[1].area.bytes, from->length) == 0
+        && memcmp(desks[0].log.bytes + log_at, desks[1].log.bytes + log_at, 8 * words) == 0;
+    if (!same && shown())
+        printf("%" PRIu64 " bits, from bit %" PRIu64 " on and at the front, after %" PRIu64 " bits\n", t->bits, t->start, lent_words(from)[1]);
+    expect(same, "twins differ");
+    reached++;
+}
+
+/* All twins, fed to a sound area whose level 1 holds so many bits. It is the first block, or one after other nodes: then a block
+ * that holds nothing is the one before it, full. The rounds are enough for every word of a block to show in its output. */
+static void one_reach(uint64_t limit, uint64_t held, const struct twins twins[STARTS * COUNTS], const struct desk desks[2])
+{
+    struct guarded from = guarded_new(8 * MD6_AREA_WORDS, 1);
+    struct params p = pick_params();
+    size_t i;
+
+    p.limit = limit;
+    p.rounds = 12;
+    sound_area(lent_words(&from), &p, held + (limit == 0 ? 3072 : 4096) * (below(2) == 0 ? 0 : below(20)));
+    for (i = 0; i < STARTS * COUNTS; i++) {
+        md6_answer told = md6_log_words(lent_words(&from), MD6_AREA_WORDS, twins[i].bits);
+
+        expect(told.number == 0 && told.count <= REACH_LOG, "telling at a reach");
+        twins_same(&from, &twins[i], desks, told.count <= REACH_LOG ? (size_t)told.count : 0);
+    }
+    guarded_free(&from);
+}
+
+/* every start bit with counts at the edges of a byte and of a block, at every reach of the block */
+static void every_reach(uint64_t limit)
+{
+    static const uint64_t counts[COUNTS] = { 0, 1, 7, 8, 9, 4095, 4096, 4097 };
+    struct desk desks[2];
+    struct twins twins[STARTS * COUNTS];
+    uint64_t held;
+    size_t i;
+
+    for (i = 0; i < 2; i++)
+        desks[i] = (struct desk){ guarded_new(8 * MD6_AREA_WORDS, 1), guarded_new(8 * REACH_LOG, 1) };
+    for (i = 0; i < STARTS * COUNTS; i++)
+        twins[i] = make_twins(i % STARTS, counts[i / STARTS]);
+    for (held = 0; held <= (limit == 0 ? 3072 : 4096); held++)
+        one_reach(limit, held, twins, desks);
+    for (i = 0; i < STARTS * COUNTS; i++) {
+        guarded_free(&twins[i].at_start);
+        guarded_free(&twins[i].at_front);
+    }
+    for (i = 0; i < 2; i++) {
+        expect(guarded_intact(&desks[i].area) && guarded_intact(&desks[i].log), "wrote outside at a reach");
+        guarded_free(&desks[i].area);
+        guarded_free(&desks[i].log);
+    }
+}
+
 /* a telling on whatever words refuses by 7 and 10 as a feed of no bits does, and after them by 6 */
 static void told_as_fed(const uint64_t *words, size_t count)
 {
@@ -407,7 +654,7 @@ static void told_as_fed(const uint64_t *words, size_t count)
     memcpy(area.bytes, words, area.length);
     none = tell(&area, 0);
     most = tell(&area, UINT64_MAX);
-    number = md6_feed(lent_words(&area), count, NULL, 0, 0, NULL, 0).number;
+    number = md6_feed(lent_words(&area), count, NULL, 0, 0, 0, NULL, 0).number;
     expect(none.number == number && none.count == 0, "telling for no bits");
     expect(most.number == (number == 0 && words[1] > 0 ? 6 : number), "telling for the most bits");
     expect(number == 0 || number == 7 || number == 10, "feed of no bits");
@@ -421,14 +668,14 @@ static void one_damage(void)
     static uint64_t area[MD6_AREA_WORDS + TAIL], kept[MD6_AREA_WORDS + TAIL], log[LOG_WORDS], kept_log[LOG_WORDS];
     static uint8_t piece[2048], digest[64], kept_digest[64];
     struct params p = pick_params();
-    uint64_t n = below(8 * sizeof piece);
+    uint64_t start = below(STARTS), n = below(8 * sizeof piece - start);
     size_t words = MD6_AREA_WORDS + TAIL - (below(8) == 0 ? TAIL + 1 + (size_t)below(5) : 0);
     size_t log_words = (size_t)below(80), i, hits = (size_t)below(4);
     md6_answer o;
 
     md6_open(area, MD6_AREA_WORDS, p.key, p.key_bytes, p.d, p.limit, p.rounds);
     random_bytes(piece, sizeof piece);
-    md6_feed(area, MD6_AREA_WORDS, piece, sizeof piece, n, log, LOG_WORDS);
+    md6_feed(area, MD6_AREA_WORDS, piece, sizeof piece, start, n, log, LOG_WORDS);
     if (below(4) == 0)
         md6_end(area, MD6_AREA_WORDS, digest, sizeof digest, log, LOG_WORDS);
     for (i = 0; i < hits; i++) {
@@ -443,7 +690,7 @@ static void one_damage(void)
     memcpy(kept_digest, digest, sizeof digest);
     if (below(2) == 0) {
         uint64_t bits = below(2) == 0 ? below(8 * sizeof piece + 20) : next();
-        o = md6_feed(area, words, piece, sizeof piece, bits, log, log_words);
+        o = md6_feed(area, words, piece, sizeof piece, below(4) == 0 ? next() >> below(64) : below(STARTS), bits, log, log_words);
     } else
         o = md6_end(area, words, digest, (size_t)below(65), log, log_words);
     if (o.number != 0)
@@ -455,6 +702,7 @@ static void one_damage(void)
 
 int main(int argc, char **argv)
 {
+    static const uint64_t limits[3] = { 0, 1, 64 };
     uint64_t seed = begin(argc, argv);
     unsigned i;
 
@@ -465,15 +713,23 @@ int main(int argc, char **argv)
     sound_edges();
     for (i = 0; i < SOUND; i++)
         random_sound();
+    feed_edges();
+    for (i = 0; i < 3; i++)
+        every_reach(limits[i]);
     for (i = 0; i < DAMAGED; i++)
         one_damage();
-    printf("%" PRIu64 " feeds with just the told words, %" PRIu64 " of them after one word fewer was refused\n", fed, fed_short);
+    printf("%" PRIu64 " feeds with just the told words, %" PRIu64 " of them after one word fewer was refused, %" PRIu64 " from inside a shared byte\n",
+           fed, fed_short, shared);
     printf("tellings on %" PRIu64 " sound areas: %" PRIu64 " accepted, %" PRIu64 " refused by 6\n",
            sound, told_accepted, told_past);
     printf("damaged areas: %" PRIu64 " refused a telling by 7, %" PRIu64 " by 10, %" PRIu64 " accepted it\n",
            told_damaged[7], told_damaged[10], told_damaged[0]);
+    printf("edges of number 5: %" PRIu64 " refused by 7, %" PRIu64 " by 10, %" PRIu64 " by 5, %" PRIu64 " by 6, %" PRIu64 " by 8, %" PRIu64 " accepted\n",
+           edge_numbers[7], edge_numbers[10], edge_numbers[5], edge_numbers[6], edge_numbers[8], edge_numbers[0]);
+    printf("%" PRIu64 " pieces at every start bit and every reach of a block\n", reached);
     expect(fed_short > 0 && told_past > 0 && told_damaged[0] > 0 && told_damaged[7] > 0 && told_damaged[10] > 0,
            "a kind of telling that never came about");
+    expect(shared > 0 && edge_numbers[6] > 0 && edge_numbers[8] > 0, "a kind of feed that never came about");
     printf("%" PRIu64 " wrong\n", bad);
     return bad != 0;
 }

@@ -2,25 +2,14 @@
  *
  *   text [SEED]
  *
- * Suspensions at every edge, and each damage of a text that can be named. Random runs of 200 calls: feeds cut at random, log
- * words told, refused calls, suspensions into a dirty area; the digest at the end is compared with md6_hash of the joined
- * message. Then damaged texts: whatever is read must write back to itself, and whatever is refused must change nothing.
+ * Suspensions at every edge, and each damage of a text that can be named. Random runs of 200 calls: feeds cut at random, lent
+ * where they stand in the message, from the byte on in which the one before ended, or copied to any start bit; log words told,
+ * refused calls, suspensions into a dirty area; the digest at the end is compared with md6_hash's and the second program's of the
+ * joined message. Then damaged texts: whatever is read must write back to itself, and whatever is refused must change nothing.
  */
 #include "host.h"
 
 enum { RUNS = 300, CALLS = 200, DAMAGED = 100000, MESSAGE_BYTES = 100000, PIECE_BYTES = 1100, LOG_WORDS = 256 };
-
-/* the bits of a piece behind those of the message */
-static void join(uint8_t *message, uint64_t at, const uint8_t *piece, uint64_t bits)
-{
-    uint64_t i;
-
-    for (i = 0; i < bits; i++) {
-        unsigned bit = piece[i / 8] >> (7 - i % 8) & 1u;
-        uint64_t to = at + i;
-        message[to / 8] = (uint8_t)((message[to / 8] & ~(0x80u >> to % 8)) | bit << (7 - to % 8));
-    }
-}
 
 /* writes the stream and reads it into the other area; the areas change places. Only refused calls stand between the two: with an
  * accepted one, be it a telling, which changes nothing, document 01 has the read begin another stream. */
@@ -33,7 +22,9 @@ static void suspend(uint64_t **area, uint64_t **other)
 
     expect(o.number == 0 && o.count <= MD6_TEXT_BYTES, "write");
     expect(md6_write(a, MD6_AREA_WORDS, again, (size_t)o.count - 1).number == 9, "write to a short output");
-    expect(md6_feed(a, MD6_AREA_WORDS, digest, 1, 9, log, 2).number != 0, "feed of too many bits");
+    expect(md6_feed(a, MD6_AREA_WORDS, digest, 1, 0, 9, log, 2).number == (a[0] == 2 ? 10 : 5), "feed of too many bits");
+    expect(md6_feed(a, MD6_AREA_WORDS, digest, 1, 3, 6, log, 2).number == (a[0] == 2 ? 10 : 5), "feed of too many bits after the start");
+    expect(md6_feed(a, MD6_AREA_WORDS, digest, 1, 8, 0, log, 2).number == (a[0] == 2 ? 10 : 5), "feed from bit 8 on");
     if (a[0] == 2 || a[1] > 0)          /* otherwise it would be accepted */
         expect(md6_log_words(a, MD6_AREA_WORDS, UINT64_MAX).number == (a[0] == 2 ? 10 : 6), "a refused telling");
     random_bytes((uint8_t *)*other, 8 * MD6_AREA_WORDS);
@@ -48,13 +39,13 @@ static void suspend(uint64_t **area, uint64_t **other)
 
 /* a telling for so many bits and the feed of them with just the told words: both are refused by 10 once the stream has ended,
  * and otherwise the words are two for each node made. Answers whether the bits were fed. */
-static int tell_and_feed(uint64_t *area, const uint8_t *piece, size_t bytes, uint64_t bits, int ended)
+static int tell_and_feed(uint64_t *area, const uint8_t *piece, struct span span, int ended)
 {
     uint64_t log[LOG_WORDS];
-    md6_answer told = md6_log_words(area, MD6_AREA_WORDS, bits), o;
+    md6_answer told = md6_log_words(area, MD6_AREA_WORDS, span.bits), o;
 
     expect(told.number == (ended ? 10 : 0) && told.count <= LOG_WORDS, "telling before a feed");
-    o = md6_feed(area, MD6_AREA_WORDS, piece, bytes, bits, log, told.count <= LOG_WORDS ? (size_t)told.count : LOG_WORDS);
+    o = md6_feed(area, MD6_AREA_WORDS, piece, span.bytes, span.start, span.bits, log, told.count <= LOG_WORDS ? (size_t)told.count : LOG_WORDS);
     expect(o.number == told.number && 2 * o.count == told.count, "feed with just the told words");
     return o.number == 0;
 }
@@ -67,82 +58,128 @@ static void tell_much(const uint64_t *area, uint64_t total, int ended)
     expect(md6_log_words(area, MD6_AREA_WORDS, bits).number == (ended ? 10 : over < total ? 6 : 0), "telling for many bits");
 }
 
-/* feeds bits of a random piece behind the message's first `total`, and answers the total then */
-static uint64_t feed_some(uint64_t *area, uint8_t *message, uint64_t total, int ended)
+/* A run: a stream, now in `area`, and its message, whose bits begin at bit `first` of the bytes; `total` of them are fed. The
+ * digest is there once the stream has ended. */
+struct run {
+    struct params p;
+    uint64_t *area, *other;
+    uint8_t message[MESSAGE_BYTES], digest[64];
+    uint64_t first, total;
+    int ended;
+};
+
+/* feeds the message's next bits: where they stand, so that the piece may begin inside the byte where the one before ended, or
+ * copied to a piece at the front or at any start bit, with random bits beside them */
+static void feed_some(struct run *r)
 {
     uint8_t piece[PIECE_BYTES];
-    uint64_t bits = below(2) == 0 ? below(8 * PIECE_BYTES) : below(20);
+    uint64_t start = below(2) == 0 ? 0 : below(STARTS), bits = below(2) == 0 ? below(8 * PIECE_BYTES - start) : below(20);
+    uint64_t at = r->first + r->total;
+    int fed;
 
-    random_bytes(piece, sizeof piece);
-    if (total + bits > 8 * MESSAGE_BYTES || !tell_and_feed(area, piece, sizeof piece, bits, ended))
-        return total;
-    join(message, total, piece, bits);
-    return total + bits;
+    if (at + bits > 8 * MESSAGE_BYTES)
+        return;
+    if (below(2) == 0)
+        fed = tell_and_feed(r->area, r->message + at / 8, just(at % 8, bits), r->ended);
+    else {
+        random_bytes(piece, sizeof piece);
+        copy_bits(piece, start, r->message, at, bits);
+        fed = tell_and_feed(r->area, piece, (struct span){ sizeof piece, start, bits }, r->ended);
+    }
+    r->total += fed ? bits : 0;
+}
+
+static void end_run(struct run *r)
+{
+    uint64_t log[MD6_END_LOG_WORDS];
+
+    expect(md6_end(r->area, MD6_AREA_WORDS, r->digest, (size_t)(r->p.d + 7) / 8, log, MD6_END_LOG_WORDS).number == (r->ended ? 10 : 0), "end");
+    r->ended = 1;
+}
+
+/* one call, or a suspension; an end now and then if the run is late */
+static void one_call(struct run *r, int late)
+{
+    switch (below(9)) {
+    case 0:
+        suspend(&r->area, &r->other);
+        break;
+    case 1:
+        expect(md6_open(r->area, MD6_AREA_WORDS, r->p.key, r->p.key_bytes, 0, r->p.limit, r->p.rounds).number == 1, "a refused open");
+        break;
+    case 2:
+        if (late && below(8) == 0)
+            end_run(r);
+        break;
+    case 3:
+        tell_much(r->area, r->total, r->ended);
+        break;
+    default:
+        feed_some(r);
+    }
+}
+
+/* the digest of a run is md6_hash's, of the message where it stands, and the second program's, of its bits moved to the front */
+static void run_right(const struct run *r)
+{
+    static uint8_t front[MESSAGE_BYTES];
+    const struct params *p = &r->p;
+    struct param P = second_params(p->key, p->key_bytes, p->d, p->limit, p->rounds);
+    struct tree T;
+    uint8_t whole[64], second[64];
+    size_t size = (size_t)(p->d + 7) / 8;
+
+    expect(md6_hash(r->message, sizeof r->message, r->first, r->total, p->key, p->key_bytes, p->d, p->limit, p->rounds, whole, size) == 0, "hash of a run");
+    expect(memcmp(r->digest, whole, size) == 0, "digest of a run");
+    copy_bits(front, 0, r->message, r->first, r->total);
+    hash(&P, front, r->total, &T, second);
+    drop(&T);
+    expect(memcmp(r->digest, second, size) == 0, "digest of a run, by the second program");
 }
 
 static void one_run(void)
 {
     static uint64_t areas[2][MD6_AREA_WORDS];
-    static uint8_t message[MESSAGE_BYTES];
-    uint64_t *area = areas[0], *other = areas[1], total = 0, log[LOG_WORDS];
-    uint64_t d = 1 + below(512), limit = below(2) == 0 ? below(4) : below(65), rounds = below(6);
-    uint8_t key[64], digest[64], whole[64];
-    size_t key_bytes = (size_t)below(65), size = (size_t)(d + 7) / 8;
-    int i, ended = 0;
+    static struct run r;
+    int i;
 
-    random_bytes(key, sizeof key);
-    expect(md6_open(area, MD6_AREA_WORDS, key, key_bytes, d, limit, rounds).number == 0, "open");
-    for (i = 0; i < CALLS; i++) {
-        switch (below(9)) {
-        case 0:
-            suspend(&area, &other);
-            break;
-        case 1:
-            expect(md6_open(area, MD6_AREA_WORDS, key, key_bytes, 0, limit, rounds).number == 1, "a refused open");
-            break;
-        case 2:
-            if (!ended && i > CALLS / 2 && below(8) == 0) {
-                expect(md6_end(area, MD6_AREA_WORDS, digest, size, log, LOG_WORDS).number == 0, "end");
-                ended = 1;
-            }
-            break;
-        case 3:
-            tell_much(area, total, ended);
-            break;
-        default:
-            total = feed_some(area, message, total, ended);
-        }
-    }
-    if (!ended)
-        expect(md6_end(area, MD6_AREA_WORDS, digest, size, log, LOG_WORDS).number == 0, "end");
-    suspend(&area, &other);
-    expect(md6_end(area, MD6_AREA_WORDS, digest, size, log, LOG_WORDS).number == 10, "end after the end");
-    md6_hash(message, sizeof message, total, key, key_bytes, d, limit, rounds, whole, size);
-    expect(memcmp(digest, whole, size) == 0, "digest of a run");
+    r.p = (struct params){ .key_bytes = (size_t)below(65), .d = 1 + below(512), .limit = below(2) == 0 ? below(4) : below(65), .rounds = below(6) };
+    r.area = areas[0];
+    r.other = areas[1];
+    r.first = below(2) == 0 ? 0 : below(STARTS);
+    r.total = 0;
+    r.ended = 0;
+    random_bytes(r.p.key, sizeof r.p.key);
+    random_bytes(r.message, sizeof r.message);
+    expect(md6_open(r.area, MD6_AREA_WORDS, r.p.key, r.p.key_bytes, r.p.d, r.p.limit, r.p.rounds).number == 0, "open");
+    for (i = 0; i < CALLS; i++)
+        one_call(&r, i > CALLS / 2);
+    if (!r.ended)
+        end_run(&r);
+    suspend(&r.area, &r.other);
+    end_run(&r);                        /* refused, and the digest stays */
+    run_right(&r);
 }
 
-/* a stream of so many bits, suspended into a dirty area, fed on to 40,000 bits and ended: the digest is the whole message's */
+/* a stream of so many bits, suspended into a dirty area, fed on to 40,000 bits, from the byte on in which it stopped, and ended:
+ * the digest is the whole message's */
 static void one_edge(uint64_t bits, uint64_t limit)
 {
     static uint64_t areas[2][MD6_AREA_WORDS];
     static uint8_t message[5000];
     uint64_t *area = areas[0], *other = areas[1], log[LOG_WORDS];
-    uint8_t digest[32], whole[32], rest[5000];
-    uint64_t i, left = 8 * sizeof message - bits;
+    uint8_t digest[32], whole[32];
 
     random_bytes(message, sizeof message);
     expect(md6_open(area, MD6_AREA_WORDS, message, 5, 256, limit, 3).number == 0, "open at an edge");
-    expect(tell_and_feed(area, message, sizeof message, bits, 0), "feed to an edge");
+    expect(tell_and_feed(area, message, (struct span){ sizeof message, 0, bits }, 0), "feed to an edge");
     suspend(&area, &other);
-    memset(rest, 0, sizeof rest);
-    for (i = 0; i < left; i++)
-        rest[i / 8] |= (uint8_t)((message[(bits + i) / 8] >> (7 - (bits + i) % 8) & 1u) << (7 - i % 8));
-    expect(tell_and_feed(area, rest, sizeof rest, left, 0), "feed past an edge");
+    expect(tell_and_feed(area, message + bits / 8, just(bits % 8, 8 * sizeof message - bits), 0), "feed past an edge");
     suspend(&area, &other);
     expect(md6_end(area, MD6_AREA_WORDS, digest, sizeof digest, log, LOG_WORDS).number == 0, "end past an edge");
     suspend(&area, &other);             /* an ended stream has a text too */
-    expect(!tell_and_feed(area, rest, 1, 1, 1), "feed after the end");
-    md6_hash(message, sizeof message, 8 * sizeof message, message, 5, 256, limit, 3, whole, sizeof whole);
+    expect(!tell_and_feed(area, message, just(0, 1), 1), "feed after the end");
+    md6_hash(message, sizeof message, 0, 8 * sizeof message, message, 5, 256, limit, 3, whole, sizeof whole);
     expect(memcmp(digest, whole, sizeof digest) == 0, "digest past an edge");
 }
 
@@ -188,7 +225,7 @@ static void named_damages(void)
 
     memset(ones, 0xff, sizeof ones);
     md6_open(area, MD6_AREA_WORDS, NULL, 0, 256, 64, 1);
-    md6_feed(area, MD6_AREA_WORDS, ones, sizeof ones, 4100, log, LOG_WORDS);
+    md6_feed(area, MD6_AREA_WORDS, ones, sizeof ones, 0, 4100, log, LOG_WORDS);
     n = (size_t)md6_write(area, MD6_AREA_WORDS, good, sizeof good).count;
     expect(n == HEAD_LINES + 2 * LEVEL_LINE && md6_read(area, MD6_AREA_WORDS, good, n).number == 0, "the text itself");
     for (i = 0; i < sizeof fields / sizeof *fields; i++) {
@@ -263,7 +300,7 @@ static void one_damage(uint64_t *read)
     md6_answer o;
 
     md6_open(area, MD6_AREA_WORDS, piece, (size_t)below(65), 1 + below(512), limit, below(3));
-    md6_feed(area, MD6_AREA_WORDS, piece, sizeof piece, below(8 * sizeof piece), log, LOG_WORDS);
+    md6_feed(area, MD6_AREA_WORDS, piece, sizeof piece, 0, below(8 * sizeof piece), log, LOG_WORDS);
     n = damage(text, (size_t)md6_write(area, MD6_AREA_WORDS, text, MD6_TEXT_BYTES).count);
     random_bytes((uint8_t *)into, sizeof into);
     memcpy(kept, into, sizeof into);

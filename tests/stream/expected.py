@@ -3,9 +3,10 @@
 
 MD6REF is the second program (tests/second/md6ref.c), compiled: it prints a line for each node of the tree of the message fed
 so far, and the digest. Document 01, "Runs", says which of those nodes have been made before the end: those that do not reach
-the last bit, so all but the last of each level. Refusals are those of document 01's table, and change nothing. Told log words
-are those of document 02, M-103: two for each node that the feed would make; what is past the second program is counted level
-by level, by document 01's "Tree".
+the last bit, so all but the last of each level. Bits from a start bit on are cut out here, joined with those fed before and
+given to it as one message. Refusals are those of document 01's table, number 5 as document 02 has it, and change nothing. Told
+log words are those of document 02, M-103: two for each node that the feed would make; what is past the second program is
+counted level by level, by document 01's "Tree".
 """
 import functools
 import subprocess
@@ -13,11 +14,12 @@ import sys
 
 ONES = b"\xff" * 4096
 KEY = b"key"
+CUT = bytes((85 + 73 * i) % 256 for i in range(513))
 
 
 @functools.lru_cache(None)
-def tree(message, bits, key, d, limit):
-    line = f"{d} {limit} 0 {key.hex() or '-'}\n".encode()
+def tree(message, bits, key, d, limit, rounds):
+    line = f"{d} {limit} {rounds} {key.hex() or '-'}\n".encode()
     run = subprocess.run([sys.argv[1], "--bits", str(bits)], input=line + message, stdout=subprocess.PIPE, check=True)
     lines = run.stdout.decode().splitlines()
     return lines[:-1], lines[-1]
@@ -41,7 +43,7 @@ def made(limit, total):
     """How many nodes a stream has made: all of its tree but the last of each level. The second program is asked if it can be."""
     count = sum(size - 1 for size in level_sizes(limit, total))
     if total <= 8 * len(ONES):
-        assert count == len(made_before_end(tree(ONES, total, KEY, 8, limit)[0]))
+        assert count == len(made_before_end(tree(ONES, total, KEY, 8, limit, 0)[0]))
     return count
 
 
@@ -70,19 +72,22 @@ def refused_end(number, room):
 class Stream:
     """What a stream of one message, open from its first bit on, must log."""
 
-    def __init__(self, key, d, limit, message=ONES):
-        self.key, self.d, self.limit, self.message = key, d, limit, message
+    def __init__(self, key, d, limit, message=ONES, rounds=0):
+        self.key, self.d, self.limit, self.message, self.rounds = key, d, limit, message, rounds
         self.total = 0
         self.logged = 0
 
+    def tree(self):
+        return tree(self.message, self.total, self.key, self.d, self.limit, self.rounds)
+
     def feed(self, bits):
         self.total += bits
-        nodes = made_before_end(tree(self.message, self.total, self.key, self.d, self.limit)[0])
+        nodes = made_before_end(self.tree()[0])
         fresh, self.logged = nodes[self.logged:], len(nodes)
         return [answer(0, len(fresh), "changed" if bits else "same")] + fresh
 
     def end(self, room):
-        nodes, digest = tree(self.message, self.total, self.key, self.d, self.limit)
+        nodes, digest = self.tree()
         fresh = nodes[self.logged:]
         return [answer(0, len(fresh), "changed")] + fresh + [digest + "a5" * (room - len(digest) // 2)]
 
@@ -193,6 +198,69 @@ def long_stream():
     return lines + telling(10)
 
 
+def cut(message, start, bits):
+    """The bits of the bytes, high bit first, without the first `start`, and of these `bits`."""
+    return "".join(f"{byte:08b}" for byte in message)[start:start + bits]
+
+
+def in_bytes(bits):
+    return bytes(int(bits[i:i + 8].ljust(8, "0"), 2) for i in range(0, len(bits), 8))
+
+
+def is_refused(message, start, bits):
+    """Document 02, M-104: "Number 5 is also given for a start bit above 7 or where start and count together pass the bytes'
+    bits"."""
+    return start > 7 or start + bits > 8 * len(message)
+
+
+def made_and_left(bits, limit):
+    """How many nodes a stream of these bits has made before its end, and its end makes; and the digest, of 64 bits."""
+    nodes, digest = tree(in_bytes(bits), len(bits), b"", 64, limit, 9)
+    count = len(made_before_end(nodes))
+    return count, len(nodes) - count, digest
+
+
+def behind(limit, held, start, bits):
+    first = cut(CUT, 0, held)
+    before = made_and_left(first, limit)[0]
+    count, left, digest = made_and_left(first + cut(CUT, start, bits), limit)
+    return f"0 {count - before} 0 {left} {digest}"
+
+
+def starts():
+    return [behind(limit, held, start, bits)
+            for limit, held in ((64, 0), (64, 1), (64, 7), (64, 64), (64, 4095), (64, 4096), (0, 3071))
+            for start in range(8) for bits in (0, 1, 7, 8, 9, 4095, 4096, 4097)]
+
+
+def pieces(bits):
+    fed = "".join(cut(CUT[at // 8:], at % 8, bits) for at in range(0, 8 * len(CUT), bits))
+    count, left, digest = made_and_left(fed, 64)
+    return f"{count} 0 {left} {digest}"
+
+
+def logged(fed):
+    """Pieces that are fed to a stream, and its end, with their logs. A refused piece is no part of the message."""
+    message = "".join(cut(*piece) for piece in fed if not is_refused(*piece))
+    stream = Stream(b"", 24, 64, in_bytes(message), 9)
+    lines = [line for piece in fed for line in (refused(5) if is_refused(*piece) else stream.feed(piece[2]))]
+    return OPENED + lines + stream.end(3)
+
+
+def start_edges():
+    most = 2 ** 64 - 1
+    rows = [(8, 0), (8, 8), (2 ** 32, 8), (most, 0), (most, 1), (most, most), (1, most), (7, most), (7, most - 6), (7, most - 7)]
+    last = [row for start in range(8) for row in ((b"", start, 0), (b"a", start, 9 - start), (b"a", start, 8 - start))]
+    return logged([(b"abc", *row) for row in rows] + last)
+
+
+def ordered_refusals():
+    """Document 01's order for feed, from its end: 7, 10, 5, 6, 8."""
+    return [line for number in (8, 6, 5, 10, 7) for line in refused(number)]
+
+
 print("\n".join(whole_rows() + cut_rows() + refused_opens() + short_areas() + unsound(15) + unsound(11) + sound_areas()
                 + ended_areas() + short_logs() + told_edges() + told_longest() + most_nodes() + long_stream()
+                + starts() + [pieces(bits) for bits in (1, 3, 9, 19, 171, 513, 1026, 4104)]
+                + logged([(CUT, 0, 4093), (CUT[511:], 5, 5), (CUT[512:], 2, 6)]) + start_edges() + ordered_refusals()
                 + ["0", "64", "64", "0", "0"]))

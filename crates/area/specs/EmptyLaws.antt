@@ -97,7 +97,7 @@ empty-word n ws h g =
     let e : n ≡ i * 64 + s = omega arith in
     let d : drop n (bitsOf 64 ws) ≡ drop s (bits 64 (getD ws i 0)) ++ bitsOf 64 (drop (suc i) ws) =
     ap (λ (k : ℕ). drop k (bitsOf 64 ws)) e ∙ sym (drop-drop s (i * 64) (bitsOf 64 ws))
-    ∙ rw (bitsOf-drop 64 i ws (omega arith), drop-cons ws i 0 h, drop-append-le s (bits 64 (getD ws i 0)) (bitsOf 64 (drop (suc i) ws)) (rw length-bits (omega arith))) in
+    ∙ rw (bitsOf-drop 64 i ws, drop-cons ws i 0 h, drop-append-le s (bits 64 (getD ws i 0)) (bitsOf 64 (drop (suc i) ws)) (rw length-bits (omega arith))) in
     let q : i + 1 ≡ suc i = omega arith in
     rw (d, allFalse-append, word-empty (getD ws i 0) s (omega arith) g, q)
 

@@ -40,15 +40,15 @@ empty-levels area (suc m) k h =
     rw (e, take-add blockWords (blockWords * m) D, bitsOf-append, allFalse-append, drop-drop blockWords (levelStart k) area, f, empty-levels area m (suc k) (omega arith))
 
 -- the output in front of a sequential level
-chain-empty : (ws : List ℕ) → outputWords ≤ length ws → allFalse (take outputBits (bitsOf 64 ws)) ≡ emptyFrom 0 (take outputWords ws)
-chain-empty ws h = ap allFalse (bitsOf-take 64 outputWords ws h)
+chain-empty : (ws : List ℕ) → allFalse (take outputBits (bitsOf 64 ws)) ≡ emptyFrom 0 (take outputWords ws)
+chain-empty ws = ap allFalse (bitsOf-take 64 outputWords ws)
 
 pub sequential-kept : (c held : ℕ) (ws : List ℕ) → (c ≡ 0 → ⊥) → soundSequential c held ws ≡ emptyFrom (outputBits + held) ws
 sequential-kept c held ws h = rw (ne-eqb c 0 h)
 
-pub sequential-none : (c held : ℕ) (ws : List ℕ) → c ≡ 0 → outputWords ≤ length ws
+pub sequential-none : (c held : ℕ) (ws : List ℕ) → c ≡ 0
     → soundSequential c held ws ≡ (emptyFrom 0 (take outputWords ws) && emptyFrom (outputBits + held) ws)
-sequential-none c held ws h g = rw (eq-eqb c 0 h, chain-empty ws g)
+sequential-none c held ws h = rw (eq-eqb c 0 h, chain-empty ws)
 
 -- all levels of an open area
 pub open-none : (area : List ℕ) (limit T : ℕ) → limit < 1

@@ -54,13 +54,12 @@ spell-bitsOf k m (more {w = w} {ws = ws} h hs) =
 abbrev pub nine : List ℕ → ℕ → List Bool
 nine bytes j = take 72 (drop (8 * j) (bitsOf 8 bytes ++ replicate 72 false))
 
-nine-bytes : (bytes : List ℕ) (j : ℕ) → j ≤ length bytes → nine bytes j ≡ bitsOf 8 (take 9 (drop j (bytes ++ replicate 9 0)))
-nine-bytes bytes j h =
+nine-bytes : (bytes : List ℕ) (j : ℕ) → nine bytes j ≡ bitsOf 8 (take 9 (drop j (bytes ++ replicate 9 0)))
+nine-bytes bytes j =
     let l : List ℕ = bytes ++ replicate 9 0 in
-    let s : length l ≡ length bytes + 9 = rw (length-append, length-replicate) refl in
     let e : 8 * j ≡ j * 8 = omega arith in
     let z : bitsOf 8 l ≡ bitsOf 8 bytes ++ replicate 72 false = rw (bitsOf-append 8 bytes (replicate 9 0), bitsOf-zeros 8 9) refl in
-    rw (← z, e, bitsOf-drop 8 j l (omega arith)) (bitsOf-take 8 9 (drop j l) (rw (length-drop) (omega arith)))
+    rw (← z, e, bitsOf-drop 8 j l) (bitsOf-take 8 9 (drop j l))
 
 length-nine : (bytes : List ℕ) (j : ℕ) → j ≤ length bytes → length (nine bytes j) ≡ 72
 length-nine bytes j h = length-take-le 72 (drop (8 * j) (bitsOf 8 bytes ++ replicate 72 false)) (simp (length-drop, length-append, length-bitsOf, length-replicate) (omega arith))
@@ -71,7 +70,7 @@ nine-spelt {bytes} j hb h =
     let z : j + 0 ≡ j = omega arith in
     let t : take 9 (drop j (bytes ++ replicate 9 0)) ≡ elems bytes j 0 9 =
     ap (λ (x : ℕ). take 9 (drop x (bytes ++ replicate 9 0))) (sym z) ∙ one-by-one bytes 9 j 0 9 (omega arith) in
-    ap (spell 0) (nine-bytes bytes j h)
+    ap (spell 0) (nine-bytes bytes j)
     ∙ spell-bitsOf 8 0 (below-take 9 (below-drop j (below-append hb (below-zeros 256 9 (omega arith)))))
     ∙ ap (number 8 0) t
     ∙ rw z (omega arith)

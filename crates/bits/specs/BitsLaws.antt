@@ -8,7 +8,7 @@ use native.Mathlib.Omega.{arith}
 use lib.Dec.{eqb}
 use lib.ListN.{length, take, drop, replicate, length-append, length-take, length-drop, take-append-drop, replicate-append-replicate}
 use lib.Pow.{mod-pow-add, pow-add, pow-mono, shr-shr, high, low}
-use lib.Seq.{take-at, drop-at, take-add, take-all, take-take, drop-drop, take-append-le, drop-append-le, length-take-le}
+use lib.Seq.{take-nil, drop-nil, take-at, drop-at, take-add, take-all, take-take, drop-drop, take-append-le, take-append-add, drop-append-le, drop-append-add, length-take-le}
 use Rattle.lists.specs.Append.{cons-eq, append-split}
 use Rattle.lists.specs.Below.{Below, none, more}
 use Rattle.bits.specs.Bits.{digit, bits, bitsOf, spell, numbers}
@@ -134,17 +134,19 @@ bitsOf-zeros k (suc n) =
     let e : suc n * k ≡ k + n * k = omega arith in
     rw (e, bits-zero k, bitsOf-zeros k n, replicate-append-replicate k (n * k) false)
 
-pub bitsOf-take : (k n : ℕ) (ws : List ℕ) → n ≤ length ws → take (n * k) (bitsOf k ws) ≡ bitsOf k (take n ws)
-bitsOf-take k n ws h =
-    let e : bitsOf k (take n ws) ++ bitsOf k (drop n ws) ≡ bitsOf k ws = sym (bitsOf-append k (take n ws) (drop n ws)) ∙ ap (bitsOf k) (take-append-drop n ws) in
-    let l : length (bitsOf k (take n ws)) ≡ n * k = rw (length-bitsOf, length-take-le n ws h) refl in
-    rw (← e) (take-at (bitsOf k (take n ws)) (bitsOf k (drop n ws)) (n * k) l)
+pub bitsOf-take : (k n : ℕ) (ws : List ℕ) → take (n * k) (bitsOf k ws) ≡ bitsOf k (take n ws)
+bitsOf-take k zero ws = ap (λ (m : ℕ). take m (bitsOf k ws)) (zero-mul k)
+bitsOf-take k (suc n) [] = take-nil (suc n * k)
+bitsOf-take k (suc n) (w ∷ ws) =
+    let e : suc n * k ≡ length (bits k w) + n * k = rw (length-bits k w) (omega arith) in
+    rw e (take-append-add (bits k w) (bitsOf k ws) (n * k) ∙ ap (λ (bs : List Bool). bits k w ++ bs) (bitsOf-take k n ws))
 
-pub bitsOf-drop : (k n : ℕ) (ws : List ℕ) → n ≤ length ws → drop (n * k) (bitsOf k ws) ≡ bitsOf k (drop n ws)
-bitsOf-drop k n ws h =
-    let e : bitsOf k (take n ws) ++ bitsOf k (drop n ws) ≡ bitsOf k ws = sym (bitsOf-append k (take n ws) (drop n ws)) ∙ ap (bitsOf k) (take-append-drop n ws) in
-    let l : length (bitsOf k (take n ws)) ≡ n * k = rw (length-bitsOf, length-take-le n ws h) refl in
-    rw (← e) (drop-at (bitsOf k (take n ws)) (bitsOf k (drop n ws)) (n * k) l)
+pub bitsOf-drop : (k n : ℕ) (ws : List ℕ) → drop (n * k) (bitsOf k ws) ≡ bitsOf k (drop n ws)
+bitsOf-drop k zero ws = ap (λ (m : ℕ). drop m (bitsOf k ws)) (zero-mul k)
+bitsOf-drop k (suc n) [] = drop-nil (suc n * k)
+bitsOf-drop k (suc n) (w ∷ ws) =
+    let e : suc n * k ≡ length (bits k w) + n * k = rw (length-bits k w) (omega arith) in
+    rw e (drop-append-add (bits k w) (bitsOf k ws) (n * k) ∙ bitsOf-drop k n ws)
 
 pub bitsOf-inj : (k : ℕ) {ws vs : List ℕ} → Below (2 ^ k) ws → Below (2 ^ k) vs → length ws ≡ length vs → bitsOf k ws ≡ bitsOf k vs → ws ≡ vs
 bitsOf-inj k none none h e = refl

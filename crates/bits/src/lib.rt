@@ -1,4 +1,5 @@
-// Bits, bytes and words: the copier that fills a block of words with message bits, and hexadecimal digits (hex).
+// Bits, bytes and words: which bits of lent bytes a piece has, the copier that fills a block of words with message bits, and
+// hexadecimal digits (hex).
 // Bytes go into words high byte first and bits into bytes high bit first.
 pub mod hex;
 
@@ -7,6 +8,17 @@ ghost use Prim.Native.Nat.{_+_, _-_, _*_, _/_, _%_, _^_, _≤_, _<_};
 ghost use lib.ListN.{length, getD};
 ghost use Rattle.bits.specs.Bits.{filled};
 ghost use Rattle.bits.specs.Read.{eightFrom, wordFrom};
+
+// Which bits of lent bytes a piece has: from a bit of the first byte on, so many.
+pub struct Span {
+    pub start: u64,
+    pub bits: u64,
+}
+
+impl Span {
+    // The highest start bit: the last of a byte.
+    pub const MOST_START: u64 = 7;
+}
 
 // A byte as a word.
 fn wide(b: u8) -> u64

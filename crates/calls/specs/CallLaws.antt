@@ -7,8 +7,8 @@ use native.Mathlib.Omega.{arith}
 use borrow.Author.Tests.{ltb-false, eqb-false, not-false, le-ltb, ne-eqb}
 use lib.ListN.{length, take, drop, replicate}
 use lib.Seq.{take-at}
-use Rattle.bits.specs.Piece.{Piece, pieceBits, Fits}
-use Rattle.bits.specs.PieceLaws.{bits-there}
+use Rattle.bits.specs.Piece.{Piece, pieceBits}
+use Rattle.bits.specs.PieceLaws.{Fits, bits-there}
 use Rattle.tree.specs.Tree.{Params, Node, digestBytes}
 use Rattle.refusals.specs.Refusals.{Told, firstRefusal, paramTests}
 use Rattle.refusals.specs.RefusalLaws.{testAt, passed-by, passed, answer-number, answer-refused}

@@ -1,5 +1,5 @@
 -- Definitions: what each call on an area answers: number, count and all that was lent, on exit. Document 01, "The stream's area" and the
--- table of numbers; document 02, M-103.
+-- table of numbers; document 02, M-103 and M-104.
 use mathlib.Core.Bool.{Bool, true, false, not, _&&_}
 use mathlib.Core.List.{List, [], _∷_, _++_, flatten}
 use Prim.Native.Nat.{ℕ, zero, suc, _+_, _-_, _*_, _/_, _%_, _^_}
@@ -163,7 +163,7 @@ unfoldable pub openOf : List ℕ → Params → Opened
 openOf area P =
     answerOf (openNumber area P) record { number = 0; count = 0; area = openedArea area P } (λ k. record { number = k; count = 0; area = area })
 
--- ---- feed (piece bytes, bit count)
+-- ---- feed (piece bytes, start bit, bit count)
 
 pub record Fed : Type 0 where
   pub number : ℕ

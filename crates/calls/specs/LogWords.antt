@@ -4,14 +4,14 @@ use mathlib.Core.Path.{_≡_, refl, sym, ap, _∙_}
 use mathlib.Core.Bool.{Bool, true, false, cond}
 use mathlib.Core.Logic.{_↔_}
 use mathlib.Core.List.{List, [], _∷_, _++_, map}
-use Prim.Native.Nat.{ℕ, zero, suc, _+_, _*_, _/_, _%_, _≤_, _<_}
+use Prim.Native.Nat.{ℕ, zero, suc, _*_, _/_, _%_, _≤_, _<_}
 use native.Mathlib.Omega.{arith}
 use borrow.Author.Tests.{ltb-true, lt-ltb}
 use lib.Dec.{eqb, ltb}
 use lib.ListN.{length, replicate, length-map, length-replicate}
 use Rattle.lists.specs.Append.{cons-eq}
 use Rattle.lists.specs.Flatten.{map-append}
-use Rattle.bits.specs.Piece.{Piece, pieceBits, bitsTest}
+use Rattle.bits.specs.Piece.{Piece, pieceBits, refusedBits, bitsTest}
 use Rattle.bits.specs.PieceLaws.{length-pieceBits, bits-there}
 use Rattle.tree.specs.Tree.{Params, Node, blockBits, sequentialBits, node, digestBytes}
 use Rattle.refusals.specs.Refusals.{firstRefusal, outputTest}
@@ -110,7 +110,7 @@ any-bits area Y =
     ∙ length-map (fedBits area zs .nodes) (λ (m : Node). m .u)
 
 -- and of any piece that has its bits
-pub piece-nodes : (area : List ℕ) (piece : Piece) → bitsTest piece .0 ≡ false
+pub piece-nodes : (area : List ℕ) (piece : Piece) → refusedBits piece ≡ false
     → length (fedBits area (pieceBits piece) .nodes) ≡ length (fedBits area (replicate (piece .count) false) .nodes)
 piece-nodes area piece b =
     any-bits area (pieceBits piece)

@@ -67,7 +67,7 @@ abbrev spare : List ℕ
 spare = replicate 54 0
 
 abbrev ones : ℕ → Piece
-ones n = pieceOf (replicate (n / 8 + 1) 255) n
+ones n = pieceOf (replicate (n / 8 + 1) 255) 0 n
 
 abbrev used : List ℕ
 used = replicate (areaWords + 1) 7

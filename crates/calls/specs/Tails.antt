@@ -64,11 +64,11 @@ none-made : (area : List ℕ) → fedBits area [] .nodes ≡ []
 unfolding fedBits
 none-made area = rw (Machine.feedBits-none (paramsOf area) (totalOf area) (levelsOf area)) refl
 
-pub feed-none : (area bytes log : List ℕ) →
-    (let f : Fed = feedOf area (pieceOf bytes 0) log in (f .area ≡ area) × (f .log ≡ log) × (f .count ≡ 0))
-feed-none area bytes log = by (feedNumber area (pieceOf bytes 0) log) refl
+pub feed-none : (area bytes : List ℕ) (start : ℕ) (log : List ℕ) →
+    (let f : Fed = feedOf area (pieceOf bytes start 0) log in (f .area ≡ area) × (f .log ≡ log) × (f .count ≡ 0))
+feed-none area bytes start log = by (feedNumber area (pieceOf bytes start 0) log) refl
   where
-    by : (k : ℕ) → feedNumber area (pieceOf bytes 0) log ≡ k →
-        (let f : Fed = feedOf area (pieceOf bytes 0) log in (f .area ≡ area) × (f .log ≡ log) × (f .count ≡ 0))
-    by zero e = rw (feed-accepted area (pieceOf bytes 0) log e, feed-nothing area, none-made area) (refl, refl, refl)
-    by (suc k) e = rw (← feed-refused area (pieceOf bytes 0) log (suc k) (sym e) (omega arith)) (refl, refl, refl)
+    by : (k : ℕ) → feedNumber area (pieceOf bytes start 0) log ≡ k →
+        (let f : Fed = feedOf area (pieceOf bytes start 0) log in (f .area ≡ area) × (f .log ≡ log) × (f .count ≡ 0))
+    by zero e = rw (feed-accepted area (pieceOf bytes start 0) log e, feed-nothing area, none-made area) (refl, refl, refl)
+    by (suc k) e = rw (← feed-refused area (pieceOf bytes start 0) log (suc k) (sym e) (omega arith)) (refl, refl, refl)

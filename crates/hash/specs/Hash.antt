@@ -1,5 +1,5 @@
 -- Definitions: what the whole-message call and the telling of default rounds answer. Document 01, the table of numbers, and "Whole
--- message 5, 1, 2, 3, 4, 9"; document 02, M-102.
+-- message 5, 1, 2, 3, 4, 9"; document 02, M-102 and M-104.
 use mathlib.Core.Bool.{Bool, cond}
 use mathlib.Core.List.{List, [], _∷_, _++_}
 use Prim.Native.Nat.{ℕ, _+_, _/_, max}
@@ -19,7 +19,8 @@ pub record Hashed : Type 0 where
   pub count : ℕ
   pub digest : List ℕ
 
--- "Accepted calls return 0 and a count: .. for whole message the nodes of its tree"; "Output bytes past the digest or text stay"
+-- the message is given as a piece, with its start bit (document 02, M-104); "Accepted calls return 0 and a count: .. for whole message
+-- the nodes of its tree"; "Output bytes past the digest or text stay"
 unfoldable pub hashOf : Piece → Params → List ℕ → Hashed
 hashOf message P out =
     let M : List Bool = pieceBits message in

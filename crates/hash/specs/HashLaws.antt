@@ -10,8 +10,8 @@ use Rattle.bits.specs.Bits.{bitsOf, numbers}
 use Rattle.compress.specs.Compress.{RoundTable}
 use Rattle.tree.specs.Tree.{Params, keyWords, digest, order, digestBytes, mostRounds}
 use Rattle.tree.specs.TreeLaws.{length-keyWords, key-back}
-use Rattle.bits.specs.Piece.{Piece, pieceBits, bitsTest, Fits}
-use Rattle.bits.specs.PieceLaws.{length-pieceBits, bits-there}
+use Rattle.bits.specs.Piece.{Piece, pieceBits, bitsTest}
+use Rattle.bits.specs.PieceLaws.{Fits, length-pieceBits, bits-there}
 use Rattle.refusals.specs.Refusals.{paramTests, outputTest}
 use Rattle.hash.specs.Hash.{hashNumber, Hashed, hashOf}
 use Rattle.refusals.specs.declared.Params as declared

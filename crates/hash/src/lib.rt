@@ -2,10 +2,12 @@
 ghost use mathlib.Core.Path.{_≡_};
 ghost use mathlib.Core.List.{_++_};
 ghost use lib.ListN.{length, drop};
-ghost use Rattle.bits.specs.Piece.{pieceOf, pieceBits};
+ghost use Rattle.bits.specs.Piece.{pieceBits};
+ghost use Rattle.bits.specs.PieceLaws.{spanned};
 ghost use Rattle.tree.specs.Tree.{digest, digestBytes};
 ghost use Rattle.hash.specs.Hash.{hashNumber, hashOf, roundsByDefault, defaultRoundsOf};
 ghost use Rattle.hash.specs.HashLaws.{withKey, Accepted};
+use bits::Span;
 use node::count;
 use node::digest;
 use refusals::Answer;
@@ -40,11 +42,11 @@ pub fn default_rounds(d: u64, keylen: u64) -> Answer
 }
 
 // The number that refuses the whole-message call, and otherwise 0.
-fn hash_number(message: &[u8], bits: u64, key: &[u8], params: Params, digest: &[u8]) -> u64
+fn hash_number(message: &[u8], span: Span, key: &[u8], params: Params, digest: &[u8]) -> u64
     requires { ⌜ params .keylen ≡ length (now key) ⌝ }
-    ensures { λ r. ⌜ r ≡ hashNumber (pieceOf (now (message .entry)) bits) (withKey (now (key .entry)) params) (now (digest .entry)) ⌝ }
+    ensures { λ r. ⌜ r ≡ hashNumber (spanned (now (message .entry)) span) (withKey (now (key .entry)) params) (now (digest .entry)) ⌝ }
 {
-    if refusals::bits_over(bits, message.len() as u64) {
+    if refusals::refused_bits(message, span) {
         return 5;
     }
     let number = refusals::params_number(params);
@@ -58,19 +60,20 @@ fn hash_number(message: &[u8], bits: u64, key: &[u8], params: Params, digest: &[
 }
 
 // Writes the digest of a message. The round constants are copied once, and lent to every node.
-fn put_digest(message: &[u8], bits: u64, key: &[u8], params: Params, out: &mut [u8])
-    requires { ⌜ Accepted (pieceOf (now message) bits) (withKey (now key) params) (now out) × (params .keylen ≡ length (now key)) ⌝ }
-    ensures { λ _. ⌜ now (out .exit) ≡ digest (withKey (now (key .entry)) params) (pieceBits (pieceOf (now (message .entry)) bits)) ++ drop (digestBytes (params .d)) (now (out .entry)) ⌝ }
+fn put_digest(message: &[u8], span: Span, key: &[u8], params: Params, out: &mut [u8])
+    requires { ⌜ Accepted (spanned (now message) span) (withKey (now key) params) (now out) × (params .keylen ≡ length (now key)) ⌝ }
+    ensures { λ _. ⌜ now (out .exit) ≡ digest (withKey (now (key .entry)) params) (pieceBits (spanned (now (message .entry)) span)) ++ drop (digestBytes (params .d)) (now (out .entry)) ⌝ }
 {
     let k = digest::key_words(key);
     let table = compress::round_constants();
-    let root = nodes::root(message, bits, params, &k, &table);
+    let root = nodes::root(message, span, params, &k, &table);
     digest::write_digest(&root, params.d, out);
 }
 
-// The digest of a whole message: its first `bits` bits.
+// The digest of a whole message: `bits` bits, from bit `start` of the first byte on.
 pub fn hash(
     message: &[u8],
+    start: u64,
     bits: u64,
     key: &[u8],
     d: u64,
@@ -78,13 +81,14 @@ pub fn hash(
     rounds: u64,
     digest: &mut [u8],
 ) -> Answer
-    ensures { λ o. ⌜ record { number = o .number; count = o .count; digest = now (digest .exit) } ≡ hashOf (record { bytes = now (message .entry); count = bits }) (record { key = now (key .entry); d = d; limit = limit; rounds = rounds }) (now (digest .entry)) ⌝ }
+    ensures { λ o. ⌜ record { number = o .number; count = o .count; digest = now (digest .exit) } ≡ hashOf (record { bytes = now (message .entry); start = start; count = bits }) (record { key = now (key .entry); d = d; limit = limit; rounds = rounds }) (now (digest .entry)) ⌝ }
 {
+    let span = Span { start, bits };
     let params = Params::new(key.len() as u64, d, limit, rounds);
-    let number = hash_number(message, bits, key, params, digest);
+    let number = hash_number(message, span, key, params, digest);
     if number != 0 {
         return Answer::refused(number);
     }
-    put_digest(message, bits, key, params, digest);
+    put_digest(message, span, key, params, digest);
     Answer::accepted(count::tree_nodes(limit, bits))
 }

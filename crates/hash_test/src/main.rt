@@ -1,27 +1,42 @@
-// Runs the whole-message call on the rows of document 01's "Reels by hand", on the edges of each parameter and on the
-// messages of the report's Appendix C. A line is the number, the count and the output, which held a5 in every byte before
-// the call. Then the default rounds of every digest size, a line a size. tests/hash/expected.py makes the expected lines with
-// the second program and from document 02.
+// Runs the whole-message call on the rows of document 01's "Reels by hand", on the edges of each parameter, on the messages of
+// the report's Appendix C and on bits from every start bit on. A line is the number, the count and the output, which held a5 in
+// every byte before the call. Then the default rounds of every digest size, a line a size. tests/hash/expected.py makes the
+// expected lines with the second program and from document 02.
 ghost use mathlib.Core.Path.{_≡_};
-ghost use Prim.Native.Nat.{_≤_};
+ghost use Prim.Native.Nat.{_≤_, _<_};
 ghost use lib.ListN.{length};
 use libc::STDOUT_FILENO;
 
+// Bit counts at the edges of a byte and of the first block.
+const COUNTS: [u64; 8] = [0, 1, 7, 8, 9, 4095, 4096, 4097];
+
+// Those of a first block that is sequential.
+const SEQUENTIAL_COUNTS: [u64; 4] = [0, 3071, 3072, 3073];
+
 // Calls hash, and writes what it answers.
-fn call(message: &[u8], bits: u64, key: &[u8], d: u64, limit: u64, rounds: u64, out: &mut [u8]) {
-    let answer = hash::hash(message, bits, key, d, limit, rounds, &mut *out);
+fn call(
+    message: &[u8],
+    start: u64,
+    bits: u64,
+    key: &[u8],
+    d: u64,
+    limit: u64,
+    rounds: u64,
+    out: &mut [u8],
+) {
+    let answer = hash::hash(message, start, bits, key, d, limit, rounds, &mut *out);
     test_print::answer(answer.number, answer.count);
     io::write_all(STDOUT_FILENO, b" ");
     test_print::bytes(&*out);
     io::write_all(STDOUT_FILENO, b"\n");
 }
 
-// The call with an output of so many bytes.
+// The call from the first bit on, with an output of so many bytes.
 fn show(message: &[u8], bits: u64, key: &[u8], d: u64, limit: u64, rounds: u64, room: usize)
     requires { ⌜ room ≤ 66 ⌝ }
 {
     let mut out = [0xa5u8; 66];
-    call(message, bits, key, d, limit, rounds, &mut out[..room]);
+    call(message, 0, bits, key, d, limit, rounds, &mut out[..room]);
 }
 
 // A row of "Reels by hand": a message of ones, r = 0 and no key.
@@ -90,6 +105,74 @@ fn report() {
     show(&bytes, 6400, b"abcde12345", 256, 0, 5, 32);
 }
 
+// The call from a start bit on, with no key, d = 64 and r = 9: enough rounds for each bit to show in the digest.
+fn show_from(message: &[u8], start: u64, bits: u64, limit: u64) {
+    let mut out = [0xa5u8; 8];
+    call(message, start, bits, b"", 64, limit, 9, &mut out);
+}
+
+// Each of the counts from one start bit on.
+fn each_count(message: &[u8], start: u64, counts: &[u64], limit: u64) {
+    let mut i = 0;
+    while i < counts.len() {
+        show_from(message, start, counts[i], limit);
+        i += 1;
+    }
+}
+
+// Each of them from every start bit on.
+fn all_starts(message: &[u8], counts: &[u64], limit: u64) {
+    let mut start = 0;
+    while start < 8 {
+        each_count(message, start, counts, limit);
+        start += 1;
+    }
+}
+
+// A message whose first byte is 55, in which each bit differs from the next.
+fn starts() {
+    let bytes = repeated();
+    all_starts(&bytes[4..], &COUNTS, 64);
+    all_starts(&bytes[4..], &COUNTS, 1);
+    all_starts(&bytes[4..], &SEQUENTIAL_COUNTS, 0);
+}
+
+// From a start bit on: nothing of no bytes, all bits that three bytes then have, and one more.
+fn last_bits(start: u64)
+    requires { ⌜ start < 8 ⌝ }
+{
+    show_from(b"", start, 0, 64);
+    show_from(b"abc", start, 24 - start, 64);
+    show_from(b"abc", start, 25 - start, 64);
+}
+
+fn all_last_bits() {
+    let mut start = 0;
+    while start < 8 {
+        last_bits(start);
+        start += 1;
+    }
+}
+
+// Of three bytes: start bits above 7, and counts whose sum with the start bit passes 2^64 - 1 or comes near it. Then parameters that
+// are refused as well, behind the bits.
+fn refused_starts(message: &[u8]) {
+    let mut out = [0xa5u8; 8];
+    show_from(message, 8, 0, 64);
+    show_from(message, 8, 8, 64);
+    show_from(message, 4294967296, 8, 64);
+    show_from(message, u64::MAX, 0, 64);
+    show_from(message, u64::MAX, 1, 64);
+    show_from(message, u64::MAX, u64::MAX, 64);
+    show_from(message, 1, u64::MAX, 64);
+    show_from(message, 7, u64::MAX, 64);
+    show_from(message, 7, 18446744073709551609, 64);
+    show_from(message, 7, 18446744073709551608, 64);
+    call(message, 8, 8, b"", 0, 65, 256, &mut out);
+    call(message, 7, 18, b"", 0, 65, 256, &mut out);
+    call(message, 7, 17, b"", 0, 65, 256, &mut out);
+}
+
 // What is told for a digest size and a key length, behind what separates it from what stands before it.
 fn told(before: &[u8], d: u64, key_bytes: u64) {
     let answer = hash::default_rounds(d, key_bytes);
@@ -124,5 +207,8 @@ fn main() {
     reels();
     edges();
     report();
+    starts();
+    all_last_bits();
+    refused_starts(b"abc");
     all_default_rounds();
 }

@@ -4,10 +4,11 @@ ghost use Rattle.hash.specs.Hash.{Hashed, hashOf, defaultRoundsOf};
 ghost use Rattle.calls.specs.Calls.{openOf, feedOf, endOf, logWordsOf};
 ghost use Rattle.text.specs.Text.{writeOf, readOf};
 
-// The digest of a whole message. Answers the number alone.
+// The digest of a whole message, from its start bit on. Answers the number alone.
 #[no_mangle]
 pub extern "C" fn md6_hash(
     message: &[u8],
+    start: u64,
     bits: u64,
     key: &[u8],
     d: u64,
@@ -15,9 +16,9 @@ pub extern "C" fn md6_hash(
     rounds: u64,
     digest: &mut [u8],
 ) -> u64
-    ensures { λ n. ⌜ (let h : Hashed = hashOf (record { bytes = now (message .entry); count = bits }) (record { key = now (key .entry); d = d; limit = limit; rounds = rounds }) (now (digest .entry)) in (n ≡ h .number) × (now (digest .exit) ≡ h .digest)) ⌝ }
+    ensures { λ n. ⌜ (let h : Hashed = hashOf (record { bytes = now (message .entry); start = start; count = bits }) (record { key = now (key .entry); d = d; limit = limit; rounds = rounds }) (now (digest .entry)) in (n ≡ h .number) × (now (digest .exit) ≡ h .digest)) ⌝ }
 {
-    let answer = hash::hash(message, bits, key, d, limit, rounds, digest);
+    let answer = hash::hash(message, start, bits, key, d, limit, rounds, digest);
     answer.number
 }
 
@@ -43,17 +44,18 @@ pub extern "C" fn md6_open(
     stream::open(area, key, d, limit, rounds)
 }
 
-// Feeds the first bits of a piece.
+// Feeds the bits of a piece, from its start bit on.
 #[no_mangle]
 pub extern "C" fn md6_feed(
     area: &mut [u64],
     piece: &[u8],
+    start: u64,
     bits: u64,
     log: &mut [u64],
 ) -> refusals::Answer
-    ensures { λ o. ⌜ record { number = o .number; count = o .count; area = now (area .exit); log = now (log .exit) } ≡ feedOf (now (area .entry)) (record { bytes = now (piece .entry); count = bits }) (now (log .entry)) ⌝ }
+    ensures { λ o. ⌜ record { number = o .number; count = o .count; area = now (area .exit); log = now (log .exit) } ≡ feedOf (now (area .entry)) (record { bytes = now (piece .entry); start = start; count = bits }) (now (log .entry)) ⌝ }
 {
-    stream::feed(area, piece, bits, log)
+    stream::feed(area, piece, start, bits, log)
 }
 
 // Ends a stream.

@@ -41,7 +41,7 @@ byte-value ws j h =
     let d : drop (j * 8) (bitsOf 64 ws) ≡ drop o (bits 64 (getD ws i 0) ++ bitsOf 64 (drop (suc i) ws)) =
     ap (λ (n : ℕ). drop n (bitsOf 64 ws)) e
     ∙ sym (drop-drop o (i * 64) (bitsOf 64 ws))
-    ∙ ap (drop o) (bitsOf-drop 64 i ws (omega arith) ∙ ap (bitsOf 64) (drop-cons ws i 0 l)) in
+    ∙ ap (drop o) (bitsOf-drop 64 i ws ∙ ap (bitsOf 64) (drop-cons ws i 0 l)) in
     sym (ap (λ (x : List Bool). spell 0 (take 8 x)) d ∙ byte-of-word o (56 - o) (getD ws i 0) (bitsOf 64 (drop (suc i) ws)) (omega arith))
 
 -- ---- the loop that writes bytes

@@ -6,15 +6,15 @@ use Prim.Native.Nat.{ℕ, zero, suc, _+_, _-_, _*_, _^_, _≤_, _<_, min}
 use native.Mathlib.Omega.{arith}
 use native.Mathlib.Numerals.{add-one}
 use lib.ListN.{length, take, drop, replicate, length-replicate}
-use lib.Seq.{paste}
+use lib.Seq.{paste, drop-drop}
 use Rattle.bits.specs.Bits.{bitsOf, filled}
 use Rattle.bits.specs.BitsLaws.{bitsOf-zeros}
 use Rattle.tree.specs.Tree.{Params, words, blocks, blockBits, outputBits}
-use Rattle.bits.specs.Piece.{pieceOf, pieceBits, Fits}
+use Rattle.bits.specs.Piece.{Piece, pieceBits}
 use Rattle.node.specs.Words.{nodeWords}
 use Rattle.nodes.specs.Value.{held, messagePart, joinedValues, childWords, value}
 use Rattle.tree.specs.Count.{levelNodes, levelNodes-one, levelNodes-suc, levelNodes-some}
-use Rattle.bits.specs.PieceLaws.{length-pieceBits}
+use Rattle.bits.specs.PieceLaws.{Fits, length-pieceBits}
 use Rattle.nodes.specs.ValueLaws.{levelNodes-le, length-value, value-one, value-suc, joined-zero, joined-suc, length-joinedValues}
 use Rattle.node.specs.NodeLaws.{paste-at}
 use Rattle.lists.specs.Replicate.{drop-replicate}
@@ -26,42 +26,43 @@ take-min (suc a) zero l = let e : min (suc a) 0 ≡ 0 = omega arith in rw e
 take-min (suc a) (suc b) [] = let e : min (suc a) (suc b) ≡ suc (min a b) = omega arith in rw e
 take-min (suc a) (suc b) (x ∷ l) = let e : min (suc a) (suc b) ≡ suc (min a b) = omega arith in rw (e, take-min a b l)
 
--- w zero words, filled with the message bits of the node at an index
-pub filled-part : (bytes : List ℕ) (bits w size index start n : ℕ) → w * 64 ≡ size → size * index ≤ bits → Fits (pieceOf bytes bits)
-    → start ≡ size * index → n ≡ held size bits index
-    → filled (replicate w 0) 0 bytes start n ≡ words w (messagePart size (pieceBits (pieceOf bytes bits)) index)
+-- w zero words, filled with the message bits of the node at an index, from a bit of the bytes on
+pub filled-part : (m : Piece) (w size index from n : ℕ) → w * 64 ≡ size → size * index ≤ m .count → Fits m
+    → from ≡ m .start + size * index → n ≡ held size (m .count) index
+    → filled (replicate w 0) 0 (m .bytes) from n ≡ words w (messagePart size (pieceBits m) index)
 unfolding filled
-filled-part bytes bits w size index start n e h g es en =
-    let B : List Bool = bitsOf 8 bytes in
+filled-part m w size index from n e h g ef en =
+    let B : List Bool = bitsOf 8 (m .bytes) in
+    let D : List Bool = drop (m .start) B in
     let l : length (replicate {A = ℕ} w 0) ≡ w = length-replicate w 0 in
-    let lp : length (take bits B) ≡ bits = length-pieceBits (pieceOf bytes bits) g in
+    let lp : length (take (m .count) D) ≡ m .count = length-pieceBits m g in
     let zs : bitsOf 64 (replicate w 0) ≡ replicate size false = bitsOf-zeros 64 w ∙ ap (λ (k : ℕ). replicate k false) e in
     let z : 0 + n ≡ n = omega arith in
     let r : drop n (replicate size false) ≡ replicate (size - n) false = drop-replicate n size false (omega arith) in
-    let b : bits ≡ size * index + (bits - size * index) = omega arith in
-    let t : take size (drop (size * index) (take bits B)) ≡ take n (drop start B) =
-    ap (λ (k : ℕ). take size (drop (size * index) (take k B))) b
-    ∙ ap (take size) (drop-take (size * index) (bits - size * index) B)
-    ∙ take-min size (bits - size * index) (drop (size * index) B)
-    ∙ rw (en, es) in
-    let p : paste (bitsOf 64 (replicate w 0)) 0 (drop start B) n ≡ take n (drop start B) ++ replicate (size - n) false =
+    let b : m .count ≡ size * index + (m .count - size * index) = omega arith in
+    let t : take size (drop (size * index) (take (m .count) D)) ≡ take n (drop from B) =
+    ap (λ (k : ℕ). take size (drop (size * index) (take k D))) b
+    ∙ ap (take size) (drop-take (size * index) (m .count - size * index) D)
+    ∙ take-min size (m .count - size * index) (drop (size * index) D)
+    ∙ rw (en, ef) (ap (take (held size (m .count) index)) (drop-drop (size * index) (m .start) B)) in
+    let p : paste (bitsOf 64 (replicate w 0)) 0 (drop from B) n ≡ take n (drop from B) ++ replicate (size - n) false =
     rw (zs, z, r) in
-    let m : messagePart size (take bits B) index ≡ take n (drop start B) ++ replicate (size - n) false = rw (t, lp, en) in
-    rw (l, p, m)
+    let q : messagePart size (take (m .count) D) index ≡ take n (drop from B) ++ replicate (size - n) false = rw (t, lp, en) in
+    rw (l, p, q)
 
 -- ---- a leaf
 
 pub leaf-index : (bits index : ℕ) → index < levelNodes bits 1 → blockBits * index ≤ bits
 leaf-index bits index h = let g : index < blocks blockBits bits = rw (levelNodes-one bits) at h in omega arith
 
-pub leaf-made : (P : Params) (bytes : List ℕ) (bits index z n : ℕ) (block : List ℕ) → index < levelNodes bits 1 → Fits (pieceOf bytes bits)
-    → n ≡ held blockBits bits index → block ≡ filled (replicate 64 0) 0 bytes (8 * (512 * index) + 0) n
-    → nodeWords P 1 index z (blockBits - n) block ≡ value P (pieceBits (pieceOf bytes bits)) 1 index z
-leaf-made P bytes bits index z n block i g en eb =
-    let M : List Bool = pieceBits (pieceOf bytes bits) in
-    let l : length M ≡ bits = length-pieceBits (pieceOf bytes bits) g in
+pub leaf-made : (P : Params) (m : Piece) (index z n : ℕ) (block : List ℕ) → index < levelNodes (m .count) 1 → Fits m
+    → n ≡ held blockBits (m .count) index → block ≡ filled (replicate 64 0) 0 (m .bytes) (8 * (512 * index) + m .start) n
+    → nodeWords P 1 index z (blockBits - n) block ≡ value P (pieceBits m) 1 index z
+leaf-made P m index z n block i g en eb =
+    let M : List Bool = pieceBits m in
+    let l : length M ≡ m .count = length-pieceBits m g in
     let b : block ≡ words 64 (messagePart blockBits M index) =
-    eb ∙ filled-part bytes bits 64 blockBits index (8 * (512 * index) + 0) n refl (leaf-index bits index i) g (omega arith) en in
+    eb ∙ filled-part m 64 blockBits index (8 * (512 * index) + m .start) n refl (leaf-index (m .count) index i) g (omega arith) en in
     let p : blockBits - n ≡ blockBits - held blockBits (length M) index = rw l (ap (λ (k : ℕ). blockBits - k) en) in
     rw (b, p) (sym (value-one P M index z))
 
@@ -103,19 +104,19 @@ node-index bits zero index b h i = absurd (omega arith)
 node-index bits (suc l) index b h i = omega (arith, levelNodes-le bits l b)
 
 -- a node above level 1, from its children
-pub value-made : (P : Params) (bytes : List ℕ) (bits level index z n : ℕ) (block : List ℕ) → 1 < level → Fits (pieceOf bytes bits)
-    → n ≡ held 4 (levelNodes bits (level - 1)) index
-    → block ≡ childWords (λ j. value P (pieceBits (pieceOf bytes bits)) (level - 1) j 0) 4 (4 * index) n
-    → nodeWords P level index z (outputBits * (4 - n)) block ≡ value P (pieceBits (pieceOf bytes bits)) level index z
-value-made P bytes bits zero index z n block h g en eb = absurd (omega arith)
-value-made P bytes bits (suc zero) index z n block h g en eb = absurd (omega arith)
-value-made P bytes bits (suc (suc l)) index z n block h g en eb =
-    let M : List Bool = pieceBits (pieceOf bytes bits) in
-    let d : length M ≡ bits = length-pieceBits (pieceOf bytes bits) g in
+pub value-made : (P : Params) (m : Piece) (level index z n : ℕ) (block : List ℕ) → 1 < level → Fits m
+    → n ≡ held 4 (levelNodes (m .count) (level - 1)) index
+    → block ≡ childWords (λ j. value P (pieceBits m) (level - 1) j 0) 4 (4 * index) n
+    → nodeWords P level index z (outputBits * (4 - n)) block ≡ value P (pieceBits m) level index z
+value-made P m zero index z n block h g en eb = absurd (omega arith)
+value-made P m (suc zero) index z n block h g en eb = absurd (omega arith)
+value-made P m (suc (suc l)) index z n block h g en eb =
+    let M : List Bool = pieceBits m in
+    let d : length M ≡ m .count = length-pieceBits m g in
     let e : suc (suc l) - 1 ≡ suc l = omega arith in
-    let m : n ≡ held 4 (levelNodes (length M) (suc l)) index = rw d (rw e at en) in
+    let k : n ≡ held 4 (levelNodes (length M) (suc l)) index = rw d (rw e at en) in
     let b : block ≡ childWords (λ j. value P M (suc l) j 0) 4 (4 * index) n = rw e at eb in
-    rw (b, m) (sym (value-suc P M l index z))
+    rw (b, k) (sym (value-suc P M l index z))
 
 -- every value has 16 words
 pub value-length : (P : Params) (M : List Bool) (level index z : ℕ) → 0 < level → length (value P M level index z) ≡ 16

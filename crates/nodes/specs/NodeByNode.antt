@@ -5,10 +5,9 @@ use mathlib.Core.Option.{Option, some}
 use mathlib.Core.List.{List, [], _∷_, _++_, map, flatten}
 use Prim.Native.Nat.{ℕ, zero, suc, _+_, _-_, _*_, _^_, _≤_, _<_}
 use native.Mathlib.Omega.{arith}
-use borrow.Author.Tests.{leb-true, leb-false, eqb-true, eqb-false, lt-ltb, le-ltb, ne-eqb}
-use lib.Dec.{eqb, leb, ltb}
+use borrow.Author.Tests.{eqb-true, eqb-false, lt-ltb, le-ltb, ne-eqb}
+use lib.Dec.{eqb, ltb}
 use lib.ListN.{length, take, drop, replicate, getElem?, length-append, length-drop, length-replicate}
-use lib.Seq.{take-all}
 use Rattle.lists.specs.Below.{Below}
 use Rattle.lists.specs.BelowLaws.{below-append, below-zeros}
 use Rattle.bits.specs.Bits.{digit, bitsOf, numbers}
@@ -33,15 +32,6 @@ part-words n size p X j e h g =
     let l : n * 64 ≤ length B = simp (length-drop, length-append, length-replicate) (omega arith) in
     numbers-take 64 n B l ∙ ap (λ (k : ℕ). numbers 64 n (take k B)) e ∙ ap (numbers 64 n) (pad-part size (size * j) p X false h g)
 
-take-bitsOf : (n : ℕ) (ws : List ℕ) → take (n * 64) (bitsOf 64 ws) ≡ bitsOf 64 (take n ws)
-take-bitsOf n ws = go (leb n (length ws)) refl
-  where
-    go : (b : Bool) → leb n (length ws) ≡ b → take (n * 64) (bitsOf 64 ws) ≡ bitsOf 64 (take n ws)
-    go true e = bitsOf-take 64 n ws (leb-true n (length ws) e)
-    go false e =
-        let l = leb-false n (length ws) e in
-        rw (take-all (n * 64) (bitsOf 64 ws) (rw (length-bitsOf 64 ws) (omega arith)), take-all n ws (omega arith))
-
 -- a block of q values of nodes below
 child-part : (f : ℕ → List ℕ) (q c i : ℕ) → ((j : ℕ) → length (f j) ≡ 16) → ((j : ℕ) → Below (2 ^ 64) (f j)) → q * i ≤ c
     → words (16 * q) (messagePart (1024 * q) (bitsOf 64 (joinedValues f 0 c)) i) ≡ childWords f q (q * i) (held q c i)
@@ -54,11 +44,11 @@ child-part f q c i len low h =
     let b : 1024 * q ≡ 16 * q * 64 = omega arith in
     let p : 1024 * q - held (1024 * q) (length (bitsOf 64 W)) i ≡ 16 * (q - n) * 64 = rw lB (omega arith) in
     let d : drop (1024 * q * i) (bitsOf 64 W) ≡ bitsOf 64 (drop (16 * (q * i)) W) =
-    ap (λ (k : ℕ). drop k (bitsOf 64 W)) a ∙ bitsOf-drop 64 (16 * (q * i)) W (omega arith) in
+    ap (λ (k : ℕ). drop k (bitsOf 64 W)) a ∙ bitsOf-drop 64 (16 * (q * i)) W in
     let t : take (1024 * q) (drop (1024 * q * i) (bitsOf 64 W)) ≡ bitsOf 64 (joinedValues f (q * i) n) =
     ap (take (1024 * q)) d
     ∙ ap (λ (k : ℕ). take k (bitsOf 64 (drop (16 * (q * i)) W))) b
-    ∙ take-bitsOf (16 * q) (drop (16 * (q * i)) W)
+    ∙ bitsOf-take 64 (16 * q) (drop (16 * (q * i)) W)
     ∙ ap (bitsOf 64) (joined-part f q c i len h) in
     let B : List ℕ = childWords f q (q * i) n in
     let s : messagePart (1024 * q) (bitsOf 64 W) i ≡ bitsOf 64 B =

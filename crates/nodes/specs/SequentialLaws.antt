@@ -10,13 +10,13 @@ use lib.ListN.{length, replicate}
 use lib.Seq.{paste}
 use Rattle.bits.specs.Bits.{digit, filled}
 use Rattle.tree.specs.Tree.{Params, words, sequentialBits, outputBits}
-use Rattle.bits.specs.Piece.{pieceOf, pieceBits, Fits}
+use Rattle.bits.specs.Piece.{Piece, pieceBits}
 use Rattle.node.specs.Words.{nodeWords}
 use Rattle.nodes.specs.Value.{held, messagePart, childWords, value, sequentialNodes, sequentialPadding, sequentialWords, chain, rootValue, topFrom, topLevel}
 use Rattle.tree.specs.Count.{levelNodes, levelNodes-some}
 use Rattle.nodes.specs.ValueLaws.{levelNodes-le, chain-suc}
 use Rattle.node.specs.NodeLaws.{paste-at}
-use Rattle.bits.specs.PieceLaws.{length-pieceBits}
+use Rattle.bits.specs.PieceLaws.{Fits, length-pieceBits}
 use Rattle.nodes.specs.BlockLaws.{filled-part}
 
 -- ---- indices
@@ -48,22 +48,22 @@ padding-children (suc l) bits index h = refl
 
 -- ---- words
 
-pub message-filled : (bytes : List ℕ) (bits index n : ℕ) → Fits (pieceOf bytes bits) → index < sequentialNodes 0 bits → n ≡ held sequentialBits bits index
-    → filled (replicate 48 0) 0 bytes (8 * (384 * index) + 0) n ≡ words 48 (messagePart sequentialBits (pieceBits (pieceOf bytes bits)) index)
-message-filled bytes bits index n g i en =
-    filled-part bytes bits 48 sequentialBits index (8 * (384 * index) + 0) n refl (message-index bits index i) g (omega arith) en
+pub message-filled : (m : Piece) (index n : ℕ) → Fits m → index < sequentialNodes 0 (m .count) → n ≡ held sequentialBits (m .count) index
+    → filled (replicate 48 0) 0 (m .bytes) (8 * (384 * index) + m .start) n ≡ words 48 (messagePart sequentialBits (pieceBits m) index)
+message-filled m index n g i en =
+    filled-part m 48 sequentialBits index (8 * (384 * index) + m .start) n refl (message-index (m .count) index i) g (omega arith) en
 
 pub words-message : (P : Params) (limit : ℕ) (M : List Bool) (index : ℕ) → limit ≡ 0
     → words 48 (messagePart sequentialBits M index) ≡ sequentialWords P limit M index
 unfolding sequentialWords
 words-message P limit M index e = rw e
 
-pub words-children : (P : Params) (limit : ℕ) (bytes : List ℕ) (bits index n : ℕ) → 0 < limit → Fits (pieceOf bytes bits)
-    → n ≡ held 3 (levelNodes bits limit) index
-    → childWords (λ j. value P (pieceBits (pieceOf bytes bits)) limit j 0) 3 (3 * index) n ≡ sequentialWords P limit (pieceBits (pieceOf bytes bits)) index
+pub words-children : (P : Params) (limit : ℕ) (m : Piece) (index n : ℕ) → 0 < limit → Fits m
+    → n ≡ held 3 (levelNodes (m .count) limit) index
+    → childWords (λ j. value P (pieceBits m) limit j 0) 3 (3 * index) n ≡ sequentialWords P limit (pieceBits m) index
 unfolding sequentialWords
-words-children P zero bytes bits index n h g en = absurd (omega arith)
-words-children P (suc l) bytes bits index n h g en = rw (length-pieceBits (pieceOf bytes bits) g, en)
+words-children P zero m index n h g en = absurd (omega arith)
+words-children P (suc l) m index n h g en = rw (length-pieceBits m g, en)
 
 -- the chain, and then 48 words, are written to a block
 pub block-made : (before rest : List ℕ) → length before ≡ 16 → length rest ≡ 48
@@ -77,32 +77,32 @@ block-made before rest lb lr =
 
 -- ---- the chain
 
-pub chain-more : (P : Params) (limit : ℕ) (bytes : List ℕ) (bits index z : ℕ) (last : List ℕ) → Fits (pieceOf bytes bits)
-    → z ≡ digit (eqb (suc index) (sequentialNodes limit bits))
-    → last ≡ chain P limit (pieceBits (pieceOf bytes bits)) index
-    → nodeWords P (limit + 1) index z (sequentialPadding limit bits index) (last ++ sequentialWords P limit (pieceBits (pieceOf bytes bits)) index)
-    ≡ chain P limit (pieceBits (pieceOf bytes bits)) (index + 1)
-chain-more P limit bytes bits index z last g ez el =
-    let M : List Bool = pieceBits (pieceOf bytes bits) in
-    let l : length M ≡ bits = length-pieceBits (pieceOf bytes bits) g in
+pub chain-more : (P : Params) (limit : ℕ) (m : Piece) (index z : ℕ) (last : List ℕ) → Fits m
+    → z ≡ digit (eqb (suc index) (sequentialNodes limit (m .count)))
+    → last ≡ chain P limit (pieceBits m) index
+    → nodeWords P (limit + 1) index z (sequentialPadding limit (m .count) index) (last ++ sequentialWords P limit (pieceBits m) index)
+    ≡ chain P limit (pieceBits m) (index + 1)
+chain-more P limit m index z last g ez el =
+    let M : List Bool = pieceBits m in
+    let l : length M ≡ m .count = length-pieceBits m g in
     let s : limit + 1 ≡ suc limit = omega arith in
     let t : index + 1 ≡ suc index = omega arith in
     let e : chain P limit M (suc index)
-    ≡ nodeWords P (suc limit) index (digit (eqb (suc index) (sequentialNodes limit bits))) (sequentialPadding limit bits index) (chain P limit M index ++ sequentialWords P limit M index) =
+    ≡ nodeWords P (suc limit) index (digit (eqb (suc index) (sequentialNodes limit (m .count)))) (sequentialPadding limit (m .count) index) (chain P limit M index ++ sequentialWords P limit M index) =
     chain-suc P M limit index ∙ rw l in
     rw (s, t, ez, el) (sym e)
 
 -- ---- the root
 
-pub root-chain : (P : Params) (limit : ℕ) (bytes : List ℕ) (bits : ℕ) → Fits (pieceOf bytes bits) → limit < topLevel limit bits
-    → chain P limit (pieceBits (pieceOf bytes bits)) (sequentialNodes limit bits) ≡ rootValue P limit (pieceBits (pieceOf bytes bits))
+pub root-chain : (P : Params) (limit : ℕ) (m : Piece) → Fits m → limit < topLevel limit (m .count)
+    → chain P limit (pieceBits m) (sequentialNodes limit (m .count)) ≡ rootValue P limit (pieceBits m)
 unfolding rootValue
-root-chain P limit bytes bits g h = rw (length-pieceBits (pieceOf bytes bits) g, lt-ltb limit (topLevel limit bits) h)
+root-chain P limit m g h = rw (length-pieceBits m g, lt-ltb limit (topLevel limit (m .count)) h)
 
-pub root-parallel : (P : Params) (limit : ℕ) (bytes : List ℕ) (bits : ℕ) → Fits (pieceOf bytes bits) → topLevel limit bits ≤ limit
-    → value P (pieceBits (pieceOf bytes bits)) (topLevel limit bits) 0 1 ≡ rootValue P limit (pieceBits (pieceOf bytes bits))
+pub root-parallel : (P : Params) (limit : ℕ) (m : Piece) → Fits m → topLevel limit (m .count) ≤ limit
+    → value P (pieceBits m) (topLevel limit (m .count)) 0 1 ≡ rootValue P limit (pieceBits m)
 unfolding rootValue
-root-parallel P limit bytes bits g h = rw (length-pieceBits (pieceOf bytes bits) g, le-ltb limit (topLevel limit bits) h)
+root-parallel P limit m g h = rw (length-pieceBits m g, le-ltb limit (topLevel limit (m .count)) h)
 
 -- the root's level counts from 1, and has a node
 pub top-some : (m n level : ℕ) → level ≤ topFrom m n level

@@ -7,16 +7,17 @@ use Prim.Native.Nat.{ℕ, zero, suc, _+_, _-_, _*_, min}
 use lib.Dec.{eqb, ltb}
 use lib.ListN.{length, take, drop, replicate}
 use Rattle.bits.specs.Bits.{digit}
-use Rattle.bits.specs.Piece.{pieceOf, Fits}
+use Rattle.bits.specs.Piece.{Piece}
+use Rattle.bits.specs.PieceLaws.{Fits}
 use Rattle.tree.specs.Tree.{Params, words, blockBits, sequentialBits, outputBits, blocks}
 use Rattle.tree.specs.Count.{levelNodes}
 use Rattle.refusals.specs.declared.Params as declared
 use Rattle.node.specs.Words.{nodeWords, Ready}
 
 -- what the code that works out values is given: what every node needs, and a message that has its bits
-pub record Given (message : List ℕ) (bits : ℕ) (k : List ℕ) (params : declared.Params) (table : List ℕ) : Type 0 where
+pub record Given (message : Piece) (k : List ℕ) (params : declared.Params) (table : List ℕ) : Type 0 where
   pub ready : Ready k params table
-  pub enough : Fits (pieceOf message bits)
+  pub enough : Fits message
 
 -- how many of m things a node takes that stands at an index and takes so many at most
 abbrev pub held : ℕ → ℕ → ℕ → ℕ

@@ -6,10 +6,12 @@ ghost use lib.Dec.{eqb};
 ghost use lib.ListN.{length};
 ghost use Rattle.bits.specs.Bits.{digit};
 ghost use Rattle.tree.specs.Tree.{words, sequentialBits};
-ghost use Rattle.bits.specs.Piece.{pieceOf, pieceBits, Fits};
+ghost use Rattle.bits.specs.Piece.{pieceBits};
+ghost use Rattle.bits.specs.PieceLaws.{spanned, Fits};
 ghost use Rattle.tree.specs.Count.{levelNodes};
 ghost use Rattle.node.specs.Words.{nodeWords, paramsFrom};
 ghost use Rattle.nodes.specs.Value.{Given, messagePart, value, sequentialNodes, sequentialPadding, sequentialWords, chain, rootValue};
+use bits::Span;
 use node::Block;
 use node::Place;
 use refusals::Params;
@@ -19,22 +21,29 @@ pub mod shape; // shape.rt: how many levels a tree has, and how many nodes each
 // The value of a node at level 1: its block is filled with message bits.
 fn leaf(
     message: &[u8],
-    bits: u64,
+    span: Span,
     params: Params,
     k: &[u64],
     table: &[u64],
     index: u64,
     z: u64,
 ) -> [u64; 16]
-    requires { ⌜ Given (now message) bits (now k) params (now table) ⌝ }
-    requires { ⌜ (index < levelNodes bits 1) × (z < 16) ⌝ }
-    ensures { λ r. ⌜ r ≡ value (paramsFrom (now (k .entry)) params) (pieceBits (pieceOf (now (message .entry)) bits)) 1 index z ⌝ }
+    requires { ⌜ Given (spanned (now message) span) (now k) params (now table) ⌝ }
+    requires { ⌜ (index < levelNodes (span .bits) 1) × (z < 16) ⌝ }
+    ensures { λ r. ⌜ r ≡ value (paramsFrom (now (k .entry)) params) (pieceBits (spanned (now (message .entry)) span)) 1 index z ⌝ }
 {
-    let n = shape::taken(Block::BITS, bits, index);
+    let n = shape::taken(Block::BITS, span.bits, index);
     let empty = Block::new();
     let mut block = empty.words;
     let byte = (Block::BYTES * index) as usize;
-    bits::fill(&mut block, 0, message, byte, 0, n as usize);
+    bits::fill(
+        &mut block,
+        0,
+        message,
+        byte,
+        span.start as usize,
+        n as usize,
+    );
     let level = 1;
     let p = Block::BITS - n;
     node::compress_node(params, k, table, Place { level, index, z, p }, &block)
@@ -44,7 +53,7 @@ fn leaf(
 // children, one level below. z is 1 at the root.
 pub fn value(
     message: &[u8],
-    bits: u64,
+    span: Span,
     params: Params,
     k: &[u64],
     table: &[u64],
@@ -52,18 +61,18 @@ pub fn value(
     index: u64,
     z: u64,
 ) -> [u64; 16]
-    requires { ⌜ Given (now message) bits (now k) params (now table) ⌝ }
-    requires { ⌜ (0 < level) × (level < 256) × (index < levelNodes bits level) × (z < 16) ⌝ }
-    ensures { λ r. ⌜ r ≡ value (paramsFrom (now (k .entry)) params) (pieceBits (pieceOf (now (message .entry)) bits)) level index z ⌝ }
+    requires { ⌜ Given (spanned (now message) span) (now k) params (now table) ⌝ }
+    requires { ⌜ (0 < level) × (level < 256) × (index < levelNodes (span .bits) level) × (z < 16) ⌝ }
+    ensures { λ r. ⌜ r ≡ value (paramsFrom (now (k .entry)) params) (pieceBits (spanned (now (message .entry)) span)) level index z ⌝ }
 {
     if level == 1 {
-        return leaf(message, bits, params, k, table, index, z);
+        return leaf(message, span, params, k, table, index, z);
     }
-    let n = shape::taken(4, shape::nodes_at(bits, level - 1), index);
+    let n = shape::taken(4, shape::nodes_at(span.bits, level - 1), index);
     let mut block = [0u64; 64];
     let mut j: u64 = 0;
     while j < n {
-        let child = value(message, bits, params, k, table, level - 1, 4 * index + j, 0);
+        let child = value(message, span, params, k, table, level - 1, 4 * index + j, 0);
         let at = 16 * j as usize;
         words::copy(&mut block, at, &child);
         j += 1;
@@ -73,36 +82,36 @@ pub fn value(
 }
 
 // With L = 0, the 48 words of message bits that a sequential node takes behind the output of the node before it.
-fn message_words(message: &[u8], bits: u64, index: u64) -> [u64; 48]
-    requires { ⌜ Fits (pieceOf (now message) bits) × (index < sequentialNodes 0 bits) ⌝ }
-    ensures { λ r. ⌜ r ≡ words 48 (messagePart sequentialBits (pieceBits (pieceOf (now (message .entry)) bits)) index) ⌝ }
+fn message_words(message: &[u8], span: Span, index: u64) -> [u64; 48]
+    requires { ⌜ Fits (spanned (now message) span) × (index < sequentialNodes 0 (span .bits)) ⌝ }
+    ensures { λ r. ⌜ r ≡ words 48 (messagePart sequentialBits (pieceBits (spanned (now (message .entry)) span)) index) ⌝ }
 {
-    let n = shape::taken(Block::SEQUENTIAL_BITS, bits, index);
+    let n = shape::taken(Block::SEQUENTIAL_BITS, span.bits, index);
     let mut rest = [0u64; 48];
     let byte = (Block::SEQUENTIAL_BYTES * index) as usize;
-    bits::fill(&mut rest, 0, message, byte, 0, n as usize);
+    bits::fill(&mut rest, 0, message, byte, span.start as usize, n as usize);
     rest
 }
 
 // With L above 0, the 48 words that a sequential node takes there: the values of its children, one level below.
 fn child_words(
     message: &[u8],
-    bits: u64,
+    span: Span,
     params: Params,
     k: &[u64],
     table: &[u64],
     index: u64,
 ) -> [u64; 48]
-    requires { ⌜ Given (now message) bits (now k) params (now table) ⌝ }
-    requires { ⌜ (0 < params .limit) × (index < sequentialNodes (params .limit) bits) ⌝ }
-    ensures { λ r. ⌜ r ≡ sequentialWords (paramsFrom (now (k .entry)) params) (params .limit) (pieceBits (pieceOf (now (message .entry)) bits)) index ⌝ }
+    requires { ⌜ Given (spanned (now message) span) (now k) params (now table) ⌝ }
+    requires { ⌜ (0 < params .limit) × (index < sequentialNodes (params .limit) (span .bits)) ⌝ }
+    ensures { λ r. ⌜ r ≡ sequentialWords (paramsFrom (now (k .entry)) params) (params .limit) (pieceBits (spanned (now (message .entry)) span)) index ⌝ }
 {
     let limit = params.limit;
-    let n = shape::taken(3, shape::nodes_at(bits, limit), index);
+    let n = shape::taken(3, shape::nodes_at(span.bits, limit), index);
     let mut rest = [0u64; 48];
     let mut j: u64 = 0;
     while j < n {
-        let child = value(message, bits, params, k, table, limit, 3 * index + j, 0);
+        let child = value(message, span, params, k, table, limit, 3 * index + j, 0);
         let at = 16 * j as usize;
         words::copy(&mut rest, at, &child);
         j += 1;
@@ -113,20 +122,20 @@ fn child_words(
 // The 48 words that the sequential node at an index takes beside the chain.
 fn sequential_words(
     message: &[u8],
-    bits: u64,
+    span: Span,
     params: Params,
     k: &[u64],
     table: &[u64],
     index: u64,
 ) -> [u64; 48]
-    requires { ⌜ Given (now message) bits (now k) params (now table) ⌝ }
-    requires { ⌜ index < sequentialNodes (params .limit) bits ⌝ }
-    ensures { λ r. ⌜ r ≡ sequentialWords (paramsFrom (now (k .entry)) params) (params .limit) (pieceBits (pieceOf (now (message .entry)) bits)) index ⌝ }
+    requires { ⌜ Given (spanned (now message) span) (now k) params (now table) ⌝ }
+    requires { ⌜ index < sequentialNodes (params .limit) (span .bits) ⌝ }
+    ensures { λ r. ⌜ r ≡ sequentialWords (paramsFrom (now (k .entry)) params) (params .limit) (pieceBits (spanned (now (message .entry)) span)) index ⌝ }
 {
     if params.limit == 0 {
-        return message_words(message, bits, index);
+        return message_words(message, span, index);
     }
-    child_words(message, bits, params, k, table, index)
+    child_words(message, span, params, k, table, index)
 }
 
 // The padding bits of the sequential node at an index: the chained words count for nothing.
@@ -143,7 +152,7 @@ fn sequential_padding(limit: u64, bits: u64, index: u64) -> u64
 // The value of the sequential node at an index: the chain, and then its own words.
 fn sequential_value(
     message: &[u8],
-    bits: u64,
+    span: Span,
     params: Params,
     k: &[u64],
     table: &[u64],
@@ -151,13 +160,13 @@ fn sequential_value(
     z: u64,
     before: &[u64],
 ) -> [u64; 16]
-    requires { ⌜ Given (now message) bits (now k) params (now table) ⌝ }
-    requires { ⌜ (index < sequentialNodes (params .limit) bits) × (z < 16) × (length (now before) ≡ 16) ⌝ }
-    ensures { λ r. ⌜ r ≡ nodeWords (paramsFrom (now (k .entry)) params) (params .limit + 1) index z (sequentialPadding (params .limit) bits index) (now (before .entry) ++ sequentialWords (paramsFrom (now (k .entry)) params) (params .limit) (pieceBits (pieceOf (now (message .entry)) bits)) index) ⌝ }
+    requires { ⌜ Given (spanned (now message) span) (now k) params (now table) ⌝ }
+    requires { ⌜ (index < sequentialNodes (params .limit) (span .bits)) × (z < 16) × (length (now before) ≡ 16) ⌝ }
+    ensures { λ r. ⌜ r ≡ nodeWords (paramsFrom (now (k .entry)) params) (params .limit + 1) index z (sequentialPadding (params .limit) (span .bits) index) (now (before .entry) ++ sequentialWords (paramsFrom (now (k .entry)) params) (params .limit) (pieceBits (spanned (now (message .entry)) span)) index) ⌝ }
 {
     let limit = params.limit;
-    let rest = sequential_words(message, bits, params, k, table, index);
-    let p = sequential_padding(limit, bits, index);
+    let rest = sequential_words(message, span, params, k, table, index);
+    let p = sequential_padding(limit, span.bits, index);
     let mut block = [0u64; 64];
     words::copy(&mut block, 0, before);
     words::copy(&mut block, 16, &rest);
@@ -177,16 +186,16 @@ fn last_flag(index: u64, nodes: u64) -> u64
 }
 
 // The value of the sequential level's last node, along the chain.
-fn sequential(message: &[u8], bits: u64, params: Params, k: &[u64], table: &[u64]) -> [u64; 16]
-    requires { ⌜ Given (now message) bits (now k) params (now table) ⌝ }
-    ensures { λ r. ⌜ r ≡ chain (paramsFrom (now (k .entry)) params) (params .limit) (pieceBits (pieceOf (now (message .entry)) bits)) (sequentialNodes (params .limit) bits) ⌝ }
+fn sequential(message: &[u8], span: Span, params: Params, k: &[u64], table: &[u64]) -> [u64; 16]
+    requires { ⌜ Given (spanned (now message) span) (now k) params (now table) ⌝ }
+    ensures { λ r. ⌜ r ≡ chain (paramsFrom (now (k .entry)) params) (params .limit) (pieceBits (spanned (now (message .entry)) span)) (sequentialNodes (params .limit) (span .bits)) ⌝ }
 {
-    let nodes = shape::sequential_nodes(params.limit, bits);
+    let nodes = shape::sequential_nodes(params.limit, span.bits);
     let mut last = [0u64; 16];
     let mut i: u64 = 0;
     while i < nodes {
         let z = last_flag(i, nodes);
-        let next = sequential_value(message, bits, params, k, table, i, z, &last);
+        let next = sequential_value(message, span, params, k, table, i, z, &last);
         last = next;
         i += 1;
     }
@@ -194,14 +203,14 @@ fn sequential(message: &[u8], bits: u64, params: Params, k: &[u64], table: &[u64
 }
 
 // The root's value.
-pub fn root(message: &[u8], bits: u64, params: Params, k: &[u64], table: &[u64]) -> [u64; 16]
-    requires { ⌜ Given (now message) bits (now k) params (now table) ⌝ }
-    ensures { λ r. ⌜ r ≡ rootValue (paramsFrom (now (k .entry)) params) (params .limit) (pieceBits (pieceOf (now (message .entry)) bits)) ⌝ }
+pub fn root(message: &[u8], span: Span, params: Params, k: &[u64], table: &[u64]) -> [u64; 16]
+    requires { ⌜ Given (spanned (now message) span) (now k) params (now table) ⌝ }
+    ensures { λ r. ⌜ r ≡ rootValue (paramsFrom (now (k .entry)) params) (params .limit) (pieceBits (spanned (now (message .entry)) span)) ⌝ }
 {
     let limit = params.limit;
-    let top = shape::top_level(limit, bits);
+    let top = shape::top_level(limit, span.bits);
     if limit < top {
-        return sequential(message, bits, params, k, table);
+        return sequential(message, span, params, k, table);
     }
-    value(message, bits, params, k, table, top, 0, 1)
+    value(message, span, params, k, table, top, 0, 1)
 }

@@ -6,14 +6,14 @@ use mathlib.Core.List.{List, [], _∷_, _++_}
 use Prim.Native.Nat.{ℕ, _+_, _-_, _*_, _/_, _%_, _^_, _≤_, _<_, suc}
 use native.Mathlib.Omega.{arith}
 use lib.ListN.{length, take, drop, set, length-append, take-append-drop}
-use lib.Seq.{sets, take-add, take-all, length-sets, length-take-le}
+use lib.Seq.{sets, take-add, drop-drop, take-all, length-sets, length-take-le}
 use Rattle.lists.specs.Below.{Below}
 use Rattle.lists.specs.BelowLaws.{below-take, below-drop}
 use Rattle.lists.specs.Take.{take-drop-take}
 use Rattle.bits.specs.Bits.{bitsOf, filled}
 use Rattle.bits.specs.FilledLaws.{length-filled}
-use Rattle.bits.specs.Piece.{Piece, pieceBits, Fits}
-use Rattle.bits.specs.PieceLaws.{length-pieceBits}
+use Rattle.bits.specs.Piece.{Piece, pieceBits}
+use Rattle.bits.specs.PieceLaws.{Fits, length-pieceBits}
 use Rattle.tree.specs.Tree.{Params, Node}
 use Rattle.refusals.specs.declared.Params as declared
 use Rattle.calls.specs.Area.{Long, levelWords, levelsUp, levelsOf, withLevels, heldBits}
@@ -79,20 +79,20 @@ module _ {area bytes : List ℕ} {byte bit count : ℕ} (part : Part area bytes 
       let P : Params = paramsFrom key params in
       let limit : ℕ = params .limit in
       let same : P .limit ≡ limit = limit-from key params in
-      let start : ℕ = 8 * byte + bit in
+      let from : ℕ = 8 * byte + bit in
       let ws : List ℕ = levelWords area 1 in
       let place : ℕ = baseOf limit + heldBits (sizeOf limit) T in
       let size : length ws ≡ 64 = length-levelWords area 1 (part .long) (omega arith) in
       let fits : heldBits (sizeOf (P .limit)) T + count ≤ sizeOf (P .limit) = rw same (omega (arith, held-le limit T)) in
-      let e = ap (λ (x : ℕ). withLevel area 1 (filled ws (4096 - x) bytes start count)) f
-      ∙ ap (λ (x : ℕ). withLevel area 1 (filled ws x bytes start count)) (free-place limit T) in
-      let c : fedPart key params T bytes byte bit count area ≡ made (filled ws place bytes start count ∷ levelsUp area 2) [] =
-      ap (feedBits P T (partBits bytes start count)) (levels-split area)
-      ∙ chunk P count T start ws bytes (levelsUp area 2) (below-take 64 (below-drop 16 below)) size fits (part .inside)
+      let e = ap (λ (x : ℕ). withLevel area 1 (filled ws (4096 - x) bytes from count)) f
+      ∙ ap (λ (x : ℕ). withLevel area 1 (filled ws x bytes from count)) (free-place limit T) in
+      let c : fedPart key params T bytes byte bit count area ≡ made (filled ws place bytes from count ∷ levelsUp area 2) [] =
+      ap (feedBits P T (partBits bytes from count)) (levels-split area)
+      ∙ chunk P count T from ws bytes (levelsUp area 2) (below-take 64 (below-drop 16 below)) size fits (part .inside)
       ∙ rw same in
-      let l : length (filled ws place bytes start count) ≡ 64 = length-filled ws place bytes start count ∙ size in
+      let l : length (filled ws place bytes from count) ≡ 64 = length-filled ws place bytes from count ∙ size in
       record {
-        levels = ea ∙ e ∙ sym (with-first area (filled ws place bytes start count) (part .long) l) ∙ sym (ap (λ (x : Made). withLevels area (x .levels)) c);
+        levels = ea ∙ e ∙ sym (with-first area (filled ws place bytes from count) (part .long) l) ∙ sym (ap (λ (x : Made). withLevels area (x .levels)) c);
         logged = sym (ap (λ (x : Made). sets log at (nodeLog (x .nodes))) c);
         next = omega (arith, ap (λ (x : Made). at + 2 * length (x .nodes)) c);
       }
@@ -109,12 +109,12 @@ module _ {key : List ℕ} {params : declared.Params} {table : List ℕ} {T : ℕ
       let P : Params = paramsFrom key params in
       let limit : ℕ = params .limit in
       let same : P .limit ≡ limit = limit-from key params in
-      let start : ℕ = 8 * byte + bit in
+      let from : ℕ = 8 * byte + bit in
       let ws : List ℕ = levelWords area 1 in
       let e : heldBits (sizeOf (P .limit)) T ≡ sizeOf (P .limit) = rw same (omega (arith, held-le limit T)) in
       let m : count ≤ sizeOf (P .limit) = rw same (omega (arith, room-full limit T full, c .most)) in
-      ap (feedBits P T (partBits bytes start count)) (levels-split area)
-      ∙ full-chunk P count T start ws bytes (levelsUp area 2) e (c .some) m (c .part .inside)
+      ap (feedBits P T (partBits bytes from count)) (levels-split area)
+      ∙ full-chunk P count T from ws bytes (levelsUp area 2) e (c .some) m (c .part .inside)
       ∙ rw (same, levels-split area)
 
   pub chunk-room : at + 2 * length (flushedNow key params T area .nodes) ≤ length log
@@ -125,23 +125,23 @@ module _ {key : List ℕ} {params : declared.Params} {table : List ℕ} {T : ℕ
       → Leaves (fedPart key params T bytes byte bit count area) area log at area′ log′ at′
   chunk-full {area₁} F ep ef =
       let base : ℕ = baseOf (params .limit) in
-      let start : ℕ = 8 * byte + bit in
+      let from : ℕ = 8 * byte + bit in
       let up : List (List ℕ) = flushedNow key params T area .levels in
       let long : Long area = c .part .long in
       let e₁ : area₁ ≡ withLevels area up = F .levels ∙ sym (with-up area up) in
-      let ea = ef ∙ ap (λ (x : ℕ). withLevel area₁ 1 (filled (levelWords area₁ 1) x bytes start count)) ep in
+      let ea = ef ∙ ap (λ (x : ℕ). withLevel area₁ 1 (filled (levelWords area₁ 1) x bytes from count)) ep in
       let s = wide-flushed (paramsFrom key params) (params .limit) T (levelsOf area) (wide-levels area long) in
       let back : levelsOf area₁ ≡ up = ap levelsOf e₁ ∙ levelsOf-withLevels area up long (s .widths) (s .size) in
       let both : levelWords area₁ 1 ∷ levelsUp area₁ 2 ≡ up = sym (levels-split area₁) ∙ back in
       let w : levelWords area₁ 1 ≡ firstOf up = ap firstOf both in
       let u : levelsUp area₁ 2 ≡ restOf up = ap restOf both in
       let long₁ : Long area₁ = rw (e₁, length-withLevels area up long (s .widths) (s .size)) long in
-      let new : List ℕ = filled (levelWords area₁ 1) base bytes start count in
-      let l : length new ≡ 64 = length-filled (levelWords area₁ 1) base bytes start count ∙ length-levelWords area₁ 1 long₁ (omega arith) in
-      let L : List (List ℕ) = filled (firstOf up) base bytes start count ∷ restOf up in
+      let new : List ℕ = filled (levelWords area₁ 1) base bytes from count in
+      let l : length new ≡ 64 = length-filled (levelWords area₁ 1) base bytes from count ∙ length-levelWords area₁ 1 long₁ (omega arith) in
+      let L : List (List ℕ) = filled (firstOf up) base bytes from count ∷ restOf up in
       record {
         levels = ea ∙ sym (with-first area₁ new long₁ l)
-            ∙ ap (λ (x : List (List ℕ)). withLevels area₁ (new ∷ x)) u ∙ ap (λ (x : List ℕ). withLevels area₁ (filled x base bytes start count ∷ restOf up)) w
+            ∙ ap (λ (x : List (List ℕ)). withLevels area₁ (new ∷ x)) u ∙ ap (λ (x : List ℕ). withLevels area₁ (filled x base bytes from count ∷ restOf up)) w
             ∙ ap (λ (x : List ℕ). withLevels x L) e₁ ∙ withLevels-again area up L long (s .widths) (s .size)
             ∙ sym (ap (λ (x : Made). withLevels area (x .levels)) full-is);
         logged = F .logged ∙ sym (ap (λ (x : Made). sets log at (nodeLog (x .nodes))) full-is);
@@ -157,12 +157,24 @@ sets-append l at (x ∷ xs) ys = let e : at + suc (length xs) ≡ suc at + lengt
 log-append : (log : List ℕ) (at : ℕ) (ms ns : List Node) → sets log at (nodeLog (ms ++ ns)) ≡ sets (sets log at (nodeLog ms)) (at + 2 * length ms) (nodeLog ns)
 log-append log at ms ns = rw (nodeLog-append ms ns, sets-append log at (nodeLog ms) (nodeLog ns), length-nodeLog ms)
 
+-- the byte and the bit at which a piece goes on after so many of its bits, without the sum of start and count, which may pass 2^64
+abbrev pub byteAfter : Piece → ℕ → ℕ
+byteAfter piece done = done / 8 + (piece .start + done % 8) / 8
+
+abbrev pub bitAfter : Piece → ℕ → ℕ
+bitAfter piece done = (piece .start + done % 8) % 8
+
+place-after : (piece : Piece) (done : ℕ) → 8 * byteAfter piece done + bitAfter piece done ≡ piece .start + done
+place-after piece done = omega arith
+
 -- the next bits of a piece, by byte and bit
 next-bits : (piece : Piece) (done c : ℕ) → done + c ≤ piece .count
-    → partBits (piece .bytes) (8 * (done / 8) + done % 8) c ≡ take c (drop done (pieceBits piece))
+    → partBits (piece .bytes) (8 * byteAfter piece done + bitAfter piece done) c ≡ take c (drop done (pieceBits piece))
 next-bits piece done c h =
-    let e : 8 * (done / 8) + done % 8 ≡ done = omega arith in
-    rw e (sym (take-drop-take (piece .count) done c (bitsOf 8 (piece .bytes)) h))
+    let B : List Bool = bitsOf 8 (piece .bytes) in
+    ap (λ (x : ℕ). take c (drop x B)) (place-after piece done)
+    ∙ ap (take c) (sym (drop-drop done (piece .start) B))
+    ∙ sym (take-drop-take (piece .count) done c (drop (piece .start) B) h)
 
 -- after so many of the bits Y, area and log are those of the definition
 pub record Feeding (P : Params) (T : ℕ) (Y : List Bool) (area₀ log₀ area log : List ℕ) (at done : ℕ) : Type 0 where
@@ -207,7 +219,7 @@ module _ {key : List ℕ} {params : declared.Params} {table : List ℕ} {T : ℕ
 
   -- the next c bits
   abbrev coming : ℕ → Made
-  coming c = fedPart key params (T + done) (piece .bytes) (done / 8) (done % 8) c area
+  coming c = fedPart key params (T + done) (piece .bytes) (byteAfter piece done) (bitAfter piece done) c area
 
   next-is : (c : ℕ) → done + c ≤ piece .count → feedBits P T (take (done + c) Y) (levelsOf area₀) ≡ made (coming c .levels) (before .nodes ++ coming c .nodes)
   next-is c h =
@@ -217,7 +229,7 @@ module _ {key : List ℕ} {params : declared.Params} {table : List ℕ} {T : ℕ
       ∙ rw (length-take-le done Y (f .within), back, next-bits piece done c h)
 
   pub next-chunk : {c : ℕ} → done + c ≤ piece .count → 1 ≤ c → c ≤ roomOf (params .limit) (T + done)
-      → Chunk key params table (T + done) area (piece .bytes) (done / 8) (done % 8) c log at
+      → Chunk key params table (T + done) area (piece .bytes) (byteAfter piece done) (bitAfter piece done) c log at
   next-chunk {c} h some most =
       let A : Made = feedBits P T (take (done + c) Y) (levelsOf area₀) in
       let whole = ap (λ (x : List Bool). length (feedBits P T x (levelsOf area₀) .nodes)) (sym (take-append-drop (done + c) Y))
@@ -226,7 +238,7 @@ module _ {key : List ℕ} {params : declared.Params} {table : List ℕ} {T : ℕ
       let some-nodes = ap (λ (x : Made). length (x .nodes)) (next-is c h) ∙ length-append (before .nodes) (coming c .nodes) in
       record {
         ready = w .ready;
-        part = record { long = longer; low = omega arith; inside = omega (arith, w .bits) };
+        part = record { long = longer; low = omega arith; inside = omega (arith, w .bits .inside, place-after piece done) };
         some = some;
         most = most;
         room = omega (arith, w .room, whole, some-nodes, f .left .next, f .log-length);
@@ -237,7 +249,7 @@ module _ {key : List ℕ} {params : declared.Params} {table : List ℕ} {T : ℕ
   feeding-more c h F =
       let C : Made = coming c in
       let n = next-is c h in
-      let s = wide-bits P (T + done) (partBits (piece .bytes) (8 * (done / 8) + done % 8) c) (levelsOf area) (wide-levels area longer) in
+      let s = wide-bits P (T + done) (partBits (piece .bytes) (8 * byteAfter piece done + bitAfter piece done) c) (levelsOf area) (wide-levels area longer) in
       let la = ap length (F .levels) ∙ length-withLevels area (C .levels) longer (s .widths) (s .size) in
       let ll = ap length (F .logged) ∙ length-sets log at (nodeLog (C .nodes)) in
       record {

@@ -8,11 +8,12 @@ use native.Mathlib.Omega.{arith}
 use mir.Syntax.{w64}
 use mir.Val.{Fits}
 use lib.Dec.{ltb}
-use lib.ListN.{length, take, drop, getD}
+use lib.ListN.{length, getD}
 use lib.Seq.{drop-cons}
 use borrow.Author.Tests.{eq-eqb, lt-ltb, le-ltb, ltb-true, ltb-false}
 use Rattle.lists.specs.Below.{Below}
 use Rattle.lists.specs.BelowLaws.{below-append, below-zeros}
+use Rattle.bits.specs.Piece.{pieceOf, pieceBits}
 use Rattle.bits.specs.Bits.{bitsOf, filled}
 use Rattle.bits.specs.BitsLaws.{length-bitsOf, numbers-below}
 use Rattle.bits.specs.FilledLaws.{length-filled, filled-below, filled-more}
@@ -50,23 +51,23 @@ base-size (suc n) = refl
 
 -- ---- bits that fit level 1
 
--- so many bits of a piece's bytes, from a bit on
+-- so many bits of a piece's bytes, from any of their bits on
 abbrev pub partBits : List ℕ → ℕ → ℕ → List Bool
-partBits bytes start count = take count (drop start (bitsOf 8 bytes))
+partBits bytes from count = pieceBits (pieceOf bytes from count)
 
 module _ (P : Params) where
-  pub chunk : (count T start : ℕ) (ws bytes : List ℕ) (up : List (List ℕ)) → Below (2 ^ 64) ws → length ws ≡ 64
-      → heldBits (sizeOf (P .limit)) T + count ≤ sizeOf (P .limit) → start + count ≤ 8 * length bytes
-      → feedBits P T (partBits bytes start count) (ws ∷ up)
-      ≡ made (filled ws (baseOf (P .limit) + heldBits (sizeOf (P .limit)) T) bytes start count ∷ up) []
-  chunk count T start ws bytes up bw lw h g = by (P .limit) refl h
+  pub chunk : (count T from : ℕ) (ws bytes : List ℕ) (up : List (List ℕ)) → Below (2 ^ 64) ws → length ws ≡ 64
+      → heldBits (sizeOf (P .limit)) T + count ≤ sizeOf (P .limit) → from + count ≤ 8 * length bytes
+      → feedBits P T (partBits bytes from count) (ws ∷ up)
+      ≡ made (filled ws (baseOf (P .limit) + heldBits (sizeOf (P .limit)) T) bytes from count ∷ up) []
+  chunk count T from ws bytes up bw lw h g = by (P .limit) refl h
     where
       by : (limit : ℕ) → P .limit ≡ limit → heldBits (sizeOf limit) T + count ≤ sizeOf limit
-          → feedBits P T (partBits bytes start count) (ws ∷ up) ≡ made (filled ws (baseOf limit + heldBits (sizeOf limit) T) bytes start count ∷ up) []
-      by zero e h = fill-sequential P T ws up bytes start count e bw lw h g
+          → feedBits P T (partBits bytes from count) (ws ∷ up) ≡ made (filled ws (baseOf limit + heldBits (sizeOf limit) T) bytes from count ∷ up) []
+      by zero e h = fill-sequential P T ws up bytes from count e bw lw h g
       by (suc n) e h =
           let z : 0 + heldBits blockBits T ≡ heldBits blockBits T = omega arith in
-          fill-parallel P n T ws up bytes start count e bw lw h g ∙ ap (λ (x : ℕ). made (filled ws x bytes start count ∷ up) []) (sym z)
+          fill-parallel P n T ws up bytes from count e bw lw h g ∙ ap (λ (x : ℕ). made (filled ws x bytes from count ∷ up) []) (sym z)
 
 -- ---- a full level 1
 
@@ -79,14 +80,14 @@ restOf [] = []
 restOf (ws ∷ up) = up
 
 -- the bits of a piece, one and the rest
-bits-cons : (bytes : List ℕ) (start c : ℕ) → start < 8 * length bytes
-    → partBits bytes start (suc c) ≡ getD (bitsOf 8 bytes) start false ∷ partBits bytes (suc start) c
-bits-cons bytes start c h = rw (drop-cons (bitsOf 8 bytes) start false (rw length-bitsOf (omega arith)))
+bits-cons : (bytes : List ℕ) (from c : ℕ) → from < 8 * length bytes
+    → partBits bytes from (suc c) ≡ getD (bitsOf 8 bytes) from false ∷ partBits bytes (suc from) c
+bits-cons bytes from c h = rw (drop-cons (bitsOf 8 bytes) from false (rw length-bitsOf (omega arith)))
 
 -- a bit set in words is a bit copied into them
-bit-filled : (ws : List ℕ) (h : ℕ) (bytes : List ℕ) (start : ℕ) → Below (2 ^ 64) ws → h < 64 * length ws → start < 8 * length bytes
-    → withBit h (getD (bitsOf 8 bytes) start false) ws ≡ filled ws h bytes start 1
-bit-filled ws h bytes start b hw hs = rw (bits-cons bytes start 0 hs) at (withBits-filled ws h bytes start 1 b (omega arith) (omega arith))
+bit-filled : (ws : List ℕ) (h : ℕ) (bytes : List ℕ) (from : ℕ) → Below (2 ^ 64) ws → h < 64 * length ws → from < 8 * length bytes
+    → withBit h (getD (bitsOf 8 bytes) from false) ws ≡ filled ws h bytes from 1
+bit-filled ws h bytes from b hw hs = rw (bits-cons bytes from 0 hs) at (withBits-filled ws h bytes from 1 b (omega arith) (omega arith))
 
 first-size : (P : Params) (limit T : ℕ) (ws : List ℕ) (up : List (List ℕ)) → length (firstOf (flushed P limit T (ws ∷ up) .levels)) ≡ 64
 first-size P zero T ws up = length-chained P (node P 1 (doneBlocks sequentialBits T) 0 0 ws)
@@ -111,34 +112,34 @@ module _ (P : Params) where
       by (suc n) h = Machine.feed-par-yes P n T b ws up (eq-eqb (heldBits blockBits T) blockBits h)
 
   -- bits that come to a full level 1 and fit the next block
-  pub full-chunk : (count T start : ℕ) (ws bytes : List ℕ) (up : List (List ℕ)) → heldBits (sizeOf (P .limit)) T ≡ sizeOf (P .limit) → 1 ≤ count
-      → count ≤ sizeOf (P .limit) → start + count ≤ 8 * length bytes
-      → feedBits P T (partBits bytes start count) (ws ∷ up)
-      ≡ (let F : Made = flushed P (P .limit) T (ws ∷ up) in made (filled (firstOf (F .levels)) (baseOf (P .limit)) bytes start count ∷ restOf (F .levels)) (F .nodes))
-  full-chunk zero T start ws bytes up e l h g = absurd (omega arith)
-  full-chunk (suc c) T start ws bytes up e l h g =
+  pub full-chunk : (count T from : ℕ) (ws bytes : List ℕ) (up : List (List ℕ)) → heldBits (sizeOf (P .limit)) T ≡ sizeOf (P .limit) → 1 ≤ count
+      → count ≤ sizeOf (P .limit) → from + count ≤ 8 * length bytes
+      → feedBits P T (partBits bytes from count) (ws ∷ up)
+      ≡ (let F : Made = flushed P (P .limit) T (ws ∷ up) in made (filled (firstOf (F .levels)) (baseOf (P .limit)) bytes from count ∷ restOf (F .levels)) (F .nodes))
+  full-chunk zero T from ws bytes up e l h g = absurd (omega arith)
+  full-chunk (suc c) T from ws bytes up e l h g =
       let F : Made = flushed P (P .limit) T (ws ∷ up) in
       let W : List ℕ = firstOf (F .levels) in
       let S : ℕ = sizeOf (P .limit) in
       let at : ℕ = baseOf (P .limit) in
-      let b : Bool = getD (bitsOf 8 bytes) start false in
-      let bs : List Bool = partBits bytes (suc start) c in
+      let b : Bool = getD (bitsOf 8 bytes) from false in
+      let bs : List Bool = partBits bytes (suc from) c in
       let room : at + S ≡ blockBits = base-size (P .limit) in
       let lw : length W ≡ 64 = first-size P (P .limit) T ws up in
-      let one : withBit at b W ≡ filled W at bytes start 1 = bit-filled W at bytes start (first-below P (P .limit) T ws up) (omega arith) (omega arith) in
-      let full : feedBit P (P .limit) T b (ws ∷ up) ≡ made (filled W at bytes start 1 ∷ restOf (F .levels)) (F .nodes) =
+      let one : withBit at b W ≡ filled W at bytes from 1 = bit-filled W at bytes from (first-below P (P .limit) T ws up) (omega arith) (omega arith) in
+      let full : feedBit P (P .limit) T b (ws ∷ up) ≡ made (filled W at bytes from 1 ∷ restOf (F .levels)) (F .nodes) =
       bit-full T b ws up e ∙ ap (λ (x : List ℕ). made (x ∷ restOf (F .levels)) (F .nodes)) one in
       let next : heldBits S (suc T) ≡ 1 = held-first S (size-pos (P .limit) .0) T e in
-      let q : suc start ≡ start + 1 = omega arith in
+      let q : suc from ≡ from + 1 = omega arith in
       let p : at + heldBits S (suc T) ≡ at + 1 = omega arith in
       let t : 1 + c ≡ suc c = omega arith in
-      let lf : length (filled W at bytes start 1) ≡ 64 = length-filled W at bytes start 1 ∙ lw in
-      let rest = chunk P c (suc T) (suc start) (filled W at bytes start 1) bytes (restOf (F .levels)) (filled-below W at bytes start 1) lf (omega arith) (omega arith) in
-      let more : filled (filled W at bytes start 1) (at + heldBits S (suc T)) bytes (suc start) c ≡ filled W at bytes start (suc c) =
-      rw (p, q) (filled-more W at bytes start 1 c (omega arith) (omega arith)) ∙ ap (filled W at bytes start) t in
-      ap (λ (x : List Bool). feedBits P T x (ws ∷ up)) (bits-cons bytes start c (omega arith))
+      let lf : length (filled W at bytes from 1) ≡ 64 = length-filled W at bytes from 1 ∙ lw in
+      let rest = chunk P c (suc T) (suc from) (filled W at bytes from 1) bytes (restOf (F .levels)) (filled-below W at bytes from 1) lf (omega arith) (omega arith) in
+      let more : filled (filled W at bytes from 1) (at + heldBits S (suc T)) bytes (suc from) c ≡ filled W at bytes from (suc c) =
+      rw (p, q) (filled-more W at bytes from 1 c (omega arith) (omega arith)) ∙ ap (filled W at bytes from) t in
+      ap (λ (x : List Bool). feedBits P T x (ws ∷ up)) (bits-cons bytes from c (omega arith))
       ∙ Machine.feedBits-more P T b bs (ws ∷ up)
-      ∙ rw (full, rest, more) (ap (made (filled W at bytes start (suc c) ∷ restOf (F .levels))) (append-nil (F .nodes)))
+      ∙ rw (full, rest, more) (ap (made (filled W at bytes from (suc c) ∷ restOf (F .levels))) (append-nil (F .nodes)))
 
 -- ---- as the code does it
 
@@ -195,6 +196,3 @@ less-left h g = omega arith
 
 pub fits-sum : (total : ℕ) {all done : ℕ} → total + all < 2 ^ 64 → done < all → Fits w64 (total + done)
 fits-sum total h g = record { fits = omega arith }
-
-pub fits-le : {a b : ℕ} → a ≤ b → Fits w64 b → Fits w64 a
-fits-le h g = record { fits = omega (arith, g .fits) }

@@ -9,8 +9,8 @@ use lib.Seq.{paste, length-take-le, take-all}
 use Rattle.bits.specs.Piece.{Piece, pieceBits}
 use Rattle.bits.specs.PieceLaws.{length-pieceBits}
 use Rattle.tree.specs.Tree.{blockBits}
-use Rattle.calls.specs.Area.{Long, totalOf, kOf, compressionsOf, paramsOf, withLevels, doneBlocks, openCount, areaWords}
-use Rattle.calls.specs.Calls.{Made, fedBits, fedArea, logged}
+use Rattle.calls.specs.Area.{Long, totalOf, kOf, compressionsOf, paramsOf, levelsOf, withLevels, doneBlocks, openCount, areaWords}
+use Rattle.calls.specs.Calls.{Made, feedBits, fedBits, fedArea, logged}
 use Rattle.calls.specs.CallLaws.{FeedPassed}
 use Rattle.calls.specs.WriteLaws.{set-withLevels}
 use Rattle.area.specs.CountLaws.{openAbove-le}
@@ -18,7 +18,8 @@ use Rattle.node.specs.Words.{paramsFrom}
 use Rattle.climb.specs.ReceiveLaws.{log-written}
 use Rattle.climb.specs.OpenArea.{OpenArea, numbered, open-done, limit-read}
 use Rattle.calls.specs.Accepts.{fed-count}
-use Rattle.piece.specs.ChunkLaws.{Part, fedWhole, Leaves}
+use Rattle.piece.specs.FeedSteps.{partBits}
+use Rattle.piece.specs.ChunkLaws.{Part, fedPart, fedWhole, Leaves}
 
 -- the nodes that n bits make, and those made before
 pub made-count : {area : List ℕ} → OpenArea area → (n : ℕ) (Y : List Bool) → length Y ≡ n → totalOf area + n < 2 ^ 64
@@ -41,9 +42,17 @@ pub fed-read : (area : List ℕ) (piece : Piece)
 unfolding fedBits paramsFrom paramsOf
 fed-read area piece = refl
 
--- the whole piece, from its first bit on
-pub whole-part : {area log : List ℕ} {piece : Piece} → FeedPassed area piece log → Part area (piece .bytes) 0 0 (piece .count)
-whole-part p = record { long = p .opened .long; low = omega arith; inside = omega (arith, p .bits) }
+-- and so are its bits from byte 0 and its start bit on
+pub fed-start : (area : List ℕ) (piece : Piece)
+    → fedPart (kOf area) (numbered area) (totalOf area) (piece .bytes) 0 (piece .start) (piece .count) area ≡ fedBits area (pieceBits piece)
+fed-start area piece =
+    let e : 8 * 0 + piece .start ≡ piece .start = omega arith in
+    ap (λ (x : ℕ). feedBits (paramsFrom (kOf area) (numbered area)) (totalOf area) (partBits (piece .bytes) x (piece .count)) (levelsOf area)) e
+    ∙ fed-read area piece
+
+-- the whole piece, from its start bit on
+pub whole-part : {area log : List ℕ} {piece : Piece} → FeedPassed area piece log → Part area (piece .bytes) 0 (piece .start) (piece .count)
+whole-part p = record { long = p .opened .long; low = omega (arith, p .bits .low); inside = omega (arith, p .bits .inside) }
 
 -- ---- what it leaves
 

@@ -2,13 +2,14 @@
 ghost use mathlib.Core.Path.{_≡_};
 ghost use Prim.Native.Nat.{_+_, _*_, _≤_, min};
 ghost use Rattle.bits.specs.Bits.{filled};
-ghost use Rattle.bits.specs.Piece.{pieceOf};
+ghost use Rattle.bits.specs.PieceLaws.{spanned};
 ghost use Rattle.calls.specs.Area.{levelWords};
 ghost use Rattle.climb.specs.Levels.{withLevel};
 ghost use Rattle.piece.specs.FeedSteps.{sizeOf, freeOf, roomOf};
 ghost use Rattle.piece.specs.ChunkLaws.{Part, fedPart, Chunk, fedWhole, Whole, Leaves};
 use area::Area;
 use area::count;
+use bits::Span;
 use node::Block;
 use refusals::Params;
 
@@ -92,18 +93,20 @@ pub fn feed_bits(
     table: &[u64],
     total: u64,
     piece: &[u8],
-    bits: u64,
+    span: Span,
     log: &mut [u64],
 ) -> usize
-    requires { ⌜ Whole (now key) params (now table) total (now area) (pieceOf (now piece) bits) (now log) ⌝ }
-    ensures { λ r. ⌜ Leaves (fedWhole (now (key .entry)) params total (pieceOf (now (piece .entry)) bits) (now (area .entry))) (now (area .entry)) (now (log .entry)) 0 (now (area .exit)) (now (log .exit)) r ⌝ }
+    requires { ⌜ Whole (now key) params (now table) total (now area) (spanned (now piece) span) (now log) ⌝ }
+    ensures { λ r. ⌜ Leaves (fedWhole (now (key .entry)) params total (spanned (now (piece .entry)) span) (now (area .entry))) (now (area .entry)) (now (log .entry)) 0 (now (area .exit)) (now (log .exit)) r ⌝ }
 {
     let mut done: u64 = 0;
     let mut at: usize = 0;
-    while done < bits {
+    while done < span.bits {
         let room = room_of(params.limit, total + done);
-        let left = bits - done;
+        let left = span.bits - done;
         let count = less(room, left);
+        // from byte done / 8 on; start and done are not added, as their sum may pass 2^64
+        let past = span.start + done % 8;
         at = feed_chunk(
             area,
             params,
@@ -111,8 +114,8 @@ pub fn feed_bits(
             table,
             total + done,
             piece,
-            (done / 8) as usize,
-            (done % 8) as usize,
+            (done / 8 + past / 8) as usize,
+            (past % 8) as usize,
             count,
             log,
             at,

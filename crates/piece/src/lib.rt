@@ -1,10 +1,12 @@
 // A piece fed to an area that takes it.
-ghost use Rattle.bits.specs.Piece.{pieceOf, pieceBits};
+ghost use Rattle.bits.specs.Piece.{pieceBits};
+ghost use Rattle.bits.specs.PieceLaws.{spanned};
 ghost use Rattle.calls.specs.Calls.{fedBits};
 ghost use Rattle.calls.specs.CallLaws.{FeedPassed};
 ghost use Rattle.piece.specs.ChunkLaws.{Leaves};
 ghost use Rattle.piece.specs.PieceLaws.{FedPiece};
 use area::Area;
+use bits::Span;
 use node::Block;
 use refusals::Params;
 
@@ -12,42 +14,49 @@ mod chunk; // chunk.rt: the bits of a piece, as many at a time as level 1 takes
 
 // Feeds a piece that nodes are made of, and answers how many words of the log were written. K and the round constants are
 // copied once.
-fn feed_nodes(area: &mut [u64], piece: &[u8], bits: u64, log: &mut [u64]) -> usize
-    requires { ⌜ FeedPassed (now area) (pieceOf (now piece) bits) (now log) ⌝ }
-    ensures { λ r. ⌜ Leaves (fedBits (now (area .entry)) (pieceBits (pieceOf (now (piece .entry)) bits))) (now (area .entry)) (now (log .entry)) 0 (now (area .exit)) (now (log .exit)) r ⌝ }
+fn feed_nodes(area: &mut [u64], piece: &[u8], span: Span, log: &mut [u64]) -> usize
+    requires { ⌜ FeedPassed (now area) (spanned (now piece) span) (now log) ⌝ }
+    ensures { λ r. ⌜ Leaves (fedBits (now (area .entry)) (pieceBits (spanned (now (piece .entry)) span))) (now (area .entry)) (now (log .entry)) 0 (now (area .exit)) (now (log .exit)) r ⌝ }
 {
     let params = Area::params(area);
     let total = area[Area::TOTAL];
     let mut key = [0u64; 8];
     words::copy(&mut key, 0, &area[Area::KEY..Area::KEY_END]);
     let table = compress::round_constants();
-    chunk::feed_bits(area, params, &key, &table, total, piece, bits, log)
+    chunk::feed_bits(area, params, &key, &table, total, piece, span, log)
 }
 
 // Feeds a piece to the levels, and answers how many words of the log were written. Bits that level 1 takes before a node is made
 // are only copied into it.
-fn feed_levels(area: &mut [u64], piece: &[u8], bits: u64, log: &mut [u64]) -> usize
-    requires { ⌜ FeedPassed (now area) (pieceOf (now piece) bits) (now log) ⌝ }
-    ensures { λ r. ⌜ Leaves (fedBits (now (area .entry)) (pieceBits (pieceOf (now (piece .entry)) bits))) (now (area .entry)) (now (log .entry)) 0 (now (area .exit)) (now (log .exit)) r ⌝ }
+fn feed_levels(area: &mut [u64], piece: &[u8], span: Span, log: &mut [u64]) -> usize
+    requires { ⌜ FeedPassed (now area) (spanned (now piece) span) (now log) ⌝ }
+    ensures { λ r. ⌜ Leaves (fedBits (now (area .entry)) (pieceBits (spanned (now (piece .entry)) span))) (now (area .entry)) (now (log .entry)) 0 (now (area .exit)) (now (log .exit)) r ⌝ }
 {
     let free = chunk::free_of(area[Area::LIMIT], area[Area::TOTAL]);
-    if free < bits {
-        return feed_nodes(area, piece, bits, log);
+    if free < span.bits {
+        return feed_nodes(area, piece, span, log);
     }
-    chunk::fill_level(area, Block::BITS - free, piece, 0, 0, bits);
+    chunk::fill_level(
+        area,
+        Block::BITS - free,
+        piece,
+        0,
+        span.start as usize,
+        span.bits,
+    );
     0
 }
 
 // Feeds a piece, and answers how many nodes were made.
-pub fn feed_piece(area: &mut [u64], piece: &[u8], bits: u64, log: &mut [u64]) -> u64
-    requires { ⌜ FeedPassed (now area) (pieceOf (now piece) bits) (now log) ⌝ }
-    ensures { λ r. ⌜ FedPiece (now (area .entry)) (pieceOf (now (piece .entry)) bits) (now (log .entry)) (now (area .exit)) (now (log .exit)) r ⌝ }
+pub fn feed_piece(area: &mut [u64], piece: &[u8], span: Span, log: &mut [u64]) -> u64
+    requires { ⌜ FeedPassed (now area) (spanned (now piece) span) (now log) ⌝ }
+    ensures { λ r. ⌜ FedPiece (now (area .entry)) (spanned (now (piece .entry)) span) (now (log .entry)) (now (area .exit)) (now (log .exit)) r ⌝ }
 {
     let total = area[Area::TOTAL];
     let before = area[Area::DONE];
-    let written = feed_levels(area, piece, bits, log);
+    let written = feed_levels(area, piece, span, log);
     let made = (written / 2) as u64;
-    area[Area::TOTAL] = total + bits;
+    area[Area::TOTAL] = total + span.bits;
     area[Area::DONE] = before + made;
     made
 }

@@ -44,7 +44,7 @@ refuse line area text = record { program = record { phase = IsRefused; line = li
 
 -- "the message in whole bytes": all bits of bytes that were read
 abbrev pub allBits : List ℕ → Piece
-allBits bytes = pieceOf bytes (8 * length bytes)
+allBits bytes = pieceOf bytes 0 (8 * length bytes)
 
 -- bytes of the message: fed, and a line for each node made
 unfoldable pub fedStep : State → List ℕ → List ℕ → Step

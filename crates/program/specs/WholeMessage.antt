@@ -100,7 +100,7 @@ module _ {P : Params} {M : List Bool} {area : List ℕ} (s : Stands P M area) wh
             ≡ cond (ltb (length emptyLog) (2 * length (fedBits area (pieceBits (allBits bytes)) .nodes))) 8 0
         first =
             feed-tests s (allBits bytes) emptyLog
-            ∙ rw (le-ltb (8 * length bytes) (8 * length bytes) (omega arith), le-ltb (2 ^ 64 - 1) (length M + 8 * length bytes) (omega arith))
+            ∙ rw (le-ltb (8 * length bytes) (0 + 8 * length bytes) (omega arith), le-ltb (2 ^ 64 - 1) (length M + 8 * length bytes) (omega arith))
 
     read-step : (line : State) → ReadDone P M bytes line (fedStep line area bytes)
     unfolding fedStep

@@ -19,7 +19,7 @@ pub fn feed(line: State, bytes: &[u8], area: &mut [u64], out: &mut [u8]) -> Take
     ensures { λ r. ⌜ record { program = r .program; count = r .count; area = now (area .exit); out = now (out .exit) } ≡ tookOf (fedStep line (now (area .entry)) (now (bytes .entry))) (now (out .entry)) ⌝ }
 {
     let mut log = [0u64; LOG];
-    let answer = stream::feed(area, bytes, 8 * bytes.len() as u64, &mut log);
+    let answer = stream::feed(area, bytes, 0, 8 * bytes.len() as u64, &mut log);
     if answer.number != 0 {
         let count = put::refused_number(out, answer.number);
         return Taken {

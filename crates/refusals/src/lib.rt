@@ -1,9 +1,10 @@
-// The parameters of a tree with their ranges, what a call answers, and the numbers that refuse parameters and bit counts.
+// The parameters of a tree with their ranges, what a call answers, and the numbers that refuse parameters and bits.
 ghost use mathlib.Core.Path.{_≡_};
-ghost use Prim.Native.Nat.{_*_};
-ghost use lib.Dec.{ltb};
+ghost use Rattle.bits.specs.Piece.{refusedBits};
+ghost use Rattle.bits.specs.PieceLaws.{spanned};
 ghost use Rattle.tree.specs.Tree.{mostLevels};
 ghost use Rattle.refusals.specs.Refusals.{firstRefusal, sizeTests, rangeTests};
+use bits::Span;
 
 // The parameters of a tree: how many bytes the key has (the report's keylen), the digest size in bits, the height limit and the rounds.
 pub struct Params {
@@ -66,11 +67,15 @@ impl Answer {
     }
 }
 
-// Whether a bit count is over 8 times the bytes given, by division: 8 times the bytes may pass 2^64.
-pub fn bits_over(bits: u64, bytes: u64) -> bool
-    ensures { λ r. ⌜ r ≡ ltb (8 * bytes) bits ⌝ }
+// Whether number 5 refuses a piece: its start bit is above 7, or start and count together pass the bytes' bits. By division: their
+// sum, and 8 times the bytes, may pass 2^64.
+pub fn refused_bits(bytes: &[u8], span: Span) -> bool
+    ensures { λ r. ⌜ r ≡ refusedBits (spanned (now (bytes .entry)) span) ⌝ }
 {
-    bytes < bits / 8 + (bits % 8 + 7) / 8
+    if Span::MOST_START < span.start {
+        return true;
+    }
+    (bytes.len() as u64) < span.bits / 8 + (span.start + span.bits % 8 + 7) / 8
 }
 
 // The number that refuses the sizes of digest and key, and otherwise 0: 1 for a digest size that is not 1 to 512, then 2 for a

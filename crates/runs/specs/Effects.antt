@@ -77,13 +77,13 @@ module _ (P : Params) (M : List Bool) (area : List ℕ) (text : Option (List ℕ
 
   -- ---- one lemma a call
 
-  feed-step : {e : Bool} (piece : Piece) (log : List ℕ) (b : Bytes (piece .bytes)) (s : piece .count < 2 ^ 64) (w : Words log) → At P M area e
-      → Step P M area e text (feed piece log b s w)
+  feed-step : {e : Bool} (piece : Piece) (log : List ℕ) (b : Bytes (piece .bytes)) (t : piece .start < 2 ^ 64) (s : piece .count < 2 ^ 64) (w : Words log) → At P M area e
+      → Step P M area e text (feed piece log b t s w)
   unfolding outcomeOf
-  feed-step piece log b s w at = by (feedNumber area piece log) refl at
+  feed-step piece log b t s w at = by (feedNumber area piece log) refl at
     where
       c : Call
-      c = feed piece log b s w
+      c = feed piece log b t s w
 
       f : Fed
       f = feedOf area piece log
@@ -218,7 +218,7 @@ module _ (P : Params) (M : List Bool) (area : List ℕ) (text : Option (List ℕ
 
   -- every call has an effect
   pub step : {e : Bool} (c : Call) → At P M area e → Allowed text (roleOf c (outcomeOf area c)) → Step P M area e text c
-  step (feed piece log b s w) at a = feed-step piece log b s w at
+  step (feed piece log b t s w) at a = feed-step piece log b t s w at
   step (end out log b w) at a = end-step out log b w at
   step (show level) at a = show-step level
   step (logWords bits s) at a = logWords-step bits s

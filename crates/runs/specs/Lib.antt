@@ -7,7 +7,3 @@ pub mod Statements
 pub mod Demand3
 pub mod Table
 pub mod Corollaries
-pub mod RunTest
-pub mod WorkedRun
-pub mod RunExamples
-pub mod RefusalExamples

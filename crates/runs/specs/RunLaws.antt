@@ -30,10 +30,10 @@ module _ (area : List ℕ) (text : Option (List ℕ)) where
   unfolding roleOf outcomeOf
   read-once x b e = rw e refl
 
-  pub feed-ends : (piece : Piece) (log : List ℕ) (b : Bytes (piece .bytes)) (s : piece .count < 2 ^ 64) (w : Words log) → feedOf area piece log .number ≡ 0
-      → suspended text (roleOf (feed piece log b s w) (outcomeOf area (feed piece log b s w))) ≡ none
+  pub feed-ends : (piece : Piece) (log : List ℕ) (b : Bytes (piece .bytes)) (t : piece .start < 2 ^ 64) (s : piece .count < 2 ^ 64) (w : Words log) → feedOf area piece log .number ≡ 0
+      → suspended text (roleOf (feed piece log b t s w) (outcomeOf area (feed piece log b t s w))) ≡ none
   unfolding roleOf outcomeOf
-  feed-ends piece log b s w e = rw e refl
+  feed-ends piece log b t s w e = rw e refl
 
   pub logWords-ends : (bits : ℕ) (s : bits < 2 ^ 64) → logWordsOf area bits .number ≡ 0
       → suspended text (roleOf (logWords bits s) (outcomeOf area (logWords bits s))) ≡ none

@@ -1,4 +1,4 @@
--- Definitions: runs. Document 01, "Runs", and document 02, M-103: a list of calls on one stream, from an accepted open on, and its message,
+-- Definitions: runs. Document 01, "Runs", and document 02, M-103 and M-104: a list of calls on one stream, from an accepted open on, and its message,
 -- log, count and digest.
 -- Each call answers by the definition that the contract of its function is an equation with.
 use mathlib.Core.Path.{_≡_}
@@ -24,10 +24,10 @@ Words = Below (2 ^ 64)
 -- ---- calls and their outcomes
 
 -- "Then come, in any order and number, feed, end, show a level, write and read, and open where it is refused"; document 02, M-103, of
--- log words: "a run may have it too". A call with its arguments and all that is lent to it but the stream's area; "a read may get
--- another area, of any contents"
+-- log words: "a run may have it too"; M-104: a fed piece has its start bit. A call with its arguments and all that is lent to it but
+-- the stream's area; "a read may get another area, of any contents"
 pub data Call : Type 0 where
-  feed : (piece : Piece) (log : List ℕ) → Bytes (piece .bytes) → piece .count < 2 ^ 64 → Words log → Call
+  feed : (piece : Piece) (log : List ℕ) → Bytes (piece .bytes) → piece .start < 2 ^ 64 → piece .count < 2 ^ 64 → Words log → Call
   end : (digest log : List ℕ) → Bytes digest → Words log → Call
   show : (level : ℕ) → Call
   logWords : (bits : ℕ) → bits < 2 ^ 64 → Call
@@ -52,7 +52,7 @@ unless (suc n) refused accepted = refused
 -- a call on an area. Showing a level has no number; a refused read into another area leaves the stream where it is, and
 -- "once it is accepted the next call gets that one".
 unfoldable pub outcomeOf : List ℕ → Call → Outcome
-outcomeOf area (feed piece log _ _ _) =
+outcomeOf area (feed piece log _ _ _ _) =
     let f : Fed = feedOf area piece log in
     record { number = f .number; count = f .count; area = f .area; log = f .log; output = [] }
 outcomeOf area (end digest log _ _) =
@@ -89,7 +89,7 @@ pub data Role : Type 0 where
 -- of an accepted call: which of them may stand inside a suspension is said here alone, by the letter refused calls and shown levels;
 -- a write's text is the first c bytes of its output, c its count
 abbrev pub acceptedRole : Call → Outcome → Role
-acceptedRole (feed piece log _ _ _) o = outside
+acceptedRole (feed piece log _ _ _ _) o = outside
 acceptedRole (end digest log _ _) o = outside
 acceptedRole (show level) o = between
 acceptedRole (logWords bits _) o = outside
@@ -167,7 +167,7 @@ nothing = record { bits = []; log = []; count = 0; output = none }
 -- feeds and end: of each the first 2c words as the call left them, c being the count it returned."; told words are no part of the
 -- run's count
 abbrev pub acceptedShare : Call → Outcome → Share
-acceptedShare (feed piece log _ _ _) o =
+acceptedShare (feed piece log _ _ _ _) o =
     record { bits = pieceBits piece; log = take (2 * o .count) (o .log); count = o .count; output = none }
 acceptedShare (end digest log _ _) o =
     record { bits = []; log = take (2 * o .count) (o .log); count = o .count; output = some (o .output) }

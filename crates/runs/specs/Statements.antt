@@ -1,20 +1,20 @@
 -- Definitions: what is said of every run (`Demand3`, `Table`) and of two runs that both ended (`Same`), and the functions that
--- these statements use. Their theorems are `demand3`, `table`, `same-runs` and `run-collision`.
+-- these statements use. Their theorems are `demand3`, `table`, `same-runs`, `same-cuts` and `run-collision`.
 use mathlib.Core.Path.{_≡_}
 use mathlib.Core.Bool.{Bool, true, false, not}
 use mathlib.Core.Logic.{_⊎_}
 use mathlib.Core.Option.{Option, none, some}
 use mathlib.Core.List.{List, [], _∷_, _++_}
-use Prim.Native.Nat.{ℕ, _+_, _-_, _*_, _^_, _≤_, _<_}
+use Prim.Native.Nat.{ℕ, _-_, _*_, _^_, _≤_, _<_}
 use lib.ListN.{length}
-use Rattle.bits.specs.Piece.{Piece, pieceBits}
+use Rattle.bits.specs.Piece.{Piece, pieceBits, firstPart, secondPart}
 use Rattle.tree.specs.Tree.{Params, Valid, Node, Mark, mostLevels, order, digest}
 use Rattle.refusals.specs.Refusals.{firstRefusal, paramTests, outputTest}
 use Rattle.calls.specs.Area.{areaWords, phaseOf, totalOf, paramsOf, levelWords, sound}
 use Rattle.calls.specs.Calls.{nodeLog, shortTest, totalTest, openOf, feedTests, feedOf, endTests, endOf, levelOf, logWordsOf}
 use Rattle.calls.specs.Marks.{allNodes, settled}
 use Rattle.text.specs.Text.{textOf, writeOf, readable, readOf}
-use Rattle.runs.specs.Runs.{Run, areaOf, messageOf, logOf, countOf, outputOf, digestIn}
+use Rattle.runs.specs.Runs.{Call, feed, end, show, logWords, write, read, readInto, reopen, unless, Run, Answered, answersOf, areaOf, messageOf, logOf, countOf, outputOf, digestIn}
 
 -- ---- demand 3
 
@@ -114,3 +114,35 @@ pub record Same (a b : Run) (e : EndedRun a) (f : EndedRun b) : Type 0 where
   pub count : countOf a ≡ countOf b
   pub log : logOf a ≡ logOf b
   pub digest : digestOf a e ≡ digestOf b f
+
+-- ---- cuts
+
+-- the pieces of a run's accepted feeds, in order; `message-pieces` says that its message is their bits, joined
+abbrev pub pieceIn : Call → List Piece
+pieceIn (feed piece log _ _ _ _) = piece ∷ []
+pieceIn (end digest log _ _) = []
+pieceIn (show level) = []
+pieceIn (logWords bits _) = []
+pieceIn (write text _) = []
+pieceIn (read text _) = []
+pieceIn (readInto other text _ _) = []
+pieceIn (reopen P _) = []
+
+unfoldable pub piecesIn : List Answered → List Piece
+piecesIn [] = []
+piecesIn (a ∷ later) = unless (a .outcome .number) [] (pieceIn (a .call)) ++ piecesIn later
+
+abbrev pub piecesOf : Run → List Piece
+piecesOf r = piecesIn (answersOf r)
+
+-- the bits of pieces, joined
+abbrev pub joinedBits : List Piece → List Bool
+joinedBits [] = []
+joinedBits (piece ∷ later) = pieceBits piece ++ joinedBits later
+
+-- document 02, M-104: "Cuts within a byte fall under the cutting rule as others do": one list of pieces is another in which pieces are
+-- cut in two, one after the other, each after any number of its bits and the second part beginning in the byte where the first ended
+pub data CutFrom (pieces : List Piece) : List Piece → Type 0 where
+  uncut : CutFrom pieces pieces
+  cut : (before : List Piece) (piece : Piece) (after : List Piece) (m : ℕ) → m ≤ piece .count → CutFrom pieces (before ++ (piece ∷ after))
+      → CutFrom pieces (before ++ (firstPart piece m ∷ secondPart piece m ∷ after))

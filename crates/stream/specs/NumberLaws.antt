@@ -7,7 +7,7 @@ use Prim.Native.Nat.{ℕ, _+_, _-_, _*_, _^_, _≤_, _<_}
 use native.Mathlib.Omega.{arith}
 use borrow.Author.Tests.{le-ltb}
 use lib.ListN.{length, getD, replicate, length-replicate}
-use Rattle.bits.specs.Piece.{Piece, pieceBits, bitsTest}
+use Rattle.bits.specs.Piece.{Piece, pieceBits, refusedBits}
 use Rattle.tree.specs.Tree.{digestBytes}
 use Rattle.tree.specs.Sizes.{treeNodes}
 use Rattle.refusals.specs.Refusals.{firstRefusal}
@@ -75,10 +75,10 @@ module _ {n : ℕ} (area : List ℕ) (piece : Piece) (log : List ℕ) (e : n ≡
 
 -- the ways that the code takes with an open area
 module _ (area : List ℕ) (piece : Piece) (log : List ℕ) where
-  pub feed-over : bitsTest piece .0 ≡ true → 5 ≡ openFeedNumber area piece log
+  pub feed-over : refusedBits piece ≡ true → 5 ≡ openFeedNumber area piece log
   feed-over b = rw b
 
-  module _ {n : ℕ} (b : bitsTest piece .0 ≡ false) (e : n ≡ firstRefusal (totalTest (totalOf area) (piece .count) ∷ [])) where
+  module _ {n : ℕ} (b : refusedBits piece ≡ false) (e : n ≡ firstRefusal (totalTest (totalOf area) (piece .count) ∷ [])) where
     pub feed-past : (n ≡ 0 → ⊥) → n ≡ openFeedNumber area piece log
     feed-past h =
         let made : ℕ = length (fedBits area (pieceBits piece) .nodes) in

@@ -7,6 +7,7 @@ ghost use lib.ListN.{length};
 ghost use Rattle.calls.specs.Area.{Long, levelStart};
 ghost use Rattle.calls.specs.Calls.{openedArea, openOf, feedOf, shown, levelOf, logWordsOf};
 use area::Area;
+use bits::Span;
 use refusals::Answer;
 use refusals::Params;
 
@@ -81,15 +82,16 @@ pub fn level(area: &[u64], level: u64) -> &[u64]
     Area::level(area, level as usize)
 }
 
-// Feeds the first bits of a piece of bytes, and logs U and V of each node that is made.
-pub fn feed(area: &mut [u64], piece: &[u8], bits: u64, log: &mut [u64]) -> Answer
-    ensures { λ o. ⌜ record { number = o .number; count = o .count; area = now (area .exit); log = now (log .exit) } ≡ feedOf (now (area .entry)) (record { bytes = now (piece .entry); count = bits }) (now (log .entry)) ⌝ }
+// Feeds a piece: `bits` bits of its bytes, from bit `start` of the first byte on. Logs U and V of each node that is made.
+pub fn feed(area: &mut [u64], piece: &[u8], start: u64, bits: u64, log: &mut [u64]) -> Answer
+    ensures { λ o. ⌜ record { number = o .number; count = o .count; area = now (area .exit); log = now (log .exit) } ≡ feedOf (now (area .entry)) (record { bytes = now (piece .entry); start = start; count = bits }) (now (log .entry)) ⌝ }
 {
-    let number = number::feed_number(area, piece, bits, log);
+    let span = Span { start, bits };
+    let number = number::feed_number(area, piece, span, log);
     if number != 0 {
         return Answer::refused(number);
     }
-    let count = piece::feed_piece(area, piece, bits, log);
+    let count = piece::feed_piece(area, piece, span, log);
     Answer::accepted(count)
 }
 

@@ -4,7 +4,7 @@ ghost use mathlib.Core.Path.{_≡_};
 ghost use mathlib.Core.Bool.{false};
 ghost use mathlib.Core.List.{[], _∷_};
 ghost use lib.ListN.{length, replicate};
-ghost use Rattle.bits.specs.Piece.{pieceOf};
+ghost use Rattle.bits.specs.PieceLaws.{spanned};
 ghost use Rattle.refusals.specs.Refusals.{firstRefusal};
 ghost use Rattle.calls.specs.Calls.{openTests, totalTest, logTest, fedBits, closedBy, feedNumber, endNumber, logWordsNumber};
 ghost use Rattle.calls.specs.CallLaws.{LogWordsPassed};
@@ -12,6 +12,7 @@ ghost use Rattle.climb.specs.OpenArea.{OpenArea};
 ghost use Rattle.stream.specs.NumberLaws.{openFeedNumber, openEndNumber};
 use area::Area;
 use area::count;
+use bits::Span;
 
 // 7 for an area that is short or unsound, 10 for one that has ended, and otherwise 0.
 fn area_number(area: &[u64]) -> u64
@@ -58,29 +59,29 @@ pub fn nodes_made(area: &[u64], bits: u64) -> u64
 }
 
 // The number that refuses a feed to an open area, and otherwise 0.
-fn open_feed_number(area: &[u64], piece: &[u8], bits: u64, log: &[u64]) -> u64
+fn open_feed_number(area: &[u64], piece: &[u8], span: Span, log: &[u64]) -> u64
     requires { ⌜ OpenArea (now area) ⌝ }
-    ensures { λ r. ⌜ r ≡ openFeedNumber (now (area .entry)) (pieceOf (now (piece .entry)) bits) (now (log .entry)) ⌝ }
+    ensures { λ r. ⌜ r ≡ openFeedNumber (now (area .entry)) (spanned (now (piece .entry)) span) (now (log .entry)) ⌝ }
 {
-    if refusals::bits_over(bits, piece.len() as u64) {
+    if refusals::refused_bits(piece, span) {
         return 5;
     }
-    let number = total_number(area[Area::TOTAL], bits);
+    let number = total_number(area[Area::TOTAL], span.bits);
     if number != 0 {
         return number;
     }
-    log_number(log, nodes_made(area, bits))
+    log_number(log, nodes_made(area, span.bits))
 }
 
 // The number that refuses a feed, and otherwise 0.
-pub fn feed_number(area: &[u64], piece: &[u8], bits: u64, log: &[u64]) -> u64
-    ensures { λ r. ⌜ r ≡ feedNumber (now (area .entry)) (pieceOf (now (piece .entry)) bits) (now (log .entry)) ⌝ }
+pub fn feed_number(area: &[u64], piece: &[u8], span: Span, log: &[u64]) -> u64
+    ensures { λ r. ⌜ r ≡ feedNumber (now (area .entry)) (spanned (now (piece .entry)) span) (now (log .entry)) ⌝ }
 {
     let number = area_number(area);
     if number != 0 {
         return number;
     }
-    open_feed_number(area, piece, bits, log)
+    open_feed_number(area, piece, span, log)
 }
 
 // The number that refuses the telling of log words, and otherwise 0.

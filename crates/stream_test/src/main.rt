@@ -1,12 +1,38 @@
-// Runs the stream's calls on the rows of document 01's "Reels by hand", fed whole and cut, and on every refusal. A call writes a
-// line: its number, its count, and whether the area, the words past the area and the log past the nodes are as before; then a
-// line U V for each node; an end then writes its output. A telling of log words writes its number, its count and whether the
-// area is as before. tests/stream/expected.py makes the expected lines.
-ghost use Prim.Native.Nat.{_≤_};
+// Runs the stream's calls on the rows of document 01's "Reels by hand", fed whole and cut, on pieces from every start bit on, and
+// on every refusal. A call writes a line: its number, its count, and whether the area, the words past the area and the log past
+// the nodes are as before; then a line U V for each node; an end then writes its output. A telling of log words writes its
+// number, its count and whether the area is as before. Of the many pieces a line is what feed and end answered, and the digest.
+// tests/stream/expected.py makes the expected lines.
+ghost use mathlib.Core.Path.{_≡_};
+ghost use Prim.Native.Nat.{_≤_, _<_};
+ghost use lib.ListN.{length};
 use libc::STDOUT_FILENO;
 
 // What lent words hold before a call that does not need them.
 const FILL: u64 = 0xa5a5a5a5a5a5a5a5;
+
+// The bits of the message that is cut, those of its 513 bytes.
+const MESSAGE_BITS: usize = 4104;
+
+// Bit counts of a piece at the edges of a byte and of a block.
+const COUNTS: [u64; 8] = [0, 1, 7, 8, 9, 4095, 4096, 4097];
+
+// Start bits that are refused for three bytes: above 7, or with a count whose sum with them passes 2^64 - 1 or comes near it.
+const REFUSED_STARTS: [u64; 10] = [8, 8, 4294967296, u64::MAX, u64::MAX, u64::MAX, 1, 7, 7, 7];
+
+// The count for each of them.
+const REFUSED_COUNTS: [u64; 10] = [
+    0,
+    8,
+    8,
+    0,
+    1,
+    u64::MAX,
+    u64::MAX,
+    u64::MAX,
+    18446744073709551609,
+    18446744073709551608,
+];
 
 // What follows a word of the log: V stands after U, and ends the line.
 fn print_between(i: usize) {
@@ -75,12 +101,12 @@ fn open(area: &mut [u64], key: &[u8], d: u64, limit: u64, rounds: u64) {
     report(answer.number, answer.count, &*area, &before, &none, &none);
 }
 
-fn feed_log(area: &mut [u64], piece: &[u8], bits: u64, log: &mut [u64]) {
+fn feed_log(area: &mut [u64], piece: &[u8], start: u64, bits: u64, log: &mut [u64]) {
     let mut area_before = [0u64; 1750];
     let mut log_before = [0u64; 64];
     copy(&mut area_before, &*area);
     copy(&mut log_before, &*log);
-    let answer = stream::feed(&mut *area, piece, bits, &mut *log);
+    let answer = stream::feed(&mut *area, piece, start, bits, &mut *log);
     report(
         answer.number,
         answer.count,
@@ -92,11 +118,11 @@ fn feed_log(area: &mut [u64], piece: &[u8], bits: u64, log: &mut [u64]) {
 }
 
 // A feed with a log of so many words.
-fn feed(area: &mut [u64], piece: &[u8], bits: u64, words: usize)
+fn feed(area: &mut [u64], piece: &[u8], start: u64, bits: u64, words: usize)
     requires { ⌜ words ≤ 64 ⌝ }
 {
     let mut log = [FILL; 64];
-    feed_log(area, piece, bits, &mut log[..words]);
+    feed_log(area, piece, start, bits, &mut log[..words]);
 }
 
 fn end_log(area: &mut [u64], digest: &mut [u8], log: &mut [u64]) {
@@ -153,10 +179,10 @@ fn row(limit: u64, d: u64, first: u64, second: u64, third: u64, fourth: u64) {
     let ones = [0xffu8; 2049];
     let mut area = [FILL; 1750];
     open(&mut area, b"", d, limit, 0);
-    feed(&mut area, &ones, first, 64);
-    feed(&mut area, &ones, second, 64);
-    feed(&mut area, &ones, third, 64);
-    feed(&mut area, &ones, fourth, 64);
+    feed(&mut area, &ones, 0, first, 64);
+    feed(&mut area, &ones, 0, second, 64);
+    feed(&mut area, &ones, 0, third, 64);
+    feed(&mut area, &ones, 0, fourth, 64);
     end(&mut area, 3, 54);
 }
 
@@ -197,7 +223,7 @@ fn prepare(area: &mut [u64], limit: u64, bits: u64) {
     let ones = [0xffu8; 2049];
     let mut log = [FILL; 64];
     stream::open(&mut *area, b"key", 8, limit, 0);
-    stream::feed(&mut *area, &ones, bits, &mut log);
+    stream::feed(&mut *area, &ones, 0, bits, &mut log);
 }
 
 // Ends an area.
@@ -213,7 +239,7 @@ fn altered(limit: u64, bits: u64, at: usize, value: u64) {
     prepare(&mut area, limit, bits);
     set(&mut area, at, value);
     tell(&area, 8);
-    feed(&mut area, b"a", 8, 64);
+    feed(&mut area, b"a", 0, 8, 64);
     end(&mut area, 3, 54);
     show(&area, 1);
 }
@@ -225,7 +251,7 @@ fn altered_ended(limit: u64, bits: u64, at: usize, value: u64) {
     finish(&mut area);
     set(&mut area, at, value);
     tell(&area, u64::MAX);
-    feed(&mut area, b"a", 9, 0);
+    feed(&mut area, b"a", 0, 9, 0);
     end(&mut area, 0, 0);
     show(&area, 1);
 }
@@ -302,7 +328,7 @@ fn shortened(area: &[u64]) {
     let mut short = [FILL; 1743];
     copy(&mut short, area);
     tell(&short, u64::MAX);
-    feed(&mut short, b"a", 9, 0);
+    feed(&mut short, b"a", 0, 9, 0);
     end(&mut short, 0, 0);
     show(&short, 1);
 }
@@ -322,11 +348,11 @@ fn short_areas() {
 fn short_logs() {
     let mut area = [FILL; 1750];
     prepare(&mut area, 64, 4096);
-    feed(&mut area, b"a", 9, 0);
-    feed(&mut area, b"a", 18446744073709551615, 0);
-    feed(&mut area, b"a", 1, 1);
-    feed(&mut area, b"", 0, 0);
-    feed(&mut area, b"a", 1, 2);
+    feed(&mut area, b"a", 0, 9, 0);
+    feed(&mut area, b"a", 0, 18446744073709551615, 0);
+    feed(&mut area, b"a", 0, 1, 1);
+    feed(&mut area, b"", 0, 0, 0);
+    feed(&mut area, b"a", 0, 1, 2);
     end(&mut area, 0, 3);
     end(&mut area, 1, 3);
     end(&mut area, 1, 4);
@@ -391,8 +417,8 @@ fn most_nodes() {
     zeros(&mut area, 26, 13835058055282163712, 4503599627370469);
     tell(&area, 0);
     tell(&area, 1);
-    feed(&mut area, b"a", 1, 53);
-    feed(&mut area, b"a", 1, 54);
+    feed(&mut area, b"a", 0, 1, 53);
+    feed(&mut area, b"a", 0, 1, 54);
     print_line(area[14]);
     tell(&area, 4611686018427387902);
     tell(&area, 4611686018427387903);
@@ -403,17 +429,199 @@ fn long_stream() {
     let mut area = [FILL; 1750];
     zeros(&mut area, 64, 18446744073709551614, 6004799503160634);
     tell(&area, 2);
-    feed(&mut area, b"a", 2, 0);
-    feed(&mut area, b"a", 9, 0);
+    feed(&mut area, b"a", 0, 2, 0);
+    feed(&mut area, b"a", 0, 9, 0);
     tell(&area, 1);
-    feed(&mut area, b"a", 1, 0);
+    feed(&mut area, b"a", 0, 1, 0);
     tell(&area, 0);
     tell(&area, 1);
-    feed(&mut area, b"a", 1, 0);
+    feed(&mut area, b"a", 0, 1, 0);
     end(&mut area, 3, 53);
     end(&mut area, 3, 54);
     print_line(area[14]);
     tell(&area, 1);
+}
+
+// A message of bytes that differ. In the first, 55, each bit differs from the next.
+fn message() -> [u8; 513]
+    ensures { λ r. ⌜ 513 ≡ length r ⌝ }
+{
+    let mut bytes = [0u8; 513];
+    let mut i = 0;
+    while i < 513 {
+        bytes[i] = ((85 + 73 * i) % 256) as u8;
+        i += 1;
+    }
+    bytes
+}
+
+// Ends an area of d = 64, and writes what the end answered and the digest.
+fn print_end(area: &mut [u64]) {
+    let mut digest = [0xa5u8; 8];
+    let mut log = [FILL; 54];
+    let answer = stream::end(area, &mut digest, &mut log);
+    test_print::answer(answer.number, answer.count);
+    io::write_all(STDOUT_FILENO, b" ");
+    test_print::bytes(&digest);
+    io::write_all(STDOUT_FILENO, b"\n");
+}
+
+// A piece from a start bit on, fed behind as many bits as are held.
+fn behind(message: &[u8], limit: u64, held: u64, start: u64, bits: u64) {
+    let mut area = [FILL; 1744];
+    let mut log = [FILL; 8];
+    stream::open(&mut area, b"", 64, limit, 9);
+    stream::feed(&mut area, message, 0, held, &mut log);
+    let answer = stream::feed(&mut area, message, start, bits, &mut log);
+    test_print::answer(answer.number, answer.count);
+    io::write_all(STDOUT_FILENO, b" ");
+    print_end(&mut area);
+}
+
+// Pieces of each of the counts.
+fn each_count(message: &[u8], limit: u64, held: u64, start: u64) {
+    let mut i = 0;
+    while i < 8 {
+        behind(message, limit, held, start, COUNTS[i]);
+        i += 1;
+    }
+}
+
+// From every start bit on.
+fn all_starts(message: &[u8], limit: u64, held: u64) {
+    let mut start = 0;
+    while start < 8 {
+        each_count(message, limit, held, start);
+        start += 1;
+    }
+}
+
+// Behind no bit, a part of a byte, a word, and a block with its last bit or without; then behind a sequential block without it.
+fn starts(message: &[u8]) {
+    all_starts(message, 64, 0);
+    all_starts(message, 64, 1);
+    all_starts(message, 64, 7);
+    all_starts(message, 64, 64);
+    all_starts(message, 64, 4095);
+    all_starts(message, 64, 4096);
+    all_starts(message, 0, 3071);
+}
+
+// Feeds a message in pieces of so many bits, each from the bit on where the last one ended.
+fn feed_pieces(area: &mut [u64], message: &[u8], bits: usize)
+    requires { ⌜ (0 < bits) × (bits ≤ 4104) × (length (now message) ≡ 513) ⌝ }
+{
+    let mut log = [FILL; 8];
+    let mut at = 0;
+    while at <= MESSAGE_BITS - bits {
+        stream::feed(
+            &mut *area,
+            &message[at / 8..],
+            (at % 8) as u64,
+            bits as u64,
+            &mut log,
+        );
+        at += bits;
+    }
+}
+
+// The nodes that these pieces make, what the end answers, and the digest.
+fn pieces(message: &[u8], bits: usize)
+    requires { ⌜ (0 < bits) × (bits ≤ 4104) × (length (now message) ≡ 513) ⌝ }
+{
+    let mut area = [FILL; 1744];
+    stream::open(&mut area, b"", 64, 64, 9);
+    feed_pieces(&mut area, message, bits);
+    io::print_decimal(STDOUT_FILENO, area[14]);
+    io::write_all(STDOUT_FILENO, b" ");
+    print_end(&mut area);
+}
+
+// Pieces that share bytes: of a bit, of some, of parts of the first block, and whole. Each count divides the message's.
+fn shared_bytes(message: &[u8])
+    requires { ⌜ length (now message) ≡ 513 ⌝ }
+{
+    pieces(message, 1);
+    pieces(message, 3);
+    pieces(message, 9);
+    pieces(message, 19);
+    pieces(message, 171);
+    pieces(message, 513);
+    pieces(message, 1026);
+    pieces(message, 4104);
+}
+
+// The message in three pieces that share bytes, with the log. The second makes a node.
+fn logged_pieces(message: &[u8])
+    requires { ⌜ length (now message) ≡ 513 ⌝ }
+{
+    let mut area = [FILL; 1750];
+    open(&mut area, b"", 24, 64, 9);
+    feed(&mut area, message, 0, 4093, 64);
+    feed(&mut area, &message[511..], 5, 5, 64);
+    feed(&mut area, &message[512..], 2, 6, 64);
+    end(&mut area, 3, 54);
+}
+
+fn cut_message() {
+    let bytes = message();
+    starts(&bytes);
+    shared_bytes(&bytes);
+    logged_pieces(&bytes);
+}
+
+// From a start bit on: nothing of no bytes, one bit more than a byte then has, and all its bits.
+fn last_bits(area: &mut [u64], start: u64)
+    requires { ⌜ start < 8 ⌝ }
+{
+    feed(&mut *area, b"", start, 0, 0);
+    feed(&mut *area, b"a", start, 9 - start, 0);
+    feed(&mut *area, b"a", start, 8 - start, 0);
+}
+
+fn all_last_bits(area: &mut [u64]) {
+    let mut start = 0;
+    while start < 8 {
+        last_bits(&mut *area, start);
+        start += 1;
+    }
+}
+
+fn refused_starts(area: &mut [u64], piece: &[u8]) {
+    let mut i = 0;
+    while i < 10 {
+        feed(&mut *area, piece, REFUSED_STARTS[i], REFUSED_COUNTS[i], 0);
+        i += 1;
+    }
+}
+
+// Refused start bits and counts change nothing, and the accepted ones among them make the digest.
+fn start_edges() {
+    let mut area = [FILL; 1750];
+    open(&mut area, b"", 24, 64, 9);
+    refused_starts(&mut area, b"abc");
+    all_last_bits(&mut area);
+    end(&mut area, 3, 54);
+}
+
+// A feed of two bits of three bytes, with no log.
+fn two_bits(area: &mut [u64], start: u64) {
+    feed(area, b"abc", start, 2, 0);
+}
+
+// The refusals of a feed, from the last of their order to the first: those of the log, the total, the start bit, an area that has
+// ended and an unsound one, each with some that come behind it.
+fn ordered_refusals() {
+    let mut area = [FILL; 1750];
+    prepare(&mut area, 64, 4096);
+    two_bits(&mut area, 7);
+    zeros(&mut area, 64, 18446744073709551614, 6004799503160634);
+    two_bits(&mut area, 7);
+    two_bits(&mut area, 8);
+    finish(&mut area);
+    two_bits(&mut area, 8);
+    set(&mut area, 15, 1);
+    two_bits(&mut area, 8);
 }
 
 // The levels that there are, and those that there are not.
@@ -441,5 +649,8 @@ fn main() {
     told_longest();
     most_nodes();
     long_stream();
+    cut_message();
+    start_edges();
+    ordered_refusals();
     levels();
 }

@@ -55,7 +55,7 @@ opened-read = refl
 -- ---- areas that hold bits
 
 abbrev ones : ℕ → Params → List ℕ
-ones n P = feedOf (openOf used P .area) (pieceOf (replicate (n + 1) 255) n) out .area
+ones n P = feedOf (openOf used P .area) (pieceOf (replicate (n + 1) 255) 0 n) out .area
 
 -- line 2 of an area without a key
 abbrev noKey : List ℕ

@@ -17,7 +17,7 @@ fn prepare(area: &mut [u64], limit: u64, bits: u64) {
     let ones = [0xffu8; 1537];
     let mut log = [0u64; 64];
     stream::open(&mut *area, b"key", 8, limit, 0);
-    stream::feed(&mut *area, &ones, bits, &mut log);
+    stream::feed(&mut *area, &ones, 0, bits, &mut log);
 }
 
 // As many bytes of a text as a count says, if it has so many.

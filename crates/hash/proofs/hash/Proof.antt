@@ -19,15 +19,15 @@ returns c =
     let new = number .before .before in
     let a = new .before .before .before .before .args in
     rw (c .refused .ensures .0, c .refused .ensures .1)
-    (hash-refused (pieceOf (a .message .now) (a .bits)) (withKey (a .key .now) (new .new .result)) (a .digest .now) (number .hash-number .result) (number .hash-number .ensures) (c .before .if1 .taken)
-    ∙ ap (λ (p : Params). hashOf (pieceOf (a .message .now) (a .bits)) (withKey (a .key .now) p) (a .digest .now)) (new .new .ensures))
+    (hash-refused (pieceOf (a .message .now) (a .start) (a .bits)) (withKey (a .key .now) (new .new .result)) (a .digest .now) (number .hash-number .result) (number .hash-number .ensures) (c .before .if1 .taken)
+    ∙ ap (λ (p : Params). hashOf (pieceOf (a .message .now) (a .start) (a .bits)) (withKey (a .key .now) p) (a .digest .now)) (new .new .ensures))
 
 put-digest-requires : tie.Need-put-digest-requires
 put-digest-requires c κs =
     let number = c .before .before in
     let new = number .before .before in
     let a = new .before .before .before .before .args in (
-      number-accepted (pieceOf (a .message .now) (a .bits)) (withKey (a .key .now) (new .new .result)) (a .digest .now) (sym (number .hash-number .ensures) ∙ c .before .if1 .left),
+      number-accepted (pieceOf (a .message .now) (a .start) (a .bits)) (withKey (a .key .now) (new .new .result)) (a .digest .now) (sym (number .hash-number .ensures) ∙ c .before .if1 .left),
       ap (λ (p : Params). p .keylen) (new .new .ensures),
     )
 
@@ -38,7 +38,7 @@ tree-nodes-requires c κs =
     let new = number .before .before in
     let a = new .before .before .before .before .args in
     rw (ap (λ (p : Params). p .limit) (new .new .ensures)) at
-    (number-accepted (pieceOf (a .message .now) (a .bits)) (withKey (a .key .now) (new .new .result)) (a .digest .now) (sym (number .hash-number .ensures) ∙ test .if1 .left) .ranges .limitHigh)
+    (number-accepted (pieceOf (a .message .now) (a .start) (a .bits)) (withKey (a .key .now) (new .new .result)) (a .digest .now) (sym (number .hash-number .ensures) ∙ test .if1 .left) .ranges .limitHigh)
 
 returns-2 : tie.Need-returns-2
 returns-2 c =
@@ -49,9 +49,9 @@ returns-2 c =
     let new = number .before .before in
     let a = new .before .before .before .before .args in
     rw (c .accepted .ensures .0, c .accepted .ensures .1)
-    (hash-accepted (pieceOf (a .message .now) (a .bits)) (withKey (a .key .now) (new .new .result)) (a .digest .now) (nodes .tree-nodes .result) _ (sym (number .hash-number .ensures) ∙ test .if1 .left)
+    (hash-accepted (pieceOf (a .message .now) (a .start) (a .bits)) (withKey (a .key .now) (new .new .result)) (a .digest .now) (nodes .tree-nodes .result) _ (sym (number .hash-number .ensures) ∙ test .if1 .left)
     (nodes .tree-nodes .ensures ∙ ap (λ (p : Params). treeNodes (p .limit) (a .bits)) (sym (new .new .ensures))) (put .put-digest .ensures)
-    ∙ ap (λ (p : Params). hashOf (pieceOf (a .message .now) (a .bits)) (withKey (a .key .now) p) (a .digest .now)) (new .new .ensures))
+    ∙ ap (λ (p : Params). hashOf (pieceOf (a .message .now) (a .start) (a .bits)) (withKey (a .key .now) p) (a .digest .now)) (new .new .ensures))
 
 pub hash-spec : {M : Type 1} → statement M
 hash-spec =

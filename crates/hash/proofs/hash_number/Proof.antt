@@ -13,7 +13,7 @@ use Rattle.hash.proofs.hash_number.Tie as tie
 
 returns : tie.Need-returns
 unfolding hashNumber
-returns c = rw (sym (c .before .bits-over .ensures) ∙ c .if1 .taken)
+returns c = rw (sym (c .before .refused-bits .ensures) ∙ c .if1 .taken)
 
 returns-2 : tie.Need-returns-2
 unfolding hashNumber
@@ -23,7 +23,7 @@ returns-2 c =
     let start = test .before .before .before .before .before in
     let p = start .args .params in
     let e = params .params-number .ensures in
-    rw (sym (test .before .bits-over .ensures) ∙ test .if1 .left, ← start .pre)
+    rw (sym (test .before .refused-bits .ensures) ∙ test .if1 .left, ← start .pre)
     (e ∙ first-part (rangeTests (p .keylen) (p .d) (p .limit) (p .rounds)) (outputTest (digestBytes (p .d)) (start .args .digest .now) ∷ []) (λ z. c .if2 .taken (e ∙ z)))
 
 add-if3 : tie.Need-add-if3
@@ -40,7 +40,7 @@ returns-3 c =
     let start = test .before .before .before .before .before in
     let p = start .args .params in
     let q = passed (rangeTests (p .keylen) (p .d) (p .limit) (p .rounds)) refl (sym (params .params-number .ensures) ∙ c .before .before .if2 .left) in
-    rw (sym (test .before .bits-over .ensures) ∙ test .if1 .left, ← start .pre, q 0, q 1, q 2, q 3, q 4, lt-ltb _ _ (c .if3 .taken))
+    rw (sym (test .before .refused-bits .ensures) ∙ test .if1 .left, ← start .pre, q 0, q 1, q 2, q 3, q 4, lt-ltb _ _ (c .if3 .taken))
 
 returns-4 : tie.Need-returns-4
 unfolding hashNumber
@@ -50,7 +50,7 @@ returns-4 c =
     let start = test .before .before .before .before .before in
     let p = start .args .params in
     let q = passed (rangeTests (p .keylen) (p .d) (p .limit) (p .rounds)) refl (sym (params .params-number .ensures) ∙ c .before .before .if2 .left) in
-    rw (sym (test .before .bits-over .ensures) ∙ test .if1 .left, ← start .pre, q 0, q 1, q 2, q 3, q 4, le-ltb _ _ (c .if3 .left))
+    rw (sym (test .before .refused-bits .ensures) ∙ test .if1 .left, ← start .pre, q 0, q 1, q 2, q 3, q 4, le-ltb _ _ (c .if3 .left))
 
 pub hash-number-spec : {M : Type 1} → statement M
 hash-number-spec =

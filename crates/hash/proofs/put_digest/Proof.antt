@@ -2,7 +2,8 @@
 use Rattle.hash.specs.HashLaws.{withKey, params-key, key-ready, digest-root}
 use Rattle.nodes.specs.Value.{rootValue}
 use Rattle.node.specs.Words.{paramsFrom}
-use Rattle.bits.specs.Piece.{pieceOf, pieceBits}
+use Rattle.bits.specs.Piece.{pieceBits}
+use Rattle.bits.specs.PieceLaws.{spanned}
 use Rattle.tree.specs.Tree.{Params, digestBytes}
 use Rattle.lists.specs.Slices.{bytes-below}
 use lib.ListN.{drop}
@@ -36,7 +37,7 @@ returns c =
     let known = k .before .before in
     let s = known .before .before in
     let a = s .args in
-    let M = pieceBits (pieceOf (a .message .now) (a .bits)) in
+    let M = pieceBits (spanned (a .message .now) (a .span)) in
     let bytes = bytes-below (a .key .now) (known .shared-slice-known2 .given) in
     let e : paramsFrom (k .key-words .result) (a .params) ≡ withKey (a .key .now) (a .params) =
     rw (k .key-words .ensures) (params-key (a .key .now) (a .params) bytes (s .pre .1) (s .pre .0 .ranges)) in

@@ -4,7 +4,8 @@ use lib.Seq.{paste}
 use Rattle.nodes.specs.BlockLaws.{child-none, child-more, child-index, node-index, value-made, value-length}
 use Rattle.node.specs.Words.{paramsFrom}
 use Rattle.nodes.specs.Value as spec
-use Rattle.bits.specs.Piece.{pieceOf, pieceBits}
+use Rattle.bits.specs.Piece.{pieceBits}
+use Rattle.bits.specs.PieceLaws.{spanned}
 use lib.ListN.{length}
 use Prim.Native.Nat.{_≤_, _-_, _+_, _*_, _<_, ℕ}
 use mathlib.Core.List.{List}
@@ -51,10 +52,10 @@ callees t = (
 )
 
 abbrev value-Inv-loop : value-lts.InvT-loop
-value-Inv-loop message bits params k table level index z n block₀ j₀ block j = (j ≤ n) × (block ≡ childWords (λ i. spec.value (paramsFrom k params) (pieceBits (pieceOf message bits)) (level - 1) i 0) 4 (4 * index) j) × (length block ≡ 64)
+value-Inv-loop message span params k table level index z n block₀ j₀ block j = (j ≤ n) × (block ≡ childWords (λ i. spec.value (paramsFrom k params) (pieceBits (spanned message span)) (level - 1) i 0) 4 (4 * index) j) × (length block ≡ 64)
 
 abbrev value-μ-loop : value-lts.MeasureT-loop
-value-μ-loop message bits params k table level index z n block₀ j₀ block j = n - j
+value-μ-loop message span params k table level index z n block₀ j₀ block j = n - j
 
 value-leaf-requires : (t : ℕ) → value-lts.Need-leaf-requires (callees t) (value-at t) value.Post value-Inv-loop value-μ-loop
 value-leaf-requires t c κs = let s = c .before .before .before .before in (s .pre .1 .0, (rw (c .if1 .taken) at (s .pre .1 .1 .2), s .pre .1 .1 .3))
@@ -62,7 +63,7 @@ value-leaf-requires t c κs = let s = c .before .before .before .before in (s .p
 value-returns : (t : ℕ) → value-lts.Need-returns (callees t) (value-at t) value.Post value-Inv-loop value-μ-loop
 value-returns t c =
     let a = c .before .before .before .before .before .args in
-    c .leaf .ensures ∙ ap (λ (l : ℕ). spec.value (paramsFrom (a .k .now) (a .params)) (pieceBits (pieceOf (a .message .now) (a .bits))) l (a .index) (a .z)) (sym (c .before .if1 .taken))
+    c .leaf .ensures ∙ ap (λ (l : ℕ). spec.value (paramsFrom (a .k .now) (a .params)) (pieceBits (spanned (a .message .now) (a .span))) l (a .index) (a .z)) (sym (c .before .if1 .taken))
 
 value-nodes-at-requires : (t : ℕ) → value-lts.Need-nodes-at-requires (callees t) (value-at t) value.Post value-Inv-loop value-μ-loop
 value-nodes-at-requires t c κs = let s = c .before .before .before .before in omega (arith, s .pre .1 .1 .0, c .if1 .left)
@@ -70,22 +71,22 @@ value-nodes-at-requires t c κs = let s = c .before .before .before .before in o
 value-taken-requires : (t : ℕ) → value-lts.Need-taken-requires (callees t) (value-at t) value.Post value-Inv-loop value-μ-loop
 value-taken-requires t c κs =
     let s = c .before .before .before .before .before in
-    rw (c .nodes-at .ensures) (child-index (s .args .bits) (s .args .level) (s .args .index) (omega (arith, s .pre .1 .1 .0, c .before .if1 .left)) (s .pre .1 .1 .2))
+    rw (c .nodes-at .ensures) (child-index (s .args .span .bits) (s .args .level) (s .args .index) (omega (arith, s .pre .1 .1 .0, c .before .if1 .left)) (s .pre .1 .1 .2))
 
 value-loop-holds : (t : ℕ) → value-lts.Need-loop-holds (callees t) (value-at t) value.Post value-Inv-loop value-μ-loop
 value-loop-holds t c =
     let a = c .before .before .before .before .before .before .args in
-    (omega arith, child-none (λ i. spec.value (paramsFrom (a .k .now) (a .params)) (pieceBits (pieceOf (a .message .now) (a .bits))) (a .level - 1) i 0) 4 (4 * a .index), refl)
+    (omega arith, child-none (λ i. spec.value (paramsFrom (a .k .now) (a .params)) (pieceBits (spanned (a .message .now) (a .span))) (a .level - 1) i 0) 4 (4 * a .index), refl)
 
 value-mul-value : (t : ℕ) → value-lts.Need-mul-value (callees t) (value-at t) value.Post value-Inv-loop value-μ-loop
 value-mul-value t c =
     let s = c .before .before .before .before .before .before .before .before in
-    record { fits = omega (arith, node-index (s .args .bits) (s .args .level) (s .args .index) (s .fits .bits .fits) (s .pre .1 .1 .0) (s .pre .1 .1 .2)) }
+    record { fits = omega (arith, node-index (s .args .span .bits) (s .args .level) (s .args .index) (omega (arith, s .good .1 .0)) (s .pre .1 .1 .0) (s .pre .1 .1 .2)) }
 
 value-add-value : (t : ℕ) → value-lts.Need-add-value (callees t) (value-at t) value.Post value-Inv-loop value-μ-loop
 value-add-value t c =
     let s = c .before .before .before .before .before .before .before .before in
-    let i = node-index (s .args .bits) (s .args .level) (s .args .index) (s .fits .bits .fits) (s .pre .1 .1 .0) (s .pre .1 .1 .2) in
+    let i = node-index (s .args .span .bits) (s .args .level) (s .args .index) (omega (arith, s .good .1 .0)) (s .pre .1 .1 .0) (s .pre .1 .1 .2) in
     record { fits = omega (arith, i, c .before .before .taken .ensures, c .loop-test .taken) }
 
 value-value-requires : (t : ℕ) → value-lts.Need-value-requires (callees t) (value-at t) value.Post value-Inv-loop value-μ-loop
@@ -119,7 +120,7 @@ value-copy-requires t c κs =
     let one = at .before .before .before .if1 .left in
     let l : length (c .before .before .value .result) ≡ 16 =
     ap length (c .before .before .value .ensures)
-    ∙ value-length (paramsFrom (a .k .now) (a .params)) (pieceBits (pieceOf (a .message .now) (a .bits))) (a .level - 1) (4 * a .index + at .loop .j) 0 (omega (arith, s .pre .1 .1 .0, one)) in
+    ∙ value-length (paramsFrom (a .k .now) (a .params)) (pieceBits (spanned (a .message .now) (a .span))) (a .level - 1) (4 * a .index + at .loop .j) 0 (omega (arith, s .pre .1 .1 .0, one)) in
     omega (arith, l, at .loop .inv .2, at .before .taken .ensures, c .before .before .before .loop-test .taken)
 
 value-loop-again : (t : ℕ) → value-lts.Need-loop-again (callees t) (value-at t) value.Post value-Inv-loop value-μ-loop
@@ -131,8 +132,8 @@ value-loop-again t c =
     let j = at .loop .j in
     let child = c .before .before .before .before .value .result in
     let P = paramsFrom (a .k .now) (a .params) in
-    let M = pieceBits (pieceOf (a .message .now) (a .bits)) in
-    let f : ℕ → List ℕ = λ i. spec.value (paramsFrom (a .k .now) (a .params)) (pieceBits (pieceOf (a .message .now) (a .bits))) (a .level - 1) i 0 in
+    let M = pieceBits (spanned (a .message .now) (a .span)) in
+    let f : ℕ → List ℕ = λ i. spec.value (paramsFrom (a .k .now) (a .params)) (pieceBits (spanned (a .message .now) (a .span))) (a .level - 1) i 0 in
     let len : (i : ℕ) → length (f i) ≡ 16 = λ i. value-length P M (a .level - 1) i 0 (omega (arith, s .pre .1 .1 .0, one)) in (
       omega (arith, c .before .before .before .before .before .loop-test .taken),
       c .before .copy .ensures
@@ -155,7 +156,7 @@ value-compress-node-requires : (t : ℕ) → value-lts.Need-compress-node-requir
 value-compress-node-requires t c κs =
     let at = c .before .before in
     let s = at .before .before .before .before .before .before .before in
-    let i = node-index (s .args .bits) (s .args .level) (s .args .index) (s .fits .bits .fits) (s .pre .1 .1 .0) (s .pre .1 .1 .2) in
+    let i = node-index (s .args .span .bits) (s .args .level) (s .args .index) (omega (arith, s .good .1 .0)) (s .pre .1 .1 .0) (s .pre .1 .1 .2) in
     (s .pre .1 .0 .ready, (s .pre .1 .1 .1, i, s .pre .1 .1 .3, omega (arith, at .before .taken .ensures), at .loop .inv .2))
 
 value-returns-2 : (t : ℕ) → value-lts.Need-returns-2 (callees t) (value-at t) value.Post value-Inv-loop value-μ-loop
@@ -165,10 +166,10 @@ value-returns-2 t c =
     let a = s .args in
     let one = at .before .before .before .if1 .left in
     let n = at .before .taken .result in
-    let f : ℕ → List ℕ = λ i. spec.value (paramsFrom (a .k .now) (a .params)) (pieceBits (pieceOf (a .message .now) (a .bits))) (a .level - 1) i 0 in
+    let f : ℕ → List ℕ = λ i. spec.value (paramsFrom (a .k .now) (a .params)) (pieceBits (spanned (a .message .now) (a .span))) (a .level - 1) i 0 in
     let e : at .loop .j ≡ n = omega (arith, at .loop .inv .0, c .before .before .loop-test .left) in
     c .compress-node .ensures
-    ∙ value-made (paramsFrom (a .k .now) (a .params)) (a .message .now) (a .bits) (a .level) (a .index) (a .z) n (at .loop .block)
+    ∙ value-made (paramsFrom (a .k .now) (a .params)) (spanned (a .message .now) (a .span)) (a .level) (a .index) (a .z) n (at .loop .block)
     (omega (arith, s .pre .1 .1 .0, one))
     (s .pre .1 .0 .enough)
     (at .before .taken .ensures ∙ ap (λ (m : ℕ). held 4 m (a .index)) (at .before .before .nodes-at .ensures))

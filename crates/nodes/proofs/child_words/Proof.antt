@@ -4,7 +4,8 @@ use Rattle.nodes.specs.BlockLaws.{child-none, child-more, value-length}
 use Rattle.node.specs.Words.{paramsFrom}
 use Rattle.nodes.specs.Value as spec
 use Rattle.nodes.specs.Value.{held, childWords}
-use Rattle.bits.specs.Piece.{pieceOf, pieceBits}
+use Rattle.bits.specs.Piece.{pieceBits}
+use Rattle.bits.specs.PieceLaws.{spanned}
 use lib.Seq.{paste}
 use lib.ListN.{length}
 use Prim.Native.Nat.{ℕ, _+_, _-_, _*_, _≤_}
@@ -16,25 +17,25 @@ use Rattle.nodes.proofs.child_words.Statement.{statement}
 use Rattle.nodes.proofs.child_words.Tie as tie
 
 abbrev Inv-loop : tie.InvT-loop
-Inv-loop message bits params k table index limit n rest₀ j₀ rest j = (j ≤ n) × (rest ≡ childWords (λ i. spec.value (paramsFrom k params) (pieceBits (pieceOf message bits)) (params .limit) i 0) 3 (3 * index) j) × (length rest ≡ 48)
+Inv-loop message span params k table index limit n rest₀ j₀ rest j = (j ≤ n) × (rest ≡ childWords (λ i. spec.value (paramsFrom k params) (pieceBits (spanned message span)) (params .limit) i 0) 3 (3 * index) j) × (length rest ≡ 48)
 
 abbrev μ-loop : tie.MeasureT-loop
-μ-loop message bits params k table index limit n rest₀ j₀ rest j = n - j
+μ-loop message span params k table index limit n rest₀ j₀ rest j = n - j
 
 nodes-at-requires : tie.Need-nodes-at-requires Inv-loop μ-loop
 nodes-at-requires c κs = c .before .before .before .pre .1 .0
 
 taken-requires : tie.Need-taken-requires Inv-loop μ-loop
-taken-requires c κs = let s = c .before .before .before .before in rw (c .nodes-at .ensures) (third-index (s .args .params .limit) (s .args .bits) (s .args .index) (s .pre .1 .0) (s .pre .1 .1))
+taken-requires c κs = let s = c .before .before .before .before in rw (c .nodes-at .ensures) (third-index (s .args .params .limit) (s .args .span .bits) (s .args .index) (s .pre .1 .0) (s .pre .1 .1))
 
 loop-holds : tie.Need-loop-holds Inv-loop μ-loop
-loop-holds c = let a = c .before .before .before .before .before .args in (omega arith, child-none (λ i. spec.value (paramsFrom (a .k .now) (a .params)) (pieceBits (pieceOf (a .message .now) (a .bits))) (a .params .limit) i 0) 3 (3 * a .index), refl)
+loop-holds c = let a = c .before .before .before .before .before .args in (omega arith, child-none (λ i. spec.value (paramsFrom (a .k .now) (a .params)) (pieceBits (spanned (a .message .now) (a .span))) (a .params .limit) i 0) 3 (3 * a .index), refl)
 
 mul-value : tie.Need-mul-value Inv-loop μ-loop
-mul-value c = let s = c .before .before .before .before .before .before .before in record { fits = omega (arith, sequential-index (s .args .params .limit) (s .args .bits) (s .args .index) (s .fits .bits .fits) (s .pre .1 .1)) }
+mul-value c = let s = c .before .before .before .before .before .before .before in record { fits = omega (arith, sequential-index (s .args .params .limit) (s .args .span .bits) (s .args .index) (omega (arith, s .good .1 .0)) (s .pre .1 .1)) }
 
 add-value : tie.Need-add-value Inv-loop μ-loop
-add-value c = let s = c .before .before .before .before .before .before .before in record { fits = omega (arith, sequential-index (s .args .params .limit) (s .args .bits) (s .args .index) (s .fits .bits .fits) (s .pre .1 .1), c .before .before .taken .ensures, c .loop-test .taken) }
+add-value c = let s = c .before .before .before .before .before .before .before in record { fits = omega (arith, sequential-index (s .args .params .limit) (s .args .span .bits) (s .args .index) (omega (arith, s .good .1 .0)) (s .pre .1 .1), c .before .before .taken .ensures, c .loop-test .taken) }
 
 value-requires : tie.Need-value-requires Inv-loop μ-loop
 value-requires c κs = let s = c .before .before .before .before .before .before .before in (s .pre .0, (s .pre .1 .0, omega (arith, s .pre .0 .ready .range .limitHigh), omega (arith, c .before .before .taken .ensures, c .before .before .before .nodes-at .ensures, c .loop-test .taken), omega arith))
@@ -52,7 +53,7 @@ copy-requires c κs =
     let a = s .args in
     let l : length (c .before .before .value .result) ≡ 16 =
     ap length (c .before .before .value .ensures)
-    ∙ value-length (paramsFrom (a .k .now) (a .params)) (pieceBits (pieceOf (a .message .now) (a .bits))) (a .params .limit) (3 * a .index + at .loop .j) 0 (s .pre .1 .0) in
+    ∙ value-length (paramsFrom (a .k .now) (a .params)) (pieceBits (spanned (a .message .now) (a .span))) (a .params .limit) (3 * a .index + at .loop .j) 0 (s .pre .1 .0) in
     omega (arith, l, at .loop .inv .2, at .before .taken .ensures, c .before .before .before .loop-test .taken)
 
 loop-again : tie.Need-loop-again Inv-loop μ-loop
@@ -62,9 +63,9 @@ loop-again c =
     let a = s .args in
     let j = at .loop .j in
     let child = c .before .before .before .before .value .result in
-    let f : ℕ → List ℕ = λ i. spec.value (paramsFrom (a .k .now) (a .params)) (pieceBits (pieceOf (a .message .now) (a .bits))) (a .params .limit) i 0 in
+    let f : ℕ → List ℕ = λ i. spec.value (paramsFrom (a .k .now) (a .params)) (pieceBits (spanned (a .message .now) (a .span))) (a .params .limit) i 0 in
     let len : (i : ℕ) → length (f i) ≡ 16 =
-    λ i. value-length (paramsFrom (a .k .now) (a .params)) (pieceBits (pieceOf (a .message .now) (a .bits))) (a .params .limit) i 0 (s .pre .1 .0) in (
+    λ i. value-length (paramsFrom (a .k .now) (a .params)) (pieceBits (spanned (a .message .now) (a .span))) (a .params .limit) i 0 (s .pre .1 .0) in (
       omega (arith, c .before .before .before .before .before .loop-test .taken),
       c .before .copy .ensures
           ∙ ap (λ (w : List ℕ). paste w (16 * j) child (length child)) (at .loop .inv .1)
@@ -79,11 +80,11 @@ returns c =
     let s = at .before .before .before .before .before .before in
     let a = s .args in
     let n = at .before .taken .result in
-    let f : ℕ → List ℕ = λ i. spec.value (paramsFrom (a .k .now) (a .params)) (pieceBits (pieceOf (a .message .now) (a .bits))) (a .params .limit) i 0 in
+    let f : ℕ → List ℕ = λ i. spec.value (paramsFrom (a .k .now) (a .params)) (pieceBits (spanned (a .message .now) (a .span))) (a .params .limit) i 0 in
     let e : at .loop .j ≡ n = omega (arith, at .loop .inv .0, c .loop-test .left) in
     at .loop .inv .1
     ∙ ap (childWords f 3 (3 * a .index)) e
-    ∙ words-children (paramsFrom (a .k .now) (a .params)) (a .params .limit) (a .message .now) (a .bits) (a .index) n (s .pre .1 .0) (s .pre .0 .enough)
+    ∙ words-children (paramsFrom (a .k .now) (a .params)) (a .params .limit) (spanned (a .message .now) (a .span)) (a .index) n (s .pre .1 .0) (s .pre .0 .enough)
     (at .before .taken .ensures ∙ ap (λ (m : ℕ). held 3 m (a .index)) (at .before .before .nodes-at .ensures))
 
 pub child-words-spec : {M : Type 1} → statement M

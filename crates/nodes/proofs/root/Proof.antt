@@ -2,7 +2,8 @@
 use Rattle.nodes.specs.SequentialLaws.{root-chain, root-parallel, top-some, first-node}
 use Rattle.node.specs.Words.{paramsFrom}
 use Rattle.nodes.specs.Value as spec
-use Rattle.bits.specs.Piece.{pieceOf, pieceBits}
+use Rattle.bits.specs.Piece.{pieceBits}
+use Rattle.bits.specs.PieceLaws.{spanned}
 use Prim.Native.Nat.{ℕ, _<_}
 use mathlib.Core.Path.{_∙_, ap}
 use native.Mathlib.Omega.{arith}
@@ -16,15 +17,15 @@ returns c =
     let s = top .before .before .before .before in
     let a = s .args in
     c .sequential .ensures
-    ∙ root-chain (paramsFrom (a .k .now) (a .params)) (a .params .limit) (a .message .now) (a .bits) (s .pre .enough) (omega (arith, top .top-level .ensures .0, c .before .if1 .taken))
+    ∙ root-chain (paramsFrom (a .k .now) (a .params)) (a .params .limit) (spanned (a .message .now) (a .span)) (s .pre .enough) (omega (arith, top .top-level .ensures .0, c .before .if1 .taken))
 
 value-requires : tie.Need-value-requires
 value-requires c κs =
     let top = c .before in
     let s = top .before .before .before .before in
     let e = top .top-level .ensures .0 in
-    let some : 0 < top .top-level .result = omega (arith, e, top-some (s .args .bits) (s .args .params .limit) 1) in
-    (s .pre, (some, omega (arith, c .if1 .left, s .pre .ready .range .limitHigh), first-node (s .args .bits) (top .top-level .result) some, omega arith))
+    let some : 0 < top .top-level .result = omega (arith, e, top-some (s .args .span .bits) (s .args .params .limit) 1) in
+    (s .pre, (some, omega (arith, c .if1 .left, s .pre .ready .range .limitHigh), first-node (s .args .span .bits) (top .top-level .result) some, omega arith))
 
 returns-2 : tie.Need-returns-2
 returns-2 c =
@@ -33,8 +34,8 @@ returns-2 c =
     let a = s .args in
     let e = top .top-level .ensures .0 in
     c .value .ensures
-    ∙ ap (λ (l : ℕ). spec.value (paramsFrom (a .k .now) (a .params)) (pieceBits (pieceOf (a .message .now) (a .bits))) l 0 1) e
-    ∙ root-parallel (paramsFrom (a .k .now) (a .params)) (a .params .limit) (a .message .now) (a .bits) (s .pre .enough) (omega (arith, e, c .before .if1 .left))
+    ∙ ap (λ (l : ℕ). spec.value (paramsFrom (a .k .now) (a .params)) (pieceBits (spanned (a .message .now) (a .span))) l 0 1) e
+    ∙ root-parallel (paramsFrom (a .k .now) (a .params)) (a .params .limit) (spanned (a .message .now) (a .span)) (s .pre .enough) (omega (arith, e, c .before .if1 .left))
 
 pub root-spec : {M : Type 1} → statement M
 root-spec =

@@ -3,7 +3,8 @@ use Rattle.nodes.specs.SequentialLaws.{chain-more}
 use Rattle.node.specs.Words.{paramsFrom}
 use Rattle.nodes.specs.ValueLaws.{chain-zero, length-chain}
 use Rattle.nodes.specs.Value.{sequentialNodes, chain}
-use Rattle.bits.specs.Piece.{pieceOf, pieceBits}
+use Rattle.bits.specs.Piece.{pieceBits}
+use Rattle.bits.specs.PieceLaws.{spanned}
 use Rattle.bits.specs.Bits.{digit}
 use lib.ListN.{length}
 use lib.Dec.{eqb}
@@ -15,13 +16,13 @@ use Rattle.nodes.proofs.sequential.Statement.{statement}
 use Rattle.nodes.proofs.sequential.Tie as tie
 
 abbrev Inv-loop : tie.InvT-loop
-Inv-loop message bits params k table nodes last₀ i₀ last i = (i ≤ nodes) × (last ≡ chain (paramsFrom k params) (params .limit) (pieceBits (pieceOf message bits)) i) × (length last ≡ 16)
+Inv-loop message span params k table nodes last₀ i₀ last i = (i ≤ nodes) × (last ≡ chain (paramsFrom k params) (params .limit) (pieceBits (spanned message span)) i) × (length last ≡ 16)
 
 abbrev μ-loop : tie.MeasureT-loop
-μ-loop message bits params k table nodes last₀ i₀ last i = nodes - i
+μ-loop message span params k table nodes last₀ i₀ last i = nodes - i
 
 loop-holds : tie.Need-loop-holds Inv-loop μ-loop
-loop-holds c = let a = c .before .before .before .before .args in (omega arith, sym (chain-zero (paramsFrom (a .k .now) (a .params)) (pieceBits (pieceOf (a .message .now) (a .bits))) (a .params .limit)), refl)
+loop-holds c = let a = c .before .before .before .before .args in (omega arith, sym (chain-zero (paramsFrom (a .k .now) (a .params)) (pieceBits (spanned (a .message .now) (a .span))) (a .params .limit)), refl)
 
 last-flag-requires : tie.Need-last-flag-requires Inv-loop μ-loop
 last-flag-requires c κs = c .loop-test .taken
@@ -53,13 +54,13 @@ loop-again c =
     let s = at .before .before .before .before .before in
     let a = s .args in
     let P = (paramsFrom (a .k .now) (a .params)) in
-    let M = (pieceBits (pieceOf (a .message .now) (a .bits))) in
+    let M = (pieceBits (spanned (a .message .now) (a .span))) in
     let z = c .before .before .last-flag .result in
-    let ez : z ≡ digit (eqb (suc (at .loop .i)) (sequentialNodes (a .params .limit) (a .bits))) =
+    let ez : z ≡ digit (eqb (suc (at .loop .i)) (sequentialNodes (a .params .limit) (a .span .bits))) =
     c .before .before .last-flag .ensures .0 ∙ ap (λ (n : ℕ). digit (eqb (suc (at .loop .i)) n)) (at .before .sequential-nodes .ensures) in
     let e : c .sequential-value .result ≡ chain P (a .params .limit) M (at .loop .i + 1) =
     c .sequential-value .ensures
-    ∙ chain-more P (a .params .limit) (a .message .now) (a .bits) (at .loop .i) z (at .loop .last) (s .pre .enough) ez (at .loop .inv .1) in (
+    ∙ chain-more P (a .params .limit) (spanned (a .message .now) (a .span)) (at .loop .i) z (at .loop .last) (s .pre .enough) ez (at .loop .inv .1) in (
       omega (arith, c .before .before .before .loop-test .taken),
       e,
       ap length e ∙ length-chain P M (a .params .limit) (at .loop .i + 1),
@@ -70,8 +71,8 @@ returns c =
     let at = c .before in
     let s = at .before .before .before .before .before in
     let a = s .args in
-    let e : at .loop .i ≡ sequentialNodes (a .params .limit) (a .bits) = omega (arith, at .loop .inv .0, c .loop-test .left, at .before .sequential-nodes .ensures) in
-    at .loop .inv .1 ∙ ap (chain (paramsFrom (a .k .now) (a .params)) (a .params .limit) (pieceBits (pieceOf (a .message .now) (a .bits)))) e
+    let e : at .loop .i ≡ sequentialNodes (a .params .limit) (a .span .bits) = omega (arith, at .loop .inv .0, c .loop-test .left, at .before .sequential-nodes .ensures) in
+    at .loop .inv .1 ∙ ap (chain (paramsFrom (a .k .now) (a .params)) (a .params .limit) (pieceBits (spanned (a .message .now) (a .span)))) e
 
 pub sequential-spec : {M : Type 1} → statement M
 sequential-spec =

@@ -3,7 +3,8 @@ use Rattle.nodes.specs.SequentialLaws.{sequential-index, block-made}
 use Rattle.nodes.specs.ValueLaws.{length-sequentialWords}
 use Rattle.node.specs.Words.{nodeWords, paramsFrom}
 use Rattle.nodes.specs.Value.{sequentialPadding, sequentialWords}
-use Rattle.bits.specs.Piece.{pieceOf, pieceBits}
+use Rattle.bits.specs.Piece.{pieceBits}
+use Rattle.bits.specs.PieceLaws.{spanned}
 use lib.Seq.{paste}
 use lib.ListN.{length}
 use Prim.Native.Nat.{ℕ, _+_}
@@ -22,7 +23,7 @@ compress-node-requires c κs =
       s .pre .0 .ready,
       (
         omega (arith, s .pre .0 .ready .range .limitHigh),
-        sequential-index (s .args .params .limit) (s .args .bits) (s .args .index) (s .fits .bits .fits) (s .pre .1 .0),
+        sequential-index (s .args .params .limit) (s .args .span .bits) (s .args .index) (omega (arith, s .good .1 .0)) (s .pre .1 .0),
         s .pre .1 .1,
         put1 .before .before .sequential-padding .ensures .1,
         put2 .copy2 .kept .0 ∙ put1 .copy .kept .0,
@@ -37,7 +38,7 @@ returns c =
     let s = pad .before .before .before .before .before .before in
     let a = s .args in
     let P = (paramsFrom (a .k .now) (a .params)) in
-    let M = (pieceBits (pieceOf (a .message .now) (a .bits))) in
+    let M = (pieceBits (spanned (a .message .now) (a .span))) in
     let rest = pad .before .sequential-words .result in
     let own = pad .before .sequential-words .ensures in
     let lr : length rest ≡ 48 = ap length own ∙ length-sequentialWords P M (a .params .limit) (a .index) in
@@ -48,7 +49,7 @@ returns c =
     ∙ ap (λ (w : List ℕ). a .before .now ++ w) own in
     c .compress-node .ensures
     ∙ ap (λ (p : ℕ). nodeWords P (a .params .limit + 1) (a .index) (a .z) p (put2 .copy2 .last .0)) (pad .sequential-padding .ensures .0)
-    ∙ ap (nodeWords P (a .params .limit + 1) (a .index) (a .z) (sequentialPadding (a .params .limit) (a .bits) (a .index))) block
+    ∙ ap (nodeWords P (a .params .limit + 1) (a .index) (a .z) (sequentialPadding (a .params .limit) (a .span .bits) (a .index))) block
 
 pub sequential-value-spec : {M : Type 1} → statement M
 sequential-value-spec =

@@ -1,7 +1,8 @@
 -- `nodes::sequential_words` meets its contract.
 use Rattle.nodes.specs.SequentialLaws.{words-message}
 use Rattle.node.specs.Words.{paramsFrom}
-use Rattle.bits.specs.Piece.{pieceOf, pieceBits}
+use Rattle.bits.specs.Piece.{pieceBits}
+use Rattle.bits.specs.PieceLaws.{spanned}
 use mathlib.Core.Path.{_∙_}
 use native.Mathlib.Omega.{arith}
 use borrow.Author.Needs.{needs}
@@ -12,7 +13,7 @@ message-words-requires : tie.Need-message-words-requires
 message-words-requires c κs = let s = c .before .before .before .before .before in (s .pre .0 .enough, rw (c .if1 .taken) at (s .pre .1))
 
 returns : tie.Need-returns
-returns c = let a = c .before .before .before .before .before .before .args in c .message-words .ensures ∙ words-message (paramsFrom (a .k .now) (a .params)) (a .params .limit) (pieceBits (pieceOf (a .message .now) (a .bits))) (a .index) (c .before .if1 .taken)
+returns c = let a = c .before .before .before .before .before .before .args in c .message-words .ensures ∙ words-message (paramsFrom (a .k .now) (a .params)) (a .params .limit) (pieceBits (spanned (a .message .now) (a .span))) (a .index) (c .before .if1 .taken)
 
 child-words-requires : tie.Need-child-words-requires
 child-words-requires c κs = let s = c .before .before .before .before .before in (s .pre .0, (omega (arith, c .if1 .left), s .pre .1))

@@ -3,7 +3,7 @@ use mathlib.Core.Path.{_∙_}
 use Prim.Native.Nat.{_≤_}
 use lib.ListN.{length}
 use Rattle.lists.specs.Slices.{words-below}
-use Rattle.bits.specs.Piece.{pieceOf}
+use Rattle.bits.specs.PieceLaws.{spanned}
 use Rattle.climb.specs.OpenArea.{open-ready}
 use Rattle.piece.specs.PieceLaws.{key-copied, fed-read}
 use native.Mathlib.Omega.{arith}
@@ -22,7 +22,7 @@ feed-bits-requires c κs =
     let rows : 255 ≤ length (rc .round-constants .result) = omega arith in
     let ready = open-ready (start .pre .opened) (rc .round-constants .result) (words-below area (params .before .before .before .before .slice-known .given)) (rc .round-constants .ensures) rows in
     rw (k, params .params .ensures)
-    record { ready = ready; long = start .pre .opened .long; bits = start .pre .bits; total = start .pre .total; room = rw (fed-read area (pieceOf (a .piece .now) (a .bits))) (start .pre .room) }
+    record { ready = ready; long = start .pre .opened .long; bits = start .pre .bits; total = start .pre .total; room = rw (fed-read area (spanned (a .piece .now) (a .span))) (start .pre .room) }
 
 returns : tie.Need-returns
 returns c =
@@ -34,7 +34,7 @@ returns c =
     let a = start .args in
     let area = a .area .now in
     let k = rc .before .before .copy .ensures ∙ key-copied area (start .pre .opened .long) in
-    rw (k, params .params .ensures, fed-read area (pieceOf (a .piece .now) (a .bits))) at (fed .feed-bits .ensures)
+    rw (k, params .params .ensures, fed-read area (spanned (a .piece .now) (a .span))) at (fed .feed-bits .ensures)
 
 pub feed-nodes-spec : {M : Type 1} → statement M
 feed-nodes-spec =

@@ -11,7 +11,7 @@ returns c =
     let number = c .before .before in
     let a = number .before .before .before .before .before .before .args in
     rw (c .refused .ensures .0, c .refused .ensures .1)
-    (feed-refused (a .area .now) (pieceOf (a .piece .now) (a .bits)) (a .log .now) (number .feed-number .result) (number .feed-number .ensures) (c .before .if1 .taken))
+    (feed-refused (a .area .now) (pieceOf (a .piece .now) (a .start) (a .bits)) (a .log .now) (number .feed-number .result) (number .feed-number .ensures) (c .before .if1 .taken))
 
 feed-piece-requires : tie.Need-feed-piece-requires
 feed-piece-requires c κs =
@@ -19,7 +19,7 @@ feed-piece-requires c κs =
     let feed-number = test .before in
     let number = feed-number in
     let a = number .before .before .before .before .before .before .args in
-    feed-passed (a .area .now) (pieceOf (a .piece .now) (a .bits)) (a .log .now) (sym (number .feed-number .ensures) ∙ test .if1 .left)
+    feed-passed (a .area .now) (pieceOf (a .piece .now) (a .start) (a .bits)) (a .log .now) (sym (number .feed-number .ensures) ∙ test .if1 .left)
 
 returns-2 : tie.Need-returns-2
 returns-2 c =
@@ -29,7 +29,7 @@ returns-2 c =
     let a = number .before .before .before .before .before .before .args in
     let F = fed .feed-piece .ensures in
     rw (c .accepted .ensures .0, c .accepted .ensures .1, F .left, F .written, F .made)
-    (sym (feed-accepted (a .area .now) (pieceOf (a .piece .now) (a .bits)) (a .log .now) (sym (number .feed-number .ensures) ∙ fed .before .before .before .if1 .left)))
+    (sym (feed-accepted (a .area .now) (pieceOf (a .piece .now) (a .start) (a .bits)) (a .log .now) (sym (number .feed-number .ensures) ∙ fed .before .before .before .if1 .left)))
 
 pub feed-spec : {M : Type 1} → statement M
 feed-spec =

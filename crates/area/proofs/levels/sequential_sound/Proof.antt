@@ -24,7 +24,7 @@ returns-2 c =
     let start = test .before .before in
     let part = start .args .part .now in
     let e = sym (empty-from .empty-from2 .ensures) ∙ not-true (empty-from .empty-from2 .result) (c .if2 .taken) in
-    sym (sequential-none (start .args .done) (start .args .held) part (test .if1 .left) (start .pre .0) ∙ and-first (emptyFrom 0 (take outputWords part)) (emptyFrom (outputBits + start .args .held) part) e)
+    sym (sequential-none (start .args .done) (start .args .held) part (test .if1 .left) ∙ and-first (emptyFrom 0 (take outputWords part)) (emptyFrom (outputBits + start .args .held) part) e)
 
 returns-3 : tie.Need-returns-3
 returns-3 c =
@@ -34,7 +34,7 @@ returns-3 c =
     let part = start .args .part .now in
     let e = sym (empty-from .empty-from2 .ensures) ∙ not-false (empty-from .empty-from2 .result) (c .before .if2 .left) in
     c .empty-from3 .ensures
-    ∙ sym (sequential-none (start .args .done) (start .args .held) part (test .if1 .left) (start .pre .0) ∙ and-second (emptyFrom 0 (take outputWords part)) (emptyFrom (outputBits + start .args .held) part) e)
+    ∙ sym (sequential-none (start .args .done) (start .args .held) part (test .if1 .left) ∙ and-second (emptyFrom 0 (take outputWords part)) (emptyFrom (outputBits + start .args .held) part) e)
 
 pub sequential-sound-spec : {M : Type 1} → statement M
 sequential-sound-spec =

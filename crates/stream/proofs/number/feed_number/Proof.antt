@@ -1,7 +1,7 @@
 -- `stream::number::feed_number` meets its contract.
 use native.Mathlib.Omega.{arith}
 use mathlib.Core.Path.{_∙_}
-use Rattle.bits.specs.Piece.{pieceOf}
+use Rattle.bits.specs.PieceLaws.{spanned}
 use Rattle.stream.specs.NumberLaws.{area-passed, feed-area, feed-open}
 use Rattle.stream.proofs.number.feed_number.Statement.{statement}
 use Rattle.stream.proofs.number.feed_number.Tie as tie
@@ -10,7 +10,7 @@ returns : tie.Need-returns
 returns c =
     let number = c .before in
     let a = number .before .before .before .before .args in
-    feed-area (a .area .now) (pieceOf (a .piece .now) (a .bits)) (a .log .now) (number .area-number .ensures) (c .if1 .taken)
+    feed-area (a .area .now) (spanned (a .piece .now) (a .span)) (a .log .now) (number .area-number .ensures) (c .if1 .taken)
 
 open-feed-number-requires : tie.Need-open-feed-number-requires
 open-feed-number-requires c κs =
@@ -22,7 +22,7 @@ returns-2 c =
     let test = c .before in
     let number = test .before in
     let a = number .before .before .before .before .args in
-    c .open-feed-number .ensures ∙ feed-open (a .area .now) (pieceOf (a .piece .now) (a .bits)) (a .log .now) (number .area-number .ensures) (test .if1 .left)
+    c .open-feed-number .ensures ∙ feed-open (a .area .now) (spanned (a .piece .now) (a .span)) (a .log .now) (number .area-number .ensures) (test .if1 .left)
 
 pub feed-number-spec : {M : Type 1} → statement M
 feed-number-spec = tie.close (tie.spec (λ c κs. omega arith) returns open-feed-number-requires returns-2)

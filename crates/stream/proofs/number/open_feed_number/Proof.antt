@@ -1,7 +1,7 @@
 -- `stream::number::open_feed_number` meets its contract.
 use native.Mathlib.Omega.{arith}
 use mathlib.Core.Path.{sym, _∙_}
-use Rattle.bits.specs.Piece.{pieceOf}
+use Rattle.bits.specs.PieceLaws.{spanned}
 use Rattle.calls.specs.Area.{totalOf}
 use Rattle.stream.specs.NumberLaws.{total-fits, feed-over, feed-past, feed-log}
 use Rattle.stream.proofs.number.open_feed_number.Statement.{statement}
@@ -10,7 +10,7 @@ use Rattle.stream.proofs.number.open_feed_number.Tie as tie
 returns : tie.Need-returns
 returns c =
     let a = c .before .before .before .before .before .args in
-    feed-over (a .area .now) (pieceOf (a .piece .now) (a .bits)) (a .log .now) (sym (c .before .bits-over .ensures) ∙ c .if1 .taken)
+    feed-over (a .area .now) (spanned (a .piece .now) (a .span)) (a .log .now) (sym (c .before .refused-bits .ensures) ∙ c .if1 .taken)
 
 returns-2 : tie.Need-returns-2
 returns-2 c =
@@ -18,14 +18,14 @@ returns-2 c =
     let test = total .before .before in
     let over = test .before in
     let a = over .before .before .before .before .args in
-    feed-past (a .area .now) (pieceOf (a .piece .now) (a .bits)) (a .log .now) (sym (over .bits-over .ensures) ∙ test .if1 .left) (total .total-number .ensures) (c .if2 .taken)
+    feed-past (a .area .now) (spanned (a .piece .now) (a .span)) (a .log .now) (sym (over .refused-bits .ensures) ∙ test .if1 .left) (total .total-number .ensures) (c .if2 .taken)
 
 nodes-made-requires : tie.Need-nodes-made-requires
 nodes-made-requires c κs =
     let total = c .before in
     let start = total .before .before .before .before .before .before .before in
     let a = start .args in
-    record { opened = start .pre; total = total-fits (totalOf (a .area .now)) (a .bits) (total .total-number .ensures) (c .if2 .left) }
+    record { opened = start .pre; total = total-fits (totalOf (a .area .now)) (a .span .bits) (total .total-number .ensures) (c .if2 .left) }
 
 returns-3 : tie.Need-returns-3
 returns-3 c =
@@ -36,7 +36,7 @@ returns-3 c =
     let over = test .before in
     let a = over .before .before .before .before .args in
     c .log-number .ensures
-    ∙ feed-log (a .area .now) (pieceOf (a .piece .now) (a .bits)) (a .log .now) (sym (over .bits-over .ensures) ∙ test .if1 .left) (total .total-number .ensures) (fits .if2 .left) (made .nodes-made .ensures)
+    ∙ feed-log (a .area .now) (spanned (a .piece .now) (a .span)) (a .log .now) (sym (over .refused-bits .ensures) ∙ test .if1 .left) (total .total-number .ensures) (fits .if2 .left) (made .nodes-made .ensures)
 
 pub open-feed-number-spec : {M : Type 1} → statement M
 open-feed-number-spec =

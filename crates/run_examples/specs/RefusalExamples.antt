@@ -28,8 +28,8 @@ abbrev used : List ℕ
 used = replicate areaWords 7
 
 -- one word short
-abbrev cut : List ℕ → List ℕ
-cut area = take (areaWords - 1) area
+abbrev shorter : List ℕ → List ℕ
+shorter area = take (areaWords - 1) area
 
 abbrev opened : List ℕ
 opened = openOf used (params 8 0 64 0) .area
@@ -40,7 +40,7 @@ ended = endOf opened (0 ∷ []) (0 ∷ 0 ∷ []) .area
 
 -- after 4,096 bits: the next bit makes a node
 abbrev full : List ℕ
-full = feedOf opened (pieceOf (replicate 512 255) 4096) [] .area
+full = feedOf opened (pieceOf (replicate 512 255) 0 4096) [] .area
 
 -- after t bits, all zero, of 2^64 - 4,096 or more: 4,503,599,627,370,495 blocks were compressed at level 1, a quarter of them
 -- rounded down at level 2, and so on
@@ -62,7 +62,7 @@ room = replicate 65 0
 -- "open 7, 1, 2, 3, 4"
 abbrev openRows : List Row
 openRows =
-    (openOf (cut used) (params 0 0 64 0) .number, 7)
+    (openOf (shorter used) (params 0 0 64 0) .number, 7)
     ∷ (openOf used (params 0 0 64 0) .number, 1)
     ∷ (openOf used (params 513 65 64 0) .number, 1)
     ∷ (openOf used (params 8 65 64 0) .number, 2)
@@ -71,7 +71,7 @@ openRows =
     ∷ (openOf used (params 8 0 65 256) .number, 3)
     ∷ (openOf used (params 8 0 64 256) .number, 4)
     -- edges: the length of the area; d 1, 512 and 513; key 64; L 64; r 255
-    ∷ (openOf (cut used) (params 8 0 64 0) .number, 7)
+    ∷ (openOf (shorter used) (params 8 0 64 0) .number, 7)
     ∷ (openOf used (params 1 0 0 0) .number, 0)
     ∷ (openOf used (params 512 64 64 255) .number, 0)
     ∷ (openOf used (params 513 0 64 0) .number, 1)
@@ -80,30 +80,42 @@ openRows =
 -- "Feed 7, 10, 5, 6, 8"
 abbrev feedRows : List Row
 feedRows =
-    (feedOf (cut ended) (pieceOf byte 8) [] .number, 7)
-    ∷ (feedOf (set ended 15 1) (pieceOf byte 8) [] .number, 7)
-    ∷ (feedOf ended (pieceOf byte 8) [] .number, 10)
-    ∷ (feedOf ended (pieceOf byte 9) [] .number, 10)
-    ∷ (feedOf opened (pieceOf byte 9) [] .number, 5)
-    ∷ (feedOf (late (2 ^ 64 - 1)) (pieceOf byte 9) [] .number, 5)
-    ∷ (feedOf (late (2 ^ 64 - 1)) (pieceOf byte 1) [] .number, 6)
-    ∷ (feedOf (late (2 ^ 64 - 1)) (pieceOf byte 2) [] .number, 6)
-    ∷ (feedOf full (pieceOf byte 1) [] .number, 8)
+    (feedOf (shorter ended) (pieceOf byte 0 8) [] .number, 7)
+    ∷ (feedOf (set ended 15 1) (pieceOf byte 0 8) [] .number, 7)
+    ∷ (feedOf ended (pieceOf byte 0 8) [] .number, 10)
+    ∷ (feedOf ended (pieceOf byte 0 9) [] .number, 10)
+    ∷ (feedOf opened (pieceOf byte 0 9) [] .number, 5)
+    ∷ (feedOf (late (2 ^ 64 - 1)) (pieceOf byte 0 9) [] .number, 5)
+    ∷ (feedOf (late (2 ^ 64 - 1)) (pieceOf byte 0 1) [] .number, 6)
+    ∷ (feedOf (late (2 ^ 64 - 1)) (pieceOf byte 0 2) [] .number, 6)
+    ∷ (feedOf full (pieceOf byte 0 1) [] .number, 8)
+    -- document 02, M-104: a start bit above 7, after 7 and 10, before 6 and 8; start and count together, before 8 too
+    ∷ (feedOf (set ended 15 1) (pieceOf byte 8 0) [] .number, 7)
+    ∷ (feedOf ended (pieceOf byte 8 0) [] .number, 10)
+    ∷ (feedOf opened (pieceOf byte 8 0) [] .number, 5)
+    ∷ (feedOf (late (2 ^ 64 - 1)) (pieceOf byte 8 1) [] .number, 5)
+    ∷ (feedOf full (pieceOf byte 8 1) [] .number, 5)
+    ∷ (feedOf full (pieceOf byte 7 2) [] .number, 5)
+    ∷ (feedOf full (pieceOf byte 7 1) [] .number, 8)
+    ∷ (feedOf opened (pieceOf byte 7 1) [] .number, 0)
+    ∷ (feedOf opened (pieceOf byte 7 (2 ^ 64 - 8)) [] .number, 5)
+    ∷ (feedOf opened (pieceOf byte 7 (2 ^ 64 - 1)) [] .number, 5)
+    ∷ (feedOf opened (pieceOf [] 3 0) [] .number, 5)
     -- edges: 8 times the bytes; 0 bits; the highest total; no node made; a word short of one node
-    ∷ (feedOf opened (pieceOf byte 8) [] .number, 0)
-    ∷ (feedOf full (pieceOf [] 0) [] .number, 0)
-    ∷ (feedOf full (pieceOf [] 1) [] .number, 5)
-    ∷ (feedOf (late (2 ^ 64 - 2)) (pieceOf byte 1) [] .number, 0)
-    ∷ (feedOf (late (2 ^ 64 - 2)) (pieceOf byte 2) [] .number, 6)
-    ∷ (feedOf (late (2 ^ 64 - 1)) (pieceOf byte 0) [] .number, 0)
-    ∷ (feedOf full (pieceOf byte 1) (0 ∷ []) .number, 8)
-    ∷ (feedOf full (pieceOf byte 1) (0 ∷ 0 ∷ []) .number, 0)
+    ∷ (feedOf opened (pieceOf byte 0 8) [] .number, 0)
+    ∷ (feedOf full (pieceOf [] 0 0) [] .number, 0)
+    ∷ (feedOf full (pieceOf [] 0 1) [] .number, 5)
+    ∷ (feedOf (late (2 ^ 64 - 2)) (pieceOf byte 0 1) [] .number, 0)
+    ∷ (feedOf (late (2 ^ 64 - 2)) (pieceOf byte 0 2) [] .number, 6)
+    ∷ (feedOf (late (2 ^ 64 - 1)) (pieceOf byte 0 0) [] .number, 0)
+    ∷ (feedOf full (pieceOf byte 0 1) (0 ∷ []) .number, 8)
+    ∷ (feedOf full (pieceOf byte 0 1) (0 ∷ 0 ∷ []) .number, 0)
     ∷ []
 
 -- "End 7, 10, 9, 8"
 abbrev endRows : List Row
 endRows =
-    (endOf (cut ended) byte (0 ∷ 0 ∷ []) .number, 7)
+    (endOf (shorter ended) byte (0 ∷ 0 ∷ []) .number, 7)
     ∷ (endOf (set ended 15 1) byte (0 ∷ 0 ∷ []) .number, 7)
     ∷ (endOf ended byte (0 ∷ 0 ∷ []) .number, 10)
     ∷ (endOf ended [] (0 ∷ 0 ∷ []) .number, 10)
@@ -120,7 +132,7 @@ endRows =
 -- "Write 7, 9": the text of an opened or ended area has 174 bytes
 abbrev writeRows : List Row
 writeRows =
-    (writeOf (cut opened) [] .number, 7)
+    (writeOf (shorter opened) [] .number, 7)
     ∷ (writeOf used [] .number, 7)
     ∷ (writeOf opened [] .number, 9)
     ∷ (writeOf opened (replicate 173 0) .number, 9)
@@ -131,9 +143,9 @@ writeRows =
 -- "Read 7, 11": what the area holds does not matter
 abbrev readRows : List Row
 readRows =
-    (readOf (cut used) [] .number, 7)
+    (readOf (shorter used) [] .number, 7)
     ∷ (readOf used [] .number, 11)
-    ∷ (readOf (cut used) (textOf ended) .number, 7)
+    ∷ (readOf (shorter used) (textOf ended) .number, 7)
     ∷ (readOf used (textOf ended) .number, 0)
     ∷ (readOf used (textOf ended ++ (10 ∷ [])) .number, 11)
     ∷ []
@@ -141,22 +153,30 @@ readRows =
 -- "Whole message 5, 1, 2, 3, 4, 9"
 abbrev wholeRows : List Row
 wholeRows =
-    (hashOf (pieceOf byte 9) (params 0 0 64 0) room .number, 5)
-    ∷ (hashOf (pieceOf byte 8) (params 0 0 64 0) room .number, 1)
-    ∷ (hashOf (pieceOf byte 8) (params 513 65 64 0) room .number, 1)
-    ∷ (hashOf (pieceOf byte 8) (params 8 65 64 0) room .number, 2)
-    ∷ (hashOf (pieceOf byte 8) (params 8 65 65 0) room .number, 2)
-    ∷ (hashOf (pieceOf byte 8) (params 8 0 65 0) room .number, 3)
-    ∷ (hashOf (pieceOf byte 8) (params 8 0 65 256) room .number, 3)
-    ∷ (hashOf (pieceOf byte 8) (params 8 0 64 256) room .number, 4)
-    ∷ (hashOf (pieceOf byte 8) (params 8 0 64 256) [] .number, 4)
-    ∷ (hashOf (pieceOf byte 8) (params 8 0 64 0) [] .number, 9)
+    (hashOf (pieceOf byte 0 9) (params 0 0 64 0) room .number, 5)
+    ∷ (hashOf (pieceOf byte 0 8) (params 0 0 64 0) room .number, 1)
+    ∷ (hashOf (pieceOf byte 0 8) (params 513 65 64 0) room .number, 1)
+    ∷ (hashOf (pieceOf byte 0 8) (params 8 65 64 0) room .number, 2)
+    ∷ (hashOf (pieceOf byte 0 8) (params 8 65 65 0) room .number, 2)
+    ∷ (hashOf (pieceOf byte 0 8) (params 8 0 65 0) room .number, 3)
+    ∷ (hashOf (pieceOf byte 0 8) (params 8 0 65 256) room .number, 3)
+    ∷ (hashOf (pieceOf byte 0 8) (params 8 0 64 256) room .number, 4)
+    ∷ (hashOf (pieceOf byte 0 8) (params 8 0 64 256) [] .number, 4)
+    ∷ (hashOf (pieceOf byte 0 8) (params 8 0 64 0) [] .number, 9)
+    -- document 02, M-104: a start bit above 7; start and count together
+    ∷ (hashOf (pieceOf byte 8 0) (params 0 0 64 0) room .number, 5)
+    ∷ (hashOf (pieceOf byte 8 0) (params 8 0 64 0) room .number, 5)
+    ∷ (hashOf (pieceOf byte 3 6) (params 8 0 64 0) room .number, 5)
+    ∷ (hashOf (pieceOf byte 3 5) (params 8 0 64 0) room .number, 0)
+    ∷ (hashOf (pieceOf byte 1 (2 ^ 64 - 1)) (params 8 0 64 0) room .number, 5)
+    ∷ (hashOf (pieceOf [] 3 0) (params 8 0 64 0) room .number, 5)
+    ∷ (hashOf (pieceOf [] 0 0) (params 8 0 64 0) room .number, 0)
     -- edges: 8 times the bytes and one more; d 1, 512 and 513; key 64; L 64; r 255; the bytes of a digest
-    ∷ (hashOf (pieceOf byte 8) (params 1 64 64 255) byte .number, 0)
-    ∷ (hashOf (pieceOf byte 9) (params 1 64 64 255) byte .number, 5)
-    ∷ (hashOf (pieceOf byte 8) (params 512 0 0 0) (take 64 room) .number, 0)
-    ∷ (hashOf (pieceOf byte 8) (params 512 0 0 0) (take 63 room) .number, 9)
-    ∷ (hashOf (pieceOf byte 8) (params 513 0 0 0) room .number, 1)
+    ∷ (hashOf (pieceOf byte 0 8) (params 1 64 64 255) byte .number, 0)
+    ∷ (hashOf (pieceOf byte 0 9) (params 1 64 64 255) byte .number, 5)
+    ∷ (hashOf (pieceOf byte 0 8) (params 512 0 0 0) (take 64 room) .number, 0)
+    ∷ (hashOf (pieceOf byte 0 8) (params 512 0 0 0) (take 63 room) .number, 9)
+    ∷ (hashOf (pieceOf byte 0 8) (params 513 0 0 0) room .number, 1)
     ∷ []
 
 -- document 02, M-102: "refuses 1, then 2"; edges: d 0, 1, 512 and 513; key 64 and 65
@@ -174,13 +194,13 @@ roundsRows =
 -- document 02, M-103: "It refuses 7, 10 and 6 in that order"; edges: the length of the area; the highest total
 abbrev toldRows : List Row
 toldRows =
-    (logWordsOf (cut ended) 8 .number, 7)
+    (logWordsOf (shorter ended) 8 .number, 7)
     ∷ (logWordsOf (set ended 15 1) 8 .number, 7)
     ∷ (logWordsOf ended 8 .number, 10)
     ∷ (logWordsOf (set ended 1 1) (2 ^ 64 - 1) .number, 10)
     ∷ (logWordsOf (late (2 ^ 64 - 1)) 1 .number, 6)
     ∷ (logWordsOf (set (late (2 ^ 64 - 1)) 15 1) 1 .number, 7)
-    ∷ (logWordsOf (cut opened) 0 .number, 7)
+    ∷ (logWordsOf (shorter opened) 0 .number, 7)
     ∷ (logWordsOf opened 0 .number, 0)
     ∷ (logWordsOf opened (2 ^ 64 - 1) .number, 0)
     ∷ (logWordsOf (late (2 ^ 64 - 1)) 0 .number, 0)

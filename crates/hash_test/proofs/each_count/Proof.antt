@@ -1,0 +1,19 @@
+-- `hash_test::each_count` is safe and ends.
+use lib.ListN.{length}
+use Prim.Native.Nat.{_-_, _≤_}
+use borrow.Author.Needs.{needs}
+use Rattle.hash_test.proofs.each_count.Statement.{statement}
+use Rattle.hash_test.proofs.each_count.Tie as tie
+
+abbrev Inv-loop : tie.InvT-loop
+Inv-loop message start counts limit i₀ i = i ≤ length counts
+
+abbrev μ-loop : tie.MeasureT-loop
+μ-loop message start counts limit i₀ i = length counts - i
+
+pub each-count-spec : {M : Type 1} → statement M
+each-count-spec =
+    tie.close
+    (tie.spec
+    Inv-loop μ-loop (λ c. search needs) (λ c. search needs) (λ c. search needs) (λ c κs. search needs)
+    (λ c. search needs) (λ c. search needs) (λ c. search needs) (λ c. search needs))

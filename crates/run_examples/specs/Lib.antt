@@ -1,0 +1,4 @@
+pub mod RunTest
+pub mod WorkedRun
+pub mod RunExamples
+pub mod RefusalExamples

@@ -1,0 +1,1 @@
+// Runs and refusals by computing: the examples stand in specs/.

@@ -1,0 +1,18 @@
+-- `stream_test::each_count` is safe and ends.
+use Prim.Native.Nat.{_-_, _≤_}
+use borrow.Author.Needs.{needs}
+use Rattle.stream_test.proofs.each_count.Statement.{statement}
+use Rattle.stream_test.proofs.each_count.Tie as tie
+
+abbrev Inv-loop : tie.InvT-loop
+Inv-loop message limit held start i₀ i = i ≤ 8
+
+abbrev μ-loop : tie.MeasureT-loop
+μ-loop message limit held start i₀ i = 8 - i
+
+pub each-count-spec : {M : Type 1} → statement M
+each-count-spec =
+    tie.close
+    (tie.spec
+    Inv-loop μ-loop (λ c. search needs) (λ c. search needs) (λ c. search needs) (λ c κs. search needs)
+    (λ c. search needs) (λ c. search needs) (λ c. search needs) (λ c. search needs))
