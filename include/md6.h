@@ -20,7 +20,7 @@ extern "C" {
 /* Sizes to lend: the words of a stream's area, the most words of log that an end needs, the most bytes of a suspended text. */
 #define MD6_AREA_WORDS 1744
 #define MD6_END_LOG_WORDS 54
-#define MD6_TEXT_BYTES 27903
+#define MD6_TEXT_BYTES 27905
 
 /* A number, 0 if the call was accepted, and a count, 0 if it was refused. */
 typedef struct {
@@ -28,14 +28,14 @@ typedef struct {
 } md6_answer;
 
 /* The digest of a message: `bits` bits, from bit `start` (0 to 7) of the message's first byte on, under a key of 0 to 64 bytes,
- * with digest size d (1 to 512 bits), height limit `limit` (0 to 64) and `rounds` rounds (0 to 255), to the first (d + 7) / 8
+ * with digest size d (1 to 512 bits), height limit `limit` (0 to 64) and `rounds` rounds (0 to 4,095), to the first (d + 7) / 8
  * bytes of `digest`; the bytes past them stay, and so does everything if it is refused. Answers 0, or the first of these that
  * holds:
  *   5  `start` is above 7, or `start` and `bits` together are over 8 times the message's bytes
  *   1  d is not 1 to 512
  *   2  the key has over 64 bytes
  *   3  `limit` is over 64
- *   4  `rounds` is over 255
+ *   4  `rounds` is over 4,095
  *   9  `digest` has fewer than (d + 7) / 8 bytes
  */
 uint64_t md6_hash(const uint8_t *message, size_t message_bytes, uint64_t start, uint64_t bits,
@@ -57,7 +57,7 @@ md6_answer md6_default_rounds(uint64_t d, uint64_t key_bytes);
  *   1  d is not 1 to 512
  *   2  the key has over 64 bytes
  *   3  `limit` is over 64
- *   4  `rounds` is over 255
+ *   4  `rounds` is over 4,095
  * Between calls nobody else may alter the area; an area that was altered is refused as unsound, or is another stream.
  */
 md6_answer md6_open(uint64_t *area, size_t area_words,
@@ -98,7 +98,8 @@ md6_answer md6_end(uint64_t *area, size_t area_words,
 md6_answer md6_log_words(const uint64_t *area, size_t area_words, uint64_t bits);
 
 /* Writes a stream as text, to read it back later, there or elsewhere; the count is the text's bytes, at most MD6_TEXT_BYTES.
- * The bytes past the text stay. Refuses, the first that holds:
+ * The bytes past the text stay. The text has the rounds in two bytes, so that its first line has 46 digits, also if the stream
+ * was read from a text of the old form. Refuses, the first that holds:
  *   7  the area is short or unsound
  *   9  `text` is shorter than the text
  */
@@ -106,9 +107,10 @@ md6_answer md6_write(const uint64_t *area, size_t area_words,
                      uint8_t *text, size_t text_bytes);
 
 /* Reads a text into an area of at least MD6_AREA_WORDS words, whatever it held: from then on the stream is in that area. The
- * text is the whole of what is lent. Refuses, the first that holds:
+ * text is the whole of what is lent. Texts of the old form, written when the rounds went up to 255 and stood in one byte, are
+ * read too: their first line has 44 digits, and they are written back two bytes longer. Refuses, the first that holds:
  *   7   the area has fewer words
- *   11  the text is not what writing some sound area gives
+ *   11  the text is neither what writing some sound area gives now nor, with rounds up to 255, what it gave in the old form
  */
 md6_answer md6_read(uint64_t *area, size_t area_words,
                     const uint8_t *text, size_t text_bytes);

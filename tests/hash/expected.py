@@ -3,8 +3,8 @@
 
 MD6REF is the second program (tests/second/md6ref.c), compiled. Accepted calls are run by it: it prints a line for each node
 and then the digest. Bits from a start bit on are cut out here, and given to it as a message of their own. Refusals are those
-of document 01's table, number 5 as document 02 has it, and a refused call leaves the output as it was, a5. The default rounds
-are worked out from document 02.
+of document 01's table, numbers 4 and 5 as document 02 has them, and a refused call leaves the output as it was, a5. The default
+rounds are worked out from document 02.
 """
 import subprocess
 import sys
@@ -15,7 +15,7 @@ REPEATED = bytes(17 * (i % 7 + 1) for i in range(800))
 
 def accepted(message, bits, key, d, limit, rounds, room):
     line = f"{d} {limit} {rounds} {key.hex() or '-'}\n".encode()
-    run = subprocess.run([sys.argv[1], "--bits", str(bits)], input=line + message, stdout=subprocess.PIPE, check=True)
+    run = subprocess.run([sys.argv[1], "--m108", "--bits", str(bits)], input=line + message, stdout=subprocess.PIPE, check=True)
     lines = run.stdout.decode().split()
     digest = lines[-1]
     return f"0 {(len(lines) - 1) // 2} {digest}{'a5' * (room - len(digest) // 2)}"
@@ -44,6 +44,8 @@ def edges():
         accepted(abc, 24, b"", 8, 64, 5, 1),
         refused(3, 1),
         accepted(abc, 24, b"", 8, 64, 255, 1),
+        accepted(abc, 24, b"", 8, 64, 256, 1),
+        accepted(abc, 24, b"", 8, 64, 4095, 1),
         refused(4, 1),
         refused(5, 0),
         refused(5, 1),
@@ -54,6 +56,16 @@ def edges():
         refused(3, 0),
         refused(4, 0),
     ]
+
+
+def with_rounds(rounds):
+    """Document 02, M-108: "Number 4 is now for r over 4,095"."""
+    return refused(4, 64) if rounds > 4095 else accepted(ONES, 4097, b"key", 512, 64, rounds, 64)
+
+
+def each_rounds():
+    rows = [254, 255, 256, 273, 274, 546, 547, 3822, 3823, 4094, 4095, 4096, 2 ** 12 + 5, 2 ** 16 + 5, 2 ** 32 + 5, 2 ** 64 - 1]
+    return [with_rounds(rounds) for rounds in rows]
 
 
 def report():
@@ -111,4 +123,4 @@ def defaults():
     return [" ".join(told(d, key_bytes) for key_bytes in (0, 1, 63, 64, 65, 2**32, 2**64 - 1)) for d in sizes]
 
 
-print("\n".join(reels() + edges() + report() + starts() + last_bits() + refused_starts() + defaults()))
+print("\n".join(reels() + edges() + each_rounds() + report() + starts() + last_bits() + refused_starts() + defaults()))

@@ -1,5 +1,5 @@
-/* A host in C: md6_hash of the archive against the second program's code, on every start bit with counts at the edges and on
- * random inputs.
+/* A host in C: md6_hash of the archive against the second program's code, on every start bit with counts at the edges, with every
+ * number of rounds, and on random inputs.
  *
  *   hash [SEED [INPUTS]]
  *
@@ -28,13 +28,12 @@ static uint64_t pick_limit(void)
     return below(2) == 0 ? below(6) : 26 + below(39);
 }
 
-static uint64_t pick_rounds(void)
+/* rounds; with a long message there are mostly few, to spare time */
+static uint64_t pick_rounds(uint64_t bits)
 {
-    switch (below(4)) {
-    case 0: return below(6);
-    case 1: return 255 - below(3);
-    default: return below(256);
-    }
+    if (below(bits <= 4096 ? 2 : 12) == 0)
+        return wide_rounds();
+    return below(4) == 0 ? below(6) : below(OLD_ROUNDS + 1);
 }
 
 struct input {
@@ -54,7 +53,7 @@ static uint64_t expected_number(const struct input *in)
         return 2;
     if (in->limit > 64)
         return 3;
-    if (in->rounds > 255)
+    if (in->rounds > MOST_ROUNDS)
         return 4;
     if (in->digest_bytes < (in->d + 7) / 8)
         return 9;
@@ -72,7 +71,7 @@ static void second_digest(const uint8_t *message, uint64_t bits, const uint8_t *
 
 /* numbers that are out of a range, some of which would be in it if they were cut to 32 bits */
 enum { FAR = 7 };
-static const uint64_t far[FAR] = { 65, 256, 513, UINT64_C(1) << 32, (UINT64_C(1) << 32) + 8, UINT64_MAX, UINT64_C(1) << 63 };
+static const uint64_t far[FAR] = { 65, 513, 4096, UINT64_C(1) << 32, (UINT64_C(1) << 32) + 8, UINT64_MAX, UINT64_C(1) << 63 };
 
 static void spoil_some(struct input *in)
 {
@@ -87,7 +86,7 @@ static void spoil_some(struct input *in)
     if (below(3) == 0)
         in->limit = far[below(FAR)];
     if (below(3) == 0)
-        in->rounds = 256 + below(2) * far[below(5)];
+        in->rounds = over_rounds[below(OVER)];
     if (below(3) == 0 && in->digest_bytes > 0)
         in->digest_bytes -= 1 + (size_t)below(in->digest_bytes);
 }
@@ -101,7 +100,7 @@ static struct input pick_input(void)
     in.message.bytes += (size_t)(below(2) == 0 ? below(3) : 0);
     in.d = below(4) == 0 ? 8 * (1 + below(64)) : 1 + below(512);
     in.limit = pick_limit();
-    in.rounds = pick_rounds();
+    in.rounds = pick_rounds(in.message.bits);
     in.key_bytes = (size_t)(below(3) == 0 ? 0 : below(65));
     in.digest_bytes = (size_t)((in.d + 7) / 8 + (below(2) == 0 ? below(20) : 0));
     return in;
@@ -192,10 +191,67 @@ static void edge_right(const struct span *message, uint64_t number)
     if (number == 5) {
         in.d = 513;
         bad += !try_input(&in, 1);
-        in = (struct input){ *message, 0, 65, 256, 65, 0 };
+        in = (struct input){ *message, 0, 65, MOST_ROUNDS + 1, 65, 0 };
         bad += !try_input(&in, 1);
     }
     edges++;
+}
+
+/* every number of rounds, on messages that are one node at any height limit: each constant of the table is once the last */
+static void every_rounds(void)
+{
+    uint64_t r;
+
+    for (r = 0; r <= MOST_ROUNDS; r++) {
+        struct input in = pick_input();
+
+        in.message = just(below(STARTS), below(3073));
+        in.rounds = r;
+        bad += !try_input(&in, 1);
+    }
+}
+
+/* the last numbers of rounds before M-108 and now, on trees of several levels and on a chain */
+static void rounds_edges(void)
+{
+    static const uint64_t edges[] = { OLD_ROUNDS, OLD_ROUNDS + 1, MOST_ROUNDS - 1, MOST_ROUNDS };
+    static const uint64_t counts[] = { 0, 1, 4096, 4097, 16385 }, limits[] = { 0, 1, 64 };
+    size_t i, k, l;
+
+    for (i = 0; i < sizeof edges / sizeof *edges; i++)
+        for (k = 0; k < sizeof counts / sizeof *counts; k++)
+            for (l = 0; l < sizeof limits / sizeof *limits; l++) {
+                struct input in = pick_input();
+
+                in.message = just(below(STARTS), counts[k]);
+                in.limit = limits[l];
+                in.rounds = edges[i];
+                bad += !try_input(&in, 1);
+            }
+}
+
+/* rounds over the range get 4, which comes after 5, 1, 2 and 3, and before 9 */
+static void rounds_refused(void)
+{
+    size_t i;
+
+    for (i = 0; i < OVER; i++) {
+        struct input in = pick_input();
+
+        in.rounds = over_rounds[i];
+        expect(expected_number(&in) == 4, "the table's number for rounds over the range");
+        bad += !try_input(&in, 1);
+        in.digest_bytes = 0;
+        bad += !try_input(&in, 1);
+        in.limit = 65;
+        bad += !try_input(&in, 1);
+        in.key_bytes = 65;
+        bad += !try_input(&in, 1);
+        in.d = 513;
+        bad += !try_input(&in, 1);
+        in.message.start = 8;
+        bad += !try_input(&in, 1);
+    }
 }
 
 /* document 02, M-102: "the larger of 80 and 40 + d/4 if the key has any byte", "refuses 1, then 2" */
@@ -253,10 +309,14 @@ int main(int argc, char **argv)
         refused += expected_number(&in) != 0;
     }
     every_start();
+    every_rounds();
+    rounds_edges();
+    rounds_refused();
     edge_spans(edge_right);
     expect(default_rounds_right(), "default rounds");
     expect(null_right(), "null pointers");
-    printf("%" PRIu64 " refused among them; %" PRIu64 " messages at every start bit, %" PRIu64 " edges of number 5; %" PRIu64 " differ\n",
-           refused, starts, edges, bad);
+    printf("%" PRIu64 " refused among them; %" PRIu64 " messages at every start bit, %" PRIu64 " edges of number 5; rounds 0 to %d\n",
+           refused, starts, edges, MOST_ROUNDS);
+    printf("%" PRIu64 " differ\n", bad);
     return bad != 0;
 }

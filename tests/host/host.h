@@ -40,6 +40,24 @@ static inline uint64_t begin(int argc, char **argv)
     return seed;
 }
 
+/* document 02, M-108: "Number 4 is now for r over 4,095"; before it went up to 255 */
+enum { MOST_ROUNDS = 4095, OLD_ROUNDS = 255 };
+
+/* rounds over the range; most would be in it if they were cut to 12, 16 or 32 bits */
+enum { OVER = 9 };
+static const uint64_t over_rounds[OVER] = {
+    MOST_ROUNDS + 1, MOST_ROUNDS + 2, 65535, 65536, 65536 + 5, UINT64_C(1) << 32, (UINT64_C(1) << 32) + 5,
+    UINT64_C(1) << 63, UINT64_MAX,
+};
+
+/* rounds at an edge of the range or of the old one, or anywhere in it */
+static inline uint64_t wide_rounds(void)
+{
+    static const uint64_t edges[] = { 0, OLD_ROUNDS - 1, OLD_ROUNDS, OLD_ROUNDS + 1, MOST_ROUNDS - 1, MOST_ROUNDS };
+
+    return below(2) == 0 ? edges[below(sizeof edges / sizeof *edges)] : below(MOST_ROUNDS + 1);
+}
+
 struct params {
     uint8_t key[64];
     size_t key_bytes;

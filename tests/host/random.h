@@ -35,4 +35,14 @@ static inline void random_bytes(uint8_t *to, size_t n)
         to[i] = ones ? 0xff : (uint8_t)(next() >> 20);
 }
 
+/* the same of words: a dirty area */
+static inline void random_words(uint64_t *to, size_t n)
+{
+    size_t i;
+    int ones = below(8) == 0;
+
+    for (i = 0; i < n; i++)
+        to[i] = ones ? UINT64_MAX : next();
+}
+
 #endif

@@ -9,16 +9,16 @@
  * a word fewer, which is refused. On sound areas that no message in memory reaches the told words are compared with a count of
  * the nodes, level by level. Pieces at every start bit are fed at every reach of a block, and must do what the same bits do when
  * they are moved to the front. The edges of number 5 are tried on areas of every kind, and random calls on damaged areas:
- * whatever is refused must change nothing.
+ * whatever is refused must change nothing. An area is opened at every edge of its parameters, and streams run at those of r.
  */
-#include "host.h"
+#include "sound.h"
 
-enum { CUTTINGS = 2000, SOUND = 3000, TELLINGS = 10, DAMAGED = 2000, MESSAGE_BYTES = 9000, LOG_WORDS = 4096, TAIL = 8 };
+enum { CUTTINGS = 2000, EDGE_CUTTINGS = 20, SOUND = 3000, TELLINGS = 10, DAMAGED = 2000, MESSAGE_BYTES = 9000, LOG_WORDS = 4096, TAIL = 8 };
 
 /* what ran: feeds with just the told words, those of them before which one word fewer was refused, and those that began inside
  * the byte where the one before ended; sound areas; tellings on them that were accepted and that were refused by 6; tellings on
- * damaged areas by number; edges of number 5 by number; pieces at every reach */
-static uint64_t fed, fed_short, shared, sound, told_accepted, told_past, told_damaged[11], edge_numbers[11], reached;
+ * damaged areas by number; edges of number 5 by number; opens by number; pieces at every reach */
+static uint64_t fed, fed_short, shared, sound, told_accepted, told_past, told_damaged[11], edge_numbers[11], opened[11], reached;
 
 /* the node lines of the second program's tree, as words U, V, in order */
 static size_t second_log(const struct tree *T, int level, uint64_t i, uint64_t *log, size_t at)
@@ -41,7 +41,7 @@ static struct params pick_params(void)
     p.key_bytes = (size_t)(below(2) == 0 ? 0 : below(65));
     p.d = 1 + below(512);
     p.limit = below(2) == 0 ? below(5) : below(65);
-    p.rounds = below(3) == 0 ? below(256) : below(8);
+    p.rounds = below(16) == 0 ? wide_rounds() : below(3) == 0 ? below(OLD_ROUNDS + 1) : below(8);
     return p;
 }
 
@@ -233,10 +233,9 @@ static void fed_right(const struct params *p, const struct message *m, const uin
     expect(logged == words && memcmp(joined, expected, 8 * words) == 0, "log");
 }
 
-static void one_cutting(void)
+static void one_cutting(struct params p)
 {
     static uint64_t joined[LOG_WORDS];
-    struct params p = pick_params();
     struct message m = pick_message();
     struct guarded area = guarded_new(8 * (MD6_AREA_WORDS + TAIL), 1);
     uint64_t *a = lent_words(&area);
@@ -258,6 +257,72 @@ static void one_cutting(void)
     expect(guarded_intact(&area) && guarded_intact(&m.bytes), "wrote outside the area or the message");
     guarded_free(&area);
     guarded_free(&m.bytes);
+}
+
+/* messages cut at random, at the last numbers of rounds that there were before M-108 and are now */
+static void rounds_edges(void)
+{
+    static const uint64_t edges[] = { OLD_ROUNDS, OLD_ROUNDS + 1, MOST_ROUNDS - 1, MOST_ROUNDS };
+    struct params p;
+    size_t i, k;
+
+    for (i = 0; i < sizeof edges / sizeof *edges; i++)
+        for (k = 0; k < EDGE_CUTTINGS; k++) {
+            p = pick_params();
+            p.rounds = edges[i];
+            one_cutting(p);
+        }
+}
+
+/* an open of a dirty area of so many words: the first of 7, 1, 2, 3 and 4 that holds is given and nothing changes, or the area is
+ * as document 01 has it, with nothing in its levels, and the words past it stay */
+static void one_open(size_t words, const struct params *p, size_t key_bytes)
+{
+    static uint64_t expected[MD6_AREA_WORDS + TAIL];
+    struct guarded area = guarded_new(8 * words, 1), key = guarded_new(key_bytes, 1);
+    uint64_t number = words < MD6_AREA_WORDS ? 7 : p->d < 1 || p->d > 512 ? 1 : key_bytes > 64 ? 2 : p->limit > 64 ? 3
+                    : p->rounds > MOST_ROUNDS ? 4 : 0;
+    md6_answer o;
+    size_t i;
+
+    random_bytes(area.bytes, area.length);
+    random_bytes(key.bytes, key.length);
+    memcpy(expected, area.bytes, area.length);
+    if (number == 0) {
+        memset(expected, 0, 8 * MD6_AREA_WORDS);
+        memcpy(expected, (uint64_t[]){ 1, 0, key_bytes, p->d, p->limit, p->rounds }, 8 * 6);
+        for (i = 0; i < key_bytes; i++)
+            expected[6 + i / 8] |= (uint64_t)key.bytes[i] << (56 - 8 * (i % 8));
+    }
+    o = md6_open(lent_words(&area), words, key.bytes, key_bytes, p->d, p->limit, p->rounds);
+    if ((o.number != number || o.count != 0) && shown())
+        printf("an open of %zu words, key %zu, d %" PRIu64 ", L %" PRIu64 ", r %" PRIu64 ": number %" PRIu64 ", expected %" PRIu64 "\n",
+               words, key_bytes, p->d, p->limit, p->rounds, o.number, number);
+    expect(o.number == number && o.count == 0, "the number of an open");
+    expect(memcmp(expected, area.bytes, area.length) == 0 && guarded_intact(&area) && guarded_intact(&key), "the area after an open");
+    opened[number]++;
+    guarded_free(&area);
+    guarded_free(&key);
+}
+
+/* every edge of a parameter with every edge of the others */
+static void open_edges(void)
+{
+    static const size_t areas[] = { 0, MD6_AREA_WORDS - 1, MD6_AREA_WORDS, MD6_AREA_WORDS + TAIL }, keys[] = { 0, 1, 64, 65 };
+    static const uint64_t sizes[] = { 0, 1, 512, 513 }, limits[] = { 0, 64, 65 };
+    static const uint64_t in_range[] = { 0, OLD_ROUNDS, OLD_ROUNDS + 1, MOST_ROUNDS };
+    enum { RANGE = sizeof in_range / sizeof *in_range };
+    size_t a, k, d, l, r;
+
+    for (a = 0; a < 4; a++)
+        for (k = 0; k < 4; k++)
+            for (d = 0; d < 4; d++)
+                for (l = 0; l < 3; l++)
+                    for (r = 0; r < RANGE + OVER; r++) {
+                        struct params p = { .d = sizes[d], .limit = limits[l], .rounds = r < RANGE ? in_range[r] : over_rounds[r - RANGE] };
+
+                        one_open(areas[a], &p, keys[k]);
+                    }
 }
 
 /* document 01, "Reels by hand": bits, L and d; the message is all ones and r = 0 */
@@ -305,67 +370,6 @@ static void all_rows(void)
         one_row(&rows[i], 1, 1);
         for (k = 0; k < sizeof cuts / sizeof *cuts; k++)
             one_row(&rows[i], cuts[k], 20000);
-    }
-}
-
-/* The nodes of a level that an open stream of so many bits has made. A node of level k up to L covers 4,096 * 4^(k - 1) bits,
- * that is 2^(10 + 2 k); one of the sequential level L + 1 covers 3 * 2^(10 + 2 L). It is made as soon as a bit past those that
- * it covers has come. */
-static uint64_t made_at(uint64_t level, uint64_t limit, uint64_t total)
-{
-    if (total == 0 || level > limit + 1)
-        return 0;
-    if (level == limit + 1)
-        return (total - 1) / (UINT64_C(3) << (10 + 2 * limit));
-    return level == LEVELS ? 0 : (total - 1) >> (10 + 2 * level);
-}
-
-static uint64_t made(uint64_t limit, uint64_t total)
-{
-    uint64_t level, sum = 0;
-
-    for (level = 1; level <= LEVELS; level++)
-        sum += made_at(level, limit, total);
-    return sum;
-}
-
-/* random bits, and zero bits after them in their last word */
-static void hold(uint64_t *words, uint64_t bits)
-{
-    random_bytes((uint8_t *)words, 8 * (size_t)((bits + 63) / 64));
-    if (bits % 64 != 0)
-        words[bits / 64] &= UINT64_MAX << (64 - bits % 64);
-}
-
-/* an open area of that total which is sound: each level holds random bits, as many as came to it and are in no node yet, after
- * a random output if it is the sequential level and has made a node */
-static void sound_area(uint64_t *area, const struct params *p, uint64_t total)
-{
-    uint64_t level, came = total;
-
-    expect(md6_open(area, MD6_AREA_WORDS, p->key, p->key_bytes, p->d, p->limit, p->rounds).number == 0, "open of a sound area");
-    area[1] = total;
-    area[14] = made(p->limit, total);
-    for (level = 1; level <= LEVELS && level <= p->limit + 1; level++) {
-        uint64_t nodes = made_at(level, p->limit, total), *words = area + 16 + 64 * (level - 1);
-
-        if (level == p->limit + 1) {
-            random_bytes((uint8_t *)words, nodes == 0 ? 0 : 8 * C_WORDS);
-            hold(words + C_WORDS, came - 3072 * nodes);
-        } else
-            hold(words, came - 4096 * nodes);
-        came = 1024 * nodes;
-    }
-}
-
-/* a total: small, at or beside 2^k or 3 * 2^k, near 2^64 - 1, or anywhere */
-static uint64_t pick_total(void)
-{
-    switch (below(4)) {
-    case 0: return below(70000);
-    case 1: return ((1 + 2 * below(2)) << below(63)) + below(5) - 2;
-    case 2: return UINT64_MAX - (below(2) == 0 ? below(5) : below(70000));
-    default: return next() >> below(64);
     }
 }
 
@@ -709,7 +713,9 @@ int main(int argc, char **argv)
     printf("seed %" PRIu64 ": %d cuttings, %d random sound areas, %d calls on damaged areas\n", seed, CUTTINGS, SOUND, DAMAGED);
     all_rows();
     for (i = 0; i < CUTTINGS; i++)
-        one_cutting();
+        one_cutting(pick_params());
+    rounds_edges();
+    open_edges();
     sound_edges();
     for (i = 0; i < SOUND; i++)
         random_sound();
@@ -726,6 +732,8 @@ int main(int argc, char **argv)
            told_damaged[7], told_damaged[10], told_damaged[0]);
     printf("edges of number 5: %" PRIu64 " refused by 7, %" PRIu64 " by 10, %" PRIu64 " by 5, %" PRIu64 " by 6, %" PRIu64 " by 8, %" PRIu64 " accepted\n",
            edge_numbers[7], edge_numbers[10], edge_numbers[5], edge_numbers[6], edge_numbers[8], edge_numbers[0]);
+    printf("opens: %" PRIu64 " refused by 7, %" PRIu64 " by 1, %" PRIu64 " by 2, %" PRIu64 " by 3, %" PRIu64 " by 4, %" PRIu64 " accepted\n",
+           opened[7], opened[1], opened[2], opened[3], opened[4], opened[0]);
     printf("%" PRIu64 " pieces at every start bit and every reach of a block\n", reached);
     expect(fed_short > 0 && told_past > 0 && told_damaged[0] > 0 && told_damaged[7] > 0 && told_damaged[10] > 0,
            "a kind of telling that never came about");

@@ -2,37 +2,105 @@
  *
  *   text [SEED]
  *
- * Suspensions at every edge, and each damage of a text that can be named. Random runs of 200 calls: feeds cut at random, lent
- * where they stand in the message, from the byte on in which the one before ended, or copied to any start bit; log words told,
- * refused calls, suspensions into a dirty area; the digest at the end is compared with md6_hash's and the second program's of the
- * joined message. Then damaged texts: whatever is read must write back to itself, and whatever is refused must change nothing.
+ * Every text that is written is compared with a model of both forms, form.h, and every text that is read or refused with what the
+ * model says of it. Texts of the old form, which nothing writes any more, are made by leaving out the two digits of r's high byte.
+ *
+ * Suspensions at every edge, the edges of r, each damage of a text that can be named, in both forms, and mixtures of the two.
+ * Random runs of 200 calls: feeds cut at random, lent where they stand in the message, from the byte on in which the one before
+ * ended, or copied to any start bit; log words told, refused calls, suspensions into a dirty area, by a text of either form; the
+ * digest at the end is compared with md6_hash's and the second program's of the joined message. Sound areas of any total, which
+ * no message in memory reaches, up to the longest text. Then damaged texts of both forms: whatever is read must write back to
+ * itself, or to itself with r's high byte, and whatever is refused must change nothing.
  */
-#include "host.h"
+#include "form.h"
 
-enum { RUNS = 300, CALLS = 200, DAMAGED = 100000, MESSAGE_BYTES = 100000, PIECE_BYTES = 1100, LOG_WORDS = 256 };
+enum { RUNS = 300, CALLS = 200, AREAS = 3000, DAMAGED = 100000, MESSAGE_BYTES = 100000, PIECE_BYTES = 1100, LOG_WORDS = 256 };
 
-/* writes the stream and reads it into the other area; the areas change places. Only refused calls stand between the two: with an
- * accepted one, be it a telling, which changes nothing, document 01 has the read begin another stream. */
+/* room for a text that was made longer */
+enum { ROOM = MD6_TEXT_BYTES + 2 * LEVEL_LINE };
+
+/* what ran: texts read in runs and from sound areas, and damaged ones that are texts all the same, by form; damaged ones refused */
+static uint64_t read_forms[3], damaged_forms[3], damaged_refused;
+
+/* writes an area, with room to spare, and answers the text's bytes: it is the model's text in the new form, and no more */
+static size_t write_right(const uint64_t *area, uint8_t text[ROOM])
+{
+    static uint8_t model[MD6_TEXT_BYTES];
+    size_t n = text_of(area, NEW_FORM, model), i;
+    md6_answer o;
+
+    memset(text, GUARD_BYTE, ROOM);
+    o = md6_write(area, MD6_AREA_WORDS, text, ROOM);
+    expect(o.number == 0 && o.count == n && memcmp(text, model, n) == 0, "a text that is written");
+    for (i = n; i < ROOM; i++)
+        expect(text[i] == GUARD_BYTE, "bytes past a text");
+    return n;
+}
+
+/* reads a text, which ends at a page that may not be touched, into an area */
+static md6_answer read_at_page(uint64_t *into, const uint8_t *text, size_t n)
+{
+    static struct guarded page;
+
+    if (page.length == 0)
+        page = guarded_new(ROOM, 1);
+    memcpy(page.bytes + ROOM - n, text, n);
+    return md6_read(into, MD6_AREA_WORDS, page.bytes + ROOM - n, n);
+}
+
+/* reads a text into a dirty area: that is then the one given, and writes the text of the new form */
+static void read_right(const uint8_t *text, size_t n, const uint64_t *area, const char *what)
+{
+    static uint64_t into[MD6_AREA_WORDS];
+    static uint8_t again[ROOM];
+    md6_answer o;
+
+    random_words(into, MD6_AREA_WORDS);
+    o = read_at_page(into, text, n);
+    expect(o.number == 0 && o.count == 0 && memcmp(into, area, sizeof into) == 0, what);
+    if (o.number == 0)
+        write_right(into, again);
+}
+
+/* a text that no sound area writes or wrote: refused by 11, and nothing changes */
+static void refused(const uint8_t *text, size_t n, const char *what)
+{
+    static uint64_t into[MD6_AREA_WORDS], kept[MD6_AREA_WORDS];
+    md6_answer o;
+
+    random_words(into, MD6_AREA_WORDS);
+    memcpy(kept, into, sizeof into);
+    o = read_at_page(into, text, n);
+    expect(o.number == 11 && o.count == 0 && memcmp(kept, into, sizeof into) == 0, what);
+}
+
+/* Writes the stream and reads it into the other area, sometimes by the text that it would have had before M-108; the areas change
+ * places. Only refused calls stand between the two: with an accepted one, be it a telling, which changes nothing, document 01 has
+ * the read begin another stream. */
 static void suspend(uint64_t **area, uint64_t **other)
 {
-    static uint8_t text[MD6_TEXT_BYTES + 8], again[MD6_TEXT_BYTES];
+    static uint8_t text[ROOM], again[ROOM];
     uint64_t *a = *area, log[2];
     uint8_t digest[64];
-    md6_answer o = md6_write(a, MD6_AREA_WORDS, text, sizeof text), r;
+    size_t n = write_right(a, text);
+    enum form form = a[5] <= OLD_ROUNDS && below(2) == 0 ? OLD_FORM : NEW_FORM;
+    md6_answer r;
 
-    expect(o.number == 0 && o.count <= MD6_TEXT_BYTES, "write");
-    expect(md6_write(a, MD6_AREA_WORDS, again, (size_t)o.count - 1).number == 9, "write to a short output");
+    expect(md6_write(a, MD6_AREA_WORDS, again, n - 1).number == 9, "write to a short output");
     expect(md6_feed(a, MD6_AREA_WORDS, digest, 1, 0, 9, log, 2).number == (a[0] == 2 ? 10 : 5), "feed of too many bits");
     expect(md6_feed(a, MD6_AREA_WORDS, digest, 1, 3, 6, log, 2).number == (a[0] == 2 ? 10 : 5), "feed of too many bits after the start");
     expect(md6_feed(a, MD6_AREA_WORDS, digest, 1, 8, 0, log, 2).number == (a[0] == 2 ? 10 : 5), "feed from bit 8 on");
     if (a[0] == 2 || a[1] > 0)          /* otherwise it would be accepted */
         expect(md6_log_words(a, MD6_AREA_WORDS, UINT64_MAX).number == (a[0] == 2 ? 10 : 6), "a refused telling");
-    random_bytes((uint8_t *)*other, 8 * MD6_AREA_WORDS);
-    expect(md6_read(*other, MD6_AREA_WORDS, text, (size_t)o.count - 1).number == 11, "read of a short text");
-    expect(md6_read(*other, MD6_AREA_WORDS - 1, text, (size_t)o.count).number == 7, "read into a short area");
-    r = md6_read(*other, MD6_AREA_WORDS, text, (size_t)o.count);
+    if (form == OLD_FORM)
+        n = drop_high(text, n);
+    random_words(*other, MD6_AREA_WORDS);
+    expect(md6_read(*other, MD6_AREA_WORDS, text, n - 1).number == 11, "read of a short text");
+    expect(md6_read(*other, MD6_AREA_WORDS - 1, text, n).number == 7, "read into a short area");
+    r = md6_read(*other, MD6_AREA_WORDS, text, n);
     expect(r.number == 0 && r.count == 0, "read");
     expect(memcmp(*other, a, 8 * MD6_AREA_WORDS) == 0, "the area read back");
+    read_forms[form]++;
     *area = *other;
     *other = a;
 }
@@ -143,7 +211,8 @@ static void one_run(void)
     static struct run r;
     int i;
 
-    r.p = (struct params){ .key_bytes = (size_t)below(65), .d = 1 + below(512), .limit = below(2) == 0 ? below(4) : below(65), .rounds = below(6) };
+    r.p = (struct params){ .key_bytes = (size_t)below(65), .d = 1 + below(512), .limit = below(2) == 0 ? below(4) : below(65) };
+    r.p.rounds = below(8) == 0 ? wide_rounds() : below(6);
     r.area = areas[0];
     r.other = areas[1];
     r.first = below(2) == 0 ? 0 : below(STARTS);
@@ -163,7 +232,7 @@ static void one_run(void)
 
 /* a stream of so many bits, suspended into a dirty area, fed on to 40,000 bits, from the byte on in which it stopped, and ended:
  * the digest is the whole message's */
-static void one_edge(uint64_t bits, uint64_t limit)
+static void one_edge(uint64_t bits, uint64_t limit, uint64_t rounds)
 {
     static uint64_t areas[2][MD6_AREA_WORDS];
     static uint8_t message[5000];
@@ -171,7 +240,7 @@ static void one_edge(uint64_t bits, uint64_t limit)
     uint8_t digest[32], whole[32];
 
     random_bytes(message, sizeof message);
-    expect(md6_open(area, MD6_AREA_WORDS, message, 5, 256, limit, 3).number == 0, "open at an edge");
+    expect(md6_open(area, MD6_AREA_WORDS, message, 5, 256, limit, rounds).number == 0, "open at an edge");
     expect(tell_and_feed(area, message, (struct span){ sizeof message, 0, bits }, 0), "feed to an edge");
     suspend(&area, &other);
     expect(tell_and_feed(area, message + bits / 8, just(bits % 8, 8 * sizeof message - bits), 0), "feed past an edge");
@@ -179,91 +248,289 @@ static void one_edge(uint64_t bits, uint64_t limit)
     expect(md6_end(area, MD6_AREA_WORDS, digest, sizeof digest, log, LOG_WORDS).number == 0, "end past an edge");
     suspend(&area, &other);             /* an ended stream has a text too */
     expect(!tell_and_feed(area, message, just(0, 1), 1), "feed after the end");
-    md6_hash(message, sizeof message, 0, 8 * sizeof message, message, 5, 256, limit, 3, whole, sizeof whole);
+    md6_hash(message, sizeof message, 0, 8 * sizeof message, message, 5, 256, limit, rounds, whole, sizeof whole);
     expect(memcmp(digest, whole, sizeof digest) == 0, "digest past an edge");
 }
 
 static void all_edges(void)
 {
     static const uint64_t edges[] = { 0, 1, 4095, 4096, 4097, 12289, 16385 }, limits[] = { 0, 1, 2, 64 };
-    size_t i, k;
+    static const uint64_t rounds[] = { 3, OLD_ROUNDS, OLD_ROUNDS + 1, MOST_ROUNDS };
+    size_t i, k, j;
 
     for (i = 0; i < sizeof edges / sizeof *edges; i++)
         for (k = 0; k < sizeof limits / sizeof *limits; k++)
-            one_edge(edges[i], limits[k]);
+            for (j = 0; j < sizeof rounds / sizeof *rounds; j++)
+                one_edge(edges[i], limits[k], rounds[j]);
 }
 
-/* a text that no sound area writes: refused by 11, and nothing changes */
-static void refused(const uint8_t *text, size_t n, const char *what)
+/* the edges of r in a text, of an open stream that holds some bits and of one that has ended: up to 4,095 it is read in the new
+ * form and over that it is not, whatever digits it has; up to 255 it is read in the old form too */
+static void rounds_in_texts(const uint64_t *holding)
 {
-    static uint64_t into[MD6_AREA_WORDS], kept[MD6_AREA_WORDS];
-    md6_answer o;
+    static const uint64_t in_range[] = { 0, 1, OLD_ROUNDS - 1, OLD_ROUNDS, OLD_ROUNDS + 1, 4080, MOST_ROUNDS - 1, MOST_ROUNDS };
+    static const uint64_t over[] = { MOST_ROUNDS + 1, MOST_ROUNDS + 2, 0x10ff, 0x8000, 0xf000, 0xfffe, 0xffff };
+    static uint64_t area[MD6_AREA_WORDS];
+    static uint8_t text[ROOM];
+    size_t n, i;
 
-    random_bytes((uint8_t *)into, sizeof into);
-    memcpy(kept, into, sizeof into);
-    o = md6_read(into, MD6_AREA_WORDS, text, n);
-    expect(o.number == 11 && o.count == 0 && memcmp(kept, into, sizeof into) == 0, what);
+    memcpy(area, holding, sizeof area);
+    for (i = 0; i < sizeof in_range / sizeof *in_range; i++) {
+        area[5] = in_range[i];
+        n = write_right(area, text);
+        read_right(text, n, area, "r in range");
+        n = drop_high(text, n);
+        area[5] %= 256;                 /* without its high byte it is a good old text, of another r if that was over 255 */
+        read_right(text, n, area, "the old form of r modulo 256");
+    }
+    n = write_right(area, text);
+    for (i = 0; i < sizeof over / sizeof *over; i++) {
+        spell(text + R_AT, over[i], NEW_FORM);
+        refused(text, n, "r over 4,095");
+    }
 }
 
-enum { LINE1 = 45, HEAD_LINES = 174, LEVEL_LINE = 1027 };
+/* a damage: so many bytes of a text, from a place on, are replaced by others; places are those of the new form */
+struct damage {
+    size_t at, gone;
+    const char *by, *what;
+};
 
-/* each named damage of a text with two level lines: 4,100 ones at L = 64, no key, d = 256, r = 1 */
-static void named_damages(void)
+/* where a place of the new form is in the old one: what is past r stands two digits further left */
+static size_t old_place(size_t at)
+{
+    return at > R_AT ? at - OLD_SHORTER : at;
+}
+
+static void refused_in_new(const uint8_t *good, size_t n, const struct damage *d)
+{
+    static uint8_t text[ROOM];
+
+    memcpy(text, good, n);
+    refused(text, splice(text, n, d->at, d->gone, d->by), d->what);
+}
+
+/* the same damage of the text's old form */
+static void refused_in_old(const uint8_t *good, size_t n, const struct damage *d)
+{
+    static uint8_t text[ROOM];
+    size_t at = old_place(d->at), gone = old_place(d->at + d->gone) - at;
+
+    memcpy(text, good, n);
+    refused(text, splice(text, drop_high(text, n), at, gone, d->by), d->what);
+}
+
+static void refused_in_both(const uint8_t *good, size_t n, const struct damage *d)
+{
+    refused_in_new(good, n, d);
+    refused_in_old(good, n, d);
+}
+
+/* each damage that can be named of a text with two level lines: 4,100 ones at L = 64, no key, d = 256, r = 1 */
+static void named_damages(const uint8_t *good, size_t n)
+{
+    enum { LEVEL_1 = HEAD_LINES, LEVEL_2 = HEAD_LINES + LEVEL_LINE, PAST = LEVEL_2 + LEVEL_LINE };
+    static const struct damage damages[] = {
+        { PHASE_AT, 2, "00", "phase 0" }, { PHASE_AT, 2, "02", "phase 2 with lines" }, { PHASE_AT, 2, "03", "phase 3" },
+        { L_AT, 2, "41", "L 65" }, { KEY_AT, 2, "41", "65 key bytes" }, { D_AT, 4, "0000", "d 0" }, { D_AT, 4, "0201", "d 513" },
+        { TOTAL_AT, 16, "0000000000002001", "another total" }, { COUNT_AT, 16, "0000000000000002", "wrong compressions" },
+        { LINE1, 2, "01", "a key byte past the key" },
+        { LEVEL_1, 2, "00", "level 0" }, { LEVEL_1, 2, "1c", "level 28" }, { LEVEL_2, 2, "01", "level 1 twice" },
+        { L_AT + 1, 1, "A", "a capital in line 1" }, { LEVEL_1 + 3, 1, "F", "a capital" }, { LEVEL_1 + 4, 1, "g", "no digit" },
+        { LEVEL_1 + 2 + 1023, 1, "1", "an unheld bit of level 1" }, { LEVEL_2 + 2 + 1023, 1, "1", "an unheld bit of level 2" },
+        { 0, PAST, "", "no text" }, { PAST - 1, 1, "", "a missing last byte 10" }, { LEVEL_2, LEVEL_LINE, "", "a missing line" },
+        { LEVEL_1, LEVEL_LINE, "", "a missing first line" }, { LEVEL_1, 2 * LEVEL_LINE, "", "no level line" },
+        { LINE1, LINE2, "", "no key line" }, { 0, LINE1, "", "no line 1" }, { PAST, 0, "\n", "a byte more" },
+        { LINE1 - 1, 1, "\r", "a line that ends otherwise" }, { LINE1 - 1, 1, "\r\n", "CR LF" }, { LINE1 - 1, 1, "", "lines joined" },
+        { LINE1 - 1, 1, "\n\n", "an empty line" },
+    };
+    static uint8_t text[ROOM];
+    static char line[LEVEL_LINE + 1], other[LEVEL_LINE + 1];
+    struct damage lines[] = { { PAST, 0, line, "a line twice" }, { PAST, 0, other, "a line of zeros" } };
+    size_t i;
+
+    for (i = 0; i < sizeof damages / sizeof *damages; i++)
+        refused_in_both(good, n, &damages[i]);
+    memcpy(line, good + LEVEL_2, LEVEL_LINE);
+    memset(other, '0', LEVEL_LINE);
+    other[1] = '3';
+    other[LEVEL_LINE - 1] = 10;
+    for (i = 0; i < 2; i++)
+        refused_in_both(good, n, &lines[i]);
+    memcpy(other, good + LEVEL_1, LEVEL_LINE);
+    memcpy(text, good, n);
+    memcpy(text + LEVEL_1, line, LEVEL_LINE);
+    memcpy(text + LEVEL_2, other, LEVEL_LINE);
+    refused(text, n, "lines swapped");
+    refused(text, drop_high(text, n), "lines swapped in the old form");
+}
+
+/* Mixtures of the two forms, of the same text. A line 1 of 44 digits in which r keeps two bytes lacks a byte of another field; one
+ * of 46 in which r has one byte has a byte too many elsewhere. Other counts of digits belong to no form, and neither form allows
+ * another count in a later line. */
+static void mixtures(const uint8_t *good, size_t n)
+{
+    static const struct damage short_fields[] = {
+        { PHASE_AT, 2, "", "44 digits without the phase" }, { L_AT, 2, "", "44 digits without L" },
+        { KEY_AT, 2, "", "44 digits without the key bytes" }, { D_AT, 2, "", "44 digits with d in one byte" },
+        { TOTAL_AT, 2, "", "44 digits with the total in seven bytes" },
+        { COUNT_AT, 2, "", "44 digits with the compressions in seven bytes" }, { LINE1 - 3, 2, "", "44 digits without the last byte" },
+        { R_AT, 1, "", "45 digits, r short" }, { L_AT, 1, "", "45 digits, L short" }, { LINE1 - 2, 1, "", "45 digits, none at the end" },
+        { R_AT, 0, "0", "47 digits" }, { R_AT, 0, "00", "48 digits, r in three bytes" }, { R_AT, 4, "", "42 digits, no r" },
+        { R_AT, 3, "", "43 digits" }, { R_AT, 4, "1000", "r 4,096" }, { R_AT, 4, "ffff", "r 65,535" },
+    };
+    static const struct damage later_lines[] = {
+        { LINE1, 1, "", "a key line a digit short" }, { LINE1, 2, "", "a key line two digits short" },
+        { LINE1, 0, "0", "a key line a digit long" }, { LINE1, 0, "00", "a key line two digits long" },
+        { HEAD_LINES - 3, 2, "", "a key line without its last byte" }, { HEAD_LINES, 1, "", "a level line a digit short" },
+        { HEAD_LINES, 2, "", "a level line without the level" }, { HEAD_LINES + 2, 2, "", "a level line two digits short" },
+        { HEAD_LINES, 0, "0", "a level line a digit long" }, { HEAD_LINES, 0, "00", "a level line with the level in two bytes" },
+        { HEAD_LINES + LEVEL_LINE - 3, 2, "", "a level line without its last byte" },
+        { HEAD_LINES + LEVEL_LINE - 1, 0, "00", "a level line a byte long" },
+        { HEAD_LINES + LEVEL_LINE, 1, "", "the second level line a digit short" },
+        { HEAD_LINES + LEVEL_LINE, 0, "00", "the second level line two digits long" },
+    };
+    static const struct damage long_fields[] = {
+        { PHASE_AT, 0, "00", "46 digits with the phase in two bytes" }, { KEY_AT, 0, "00", "46 digits with the key bytes in two" },
+        { D_AT, 0, "00", "46 digits with d in three bytes" }, { TOTAL_AT, 0, "00", "46 digits with the total in nine bytes" },
+        { COUNT_AT, 0, "00", "46 digits with the compressions in nine bytes" }, { LINE1 - 1, 0, "00", "46 digits with a byte more" },
+        { R_AT, 0, "0", "45 digits, r long" }, { R_AT, 0, "10", "r 4,097" }, { R_AT, 0, "ff", "r 65,281" },
+    };
+    size_t i;
+
+    for (i = 0; i < sizeof short_fields / sizeof *short_fields; i++)
+        refused_in_new(good, n, &short_fields[i]);
+    for (i = 0; i < sizeof long_fields / sizeof *long_fields; i++)
+        refused_in_old(good, n, &long_fields[i]);
+    for (i = 0; i < sizeof later_lines / sizeof *later_lines; i++)
+        refused_in_both(good, n, &later_lines[i]);
+}
+
+/* Two digits more or fewer that make of a text of one form a text of the other: r has another value there, and is read so. */
+static void other_rounds(const uint8_t *good, size_t n, const uint64_t *area)
+{
+    static uint64_t model[MD6_AREA_WORDS];
+    static uint8_t text[ROOM];
+
+    memcpy(model, area, sizeof model);
+    memcpy(text, good, n);
+    model[5] = 0;
+    read_right(text, splice(text, n, L_AT - 2, 2, ""), model, "r 1 without its low byte is 0 in the old form");
+    memcpy(text, good, n);
+    model[5] = 256;
+    read_right(text, splice(text, drop_high(text, n), R_AT + 2, 0, "00"), model, "r 1 and a low byte more is 256 in the new form");
+    memcpy(text, good, n);
+    model[5] = 0xf01;
+    read_right(text, splice(text, drop_high(text, n), R_AT, 0, "0f"), model, "r 1 and a high byte more is 3,841 in the new form");
+    memcpy(text, good, n);
+    memcpy(text + R_AT, "0100", 4);
+    model[5] = 0;
+    read_right(text, drop_high(text, n), model, "r 256 without its high byte is 0 in the old form");
+}
+
+static void named_texts(void)
 {
     static uint64_t area[MD6_AREA_WORDS];
-    static uint8_t good[MD6_TEXT_BYTES], bad_text[2 * MD6_TEXT_BYTES], ones[600];
-    static const struct { size_t at; const char *digits, *what; } fields[] = {
-        { 0, "00", "phase 0" }, { 0, "02", "phase 2 with lines" }, { 0, "03", "phase 3" }, { 4, "41", "L 65" }, { 6, "41", "65 key bytes" },
-        { 8, "0000", "d 0" }, { 8, "0201", "d 513" }, { 28, "0000000000000002", "wrong compressions" }, { 12, "0000000000002001", "another total" },
-        { LINE1, "01", "a key byte past the key" }, { HEAD_LINES, "00", "level 0" }, { HEAD_LINES, "1c", "level 28" },
-        { HEAD_LINES + LEVEL_LINE, "01", "level 1 twice" }, { HEAD_LINES + 2 + 1, "F", "a capital" }, { HEAD_LINES + 2 + 2, "g", "no digit" },
-        { HEAD_LINES + 2 + 1023, "1", "an unheld bit of level 1" }, { HEAD_LINES + LEVEL_LINE + 2 + 1023, "1", "an unheld bit of level 2" },
-        { LINE1 - 1, "\r", "a line that ends otherwise" },
-    };
+    static uint8_t good[ROOM], ones[600];
     uint64_t log[LOG_WORDS];
-    size_t n, i;
+    uint8_t digest[32];
+    size_t n;
 
     memset(ones, 0xff, sizeof ones);
     md6_open(area, MD6_AREA_WORDS, NULL, 0, 256, 64, 1);
+    expect(write_right(area, good) == HEAD_LINES, "the text of a stream that holds nothing");
     md6_feed(area, MD6_AREA_WORDS, ones, sizeof ones, 0, 4100, log, LOG_WORDS);
-    n = (size_t)md6_write(area, MD6_AREA_WORDS, good, sizeof good).count;
-    expect(n == HEAD_LINES + 2 * LEVEL_LINE && md6_read(area, MD6_AREA_WORDS, good, n).number == 0, "the text itself");
-    for (i = 0; i < sizeof fields / sizeof *fields; i++) {
-        memcpy(bad_text, good, n);
-        memcpy(bad_text + fields[i].at, fields[i].digits, strlen(fields[i].digits));
-        refused(bad_text, n, fields[i].what);
+    n = write_right(area, good);
+    expect(n == HEAD_LINES + 2 * LEVEL_LINE, "two level lines");
+    read_right(good, n, area, "the text itself");
+    named_damages(good, n);
+    mixtures(good, n);
+    other_rounds(good, n, area);
+    rounds_in_texts(area);
+    expect(md6_end(area, MD6_AREA_WORDS, digest, sizeof digest, log, LOG_WORDS).number == 0, "end");
+    expect(write_right(area, good) == HEAD_LINES, "the text of an ended stream");
+    rounds_in_texts(area);
+}
+
+/* The texts of a sound area, open or ended: what is written is the model's text, into just so many bytes and not into one fewer, and
+ * is read; so is the model's text of the old form, which is the new one without r's high byte. Answers the text's bytes. */
+static size_t area_right(const uint64_t *area)
+{
+    static uint64_t lower[MD6_AREA_WORDS];
+    static uint8_t text[ROOM], old[ROOM];
+    size_t n = write_right(area, text), shorter = n - OLD_SHORTER;
+    struct guarded just_enough = guarded_new(n, 1);
+
+    expect(md6_write(area, MD6_AREA_WORDS, just_enough.bytes, n).count == n && memcmp(just_enough.bytes, text, n) == 0
+           && guarded_intact(&just_enough), "write to just enough bytes");
+    expect(md6_write(area, MD6_AREA_WORDS, just_enough.bytes + 1, n - 1).number == 9 && memcmp(just_enough.bytes, text, n) == 0,
+           "write to a byte fewer");
+    guarded_free(&just_enough);
+    read_right(text, n, area, "the text of a sound area");
+    memcpy(lower, area, sizeof lower);
+    lower[5] %= 256;
+    expect(text_of(lower, OLD_FORM, old) == shorter && drop_high(text, n) == shorter && memcmp(text, old, shorter) == 0,
+           "the model's old form");
+    read_right(old, shorter, lower, "the old text of a sound area");
+    read_forms[NEW_FORM]++;
+    read_forms[OLD_FORM]++;
+    return n;
+}
+
+static struct params pick_params(void)
+{
+    struct params p = { .key_bytes = (size_t)below(65), .d = 1 + below(512), .limit = below(2) == 0 ? below(30) : below(65) };
+
+    p.rounds = wide_rounds();
+    random_bytes(p.key, sizeof p.key);
+    return p;
+}
+
+/* sound areas of any total and limit, some of them ended; the longest text is that of 27 levels which all hold something */
+static void sound_areas(void)
+{
+    static uint64_t area[MD6_AREA_WORDS];
+    struct params p;
+    int i;
+
+    for (i = 0; i < AREAS; i++) {
+        p = pick_params();
+        sound_area(area, &p, pick_total());
+        if (below(4) == 0)
+            ended_area(area);
+        expect(is_sound(area), "an area that the model makes is sound by it");
+        area_right(area);
     }
-    refused(good, 0, "no text");
-    refused(good, n - 1, "a missing last byte 10");
-    refused(good, n - LEVEL_LINE, "a missing line");
-    refused(good, HEAD_LINES, "no level line");
-    memcpy(bad_text, good, n);
-    bad_text[n] = 10;
-    refused(bad_text, n + 1, "a byte more");
-    memcpy(bad_text + n, good + HEAD_LINES + LEVEL_LINE, LEVEL_LINE);
-    refused(bad_text, n + LEVEL_LINE, "a line twice");
-    memset(bad_text + n, '0', LEVEL_LINE);
-    memcpy(bad_text + n, "03", 2);
-    bad_text[n + LEVEL_LINE - 1] = 10;
-    refused(bad_text, n + LEVEL_LINE, "a line of zeros");
-    memcpy(bad_text, good, HEAD_LINES);
-    memcpy(bad_text + HEAD_LINES, good + HEAD_LINES + LEVEL_LINE, LEVEL_LINE);
-    memcpy(bad_text + HEAD_LINES + LEVEL_LINE, good + HEAD_LINES, LEVEL_LINE);
-    refused(bad_text, n, "lines swapped");
-    memcpy(bad_text, good, LINE1 - 1);
-    memcpy(bad_text + LINE1 - 1, "\r\n", 2);
-    memcpy(bad_text + LINE1 + 1, good + LINE1, n - LINE1);
-    refused(bad_text, n + 1, "CR LF");
+    p = (struct params){ .d = 512, .limit = 64, .rounds = MOST_ROUNDS };
+    sound_area(area, &p, UINT64_MAX);
+    expect(area_right(area) == MD6_TEXT_BYTES, "the longest text");
+}
+
+/* a change of line 1 that leaves it with digits alone: some more or fewer, or r at an edge */
+static size_t change_line_1(uint8_t *text, size_t n, enum form form)
+{
+    static const char *const some[] = { "0", "00", "01", "0f", "10", "7", "a" };
+    static const char *const rounds[] = { "00ff", "0100", "0fff", "1000", "ffff", "0000" };
+    size_t at = (size_t)below(below(2) == 0 ? 10 : line_1(form));
+
+    switch (below(3)) {
+    case 0:
+        return splice(text, n, at, 0, some[below(7)]);
+    case 1:
+        return splice(text, n, at, 1 + (size_t)below(2), "");
+    default:
+        return splice(text, n, R_AT, 2 * form, rounds[below(6)]);
+    }
 }
 
 /* a change of a text: bytes, lines, its end */
-static size_t damage(uint8_t *text, size_t n)
+static size_t damage(uint8_t *text, size_t n, enum form form)
 {
     static const char wild[] = "0123456789abcdefABCDEF \n\r-gG";
     size_t k = (size_t)below(4) == 0 ? 1 + (size_t)below(3) : 1, i;
 
     for (i = 0; i < k; i++)
-        switch (below(8)) {
+        switch (below(10)) {
         case 0:
             text[below(n)] = (uint8_t)next();
             break;
@@ -274,16 +541,18 @@ static size_t damage(uint8_t *text, size_t n)
             text[n++] = (uint8_t)(below(2) == 0 ? 10 : '0');
             break;
         case 3:
-            if (n > 174 + 1027) {           /* one line left out */
-                memmove(text + 174, text + 174 + 1027, n - 174 - 1027);
-                n -= 1027;
-            }
+            if (n > head_lines(form) + LEVEL_LINE)      /* one line left out */
+                n = splice(text, n, head_lines(form), LEVEL_LINE, "");
             break;
         case 4:
-            text[below(44)] = (uint8_t)wild[below(16)];
+            text[below(line_1(form) - 1)] = (uint8_t)wild[below(16)];
             break;
         case 5:
             text[below(n)] = (uint8_t)wild[below(16)];
+            break;
+        case 6:
+        case 7:
+            n = change_line_1(text, n, form);
             break;
         default:
             text[below(n)] = (uint8_t)wild[below(sizeof wild - 1)];
@@ -291,40 +560,70 @@ static size_t damage(uint8_t *text, size_t n)
     return n;
 }
 
-static void one_damage(uint64_t *read)
+/* a damaged text is read exactly if the model has an area for it, and then into that area, which writes the text back: as itself,
+ * or with r's high byte if it is of the old form */
+static void damaged_right(uint8_t *text, size_t n)
 {
-    static uint64_t area[MD6_AREA_WORDS], into[MD6_AREA_WORDS], kept[MD6_AREA_WORDS];
-    static uint8_t text[MD6_TEXT_BYTES + 64], again[MD6_TEXT_BYTES], piece[8192];
+    static uint64_t into[MD6_AREA_WORDS], kept[MD6_AREA_WORDS], model[MD6_AREA_WORDS];
+    static uint8_t again[MD6_TEXT_BYTES];
+    int form = area_of(text, n, model);
+    md6_answer o, w;
+
+    random_words(into, MD6_AREA_WORDS);
+    memcpy(kept, into, sizeof into);
+    o = read_at_page(into, text, n);
+    if (form == 0) {
+        expect(o.number == 11 && o.count == 0 && memcmp(kept, into, sizeof into) == 0, "a damaged text is read, or changed something");
+        damaged_refused++;
+        return;
+    }
+    expect(o.number == 0 && o.count == 0 && memcmp(model, into, sizeof into) == 0, "the area of a text that is one all the same");
+    w = md6_write(into, MD6_AREA_WORDS, again, sizeof again);
+    if (form == OLD_FORM)
+        n = put_high(text, n);
+    expect(w.number == 0 && w.count == n && memcmp(text, again, n) == 0, "a text that is read writes back as itself");
+    damaged_forms[form]++;
+}
+
+static void one_damage(void)
+{
+    static uint64_t area[MD6_AREA_WORDS];
+    static uint8_t text[ROOM], piece[8192];
     uint64_t log[LOG_WORDS], limit = below(2) == 0 ? below(4) : below(65);
+    enum form form = below(2) == 0 ? OLD_FORM : NEW_FORM;
     size_t n;
-    md6_answer o;
 
     md6_open(area, MD6_AREA_WORDS, piece, (size_t)below(65), 1 + below(512), limit, below(3));
     md6_feed(area, MD6_AREA_WORDS, piece, sizeof piece, 0, below(8 * sizeof piece), log, LOG_WORDS);
-    n = damage(text, (size_t)md6_write(area, MD6_AREA_WORDS, text, MD6_TEXT_BYTES).count);
-    random_bytes((uint8_t *)into, sizeof into);
-    memcpy(kept, into, sizeof into);
-    o = md6_read(into, MD6_AREA_WORDS, text, n);
-    if (o.number == 0) {
-        md6_answer w = md6_write(into, MD6_AREA_WORDS, again, sizeof again);
-        expect(w.number == 0 && w.count == n && memcmp(text, again, n) == 0, "a text that is read writes back as itself");
-        ++*read;
-    } else
-        expect(o.number == 11 && o.count == 0 && memcmp(kept, into, sizeof into) == 0, "a refused read changed something");
+    if (below(2) == 0)
+        area[5] = wide_rounds();        /* another stream, for which nothing is compressed */
+    n = (size_t)md6_write(area, MD6_AREA_WORDS, text, ROOM).count;
+    expect(n >= HEAD_LINES && n <= MD6_TEXT_BYTES, "write before a damage");
+    if (n < HEAD_LINES)
+        return;
+    if (form == OLD_FORM)
+        n = drop_high(text, n);
+    damaged_right(text, damage(text, n, form));
 }
 
 int main(int argc, char **argv)
 {
-    uint64_t seed = begin(argc, argv), read = 0;
+    uint64_t seed = begin(argc, argv);
     int i;
 
-    printf("seed %" PRIu64 ": %d runs of %d calls, %d damaged texts\n", seed, RUNS, CALLS, DAMAGED);
+    printf("seed %" PRIu64 ": %d runs of %d calls, %d sound areas, %d damaged texts\n", seed, RUNS, CALLS, AREAS, DAMAGED);
     all_edges();
-    named_damages();
+    named_texts();
     for (i = 0; i < RUNS; i++)
         one_run();
+    sound_areas();
     for (i = 0; i < DAMAGED; i++)
-        one_damage(&read);
-    printf("%" PRIu64 " damaged texts are texts all the same; %" PRIu64 " wrong\n", read, bad);
+        one_damage();
+    printf("texts read: %" PRIu64 " of the new form, %" PRIu64 " of the old\n", read_forms[NEW_FORM], read_forms[OLD_FORM]);
+    printf("damaged texts: %" PRIu64 " refused; texts all the same are %" PRIu64 " of the new form, %" PRIu64 " of the old\n",
+           damaged_refused, damaged_forms[NEW_FORM], damaged_forms[OLD_FORM]);
+    expect(read_forms[OLD_FORM] > 0 && damaged_refused > 0 && damaged_forms[NEW_FORM] > 0 && damaged_forms[OLD_FORM] > 0,
+           "a kind of text that never came about");
+    printf("%" PRIu64 " wrong\n", bad);
     return bad != 0;
 }

@@ -1,6 +1,7 @@
 #!/usr/bin/env python3
 """compare.py OURS SECOND [SEED]: run the program of document 01 and the second program on the same inputs and compare what
-they print, byte for byte: the node lines, the digest and the refusals. The second program takes its default rounds by M-102.
+they print, byte for byte: the node lines, the digest and the refusals. The second program takes its default rounds by M-102 and
+the range of r by M-108.
 
 Edge inputs first (lines that are not read, refusals, the examples of the report), then random ones; the seed is printed.
 Then lines with `-` for r against the second program with the rounds that the report gives them. Then inputs that come in
@@ -16,7 +17,10 @@ import tempfile
 import termios
 
 BLOCK_EDGES = [0, 384, 512, 768, 1024, 1536, 2048, 6144, 8192, 24576, 32768, 98304, 131072]
+ROUND_EDGES = [255, 256, 257, 273, 274, 546, 547, 4094, 4095, 4096, 4097, 8191, 65535, 65536, 65541]
+SECOND = ("--m102", "--m108")
 RANDOM_INPUTS = 1100
+RANDOM_ROUNDS = 300
 RANDOM_CUTS = 150
 BUFFER = 65536
 
@@ -26,13 +30,15 @@ TOLD = [
     (b"", b"refused line\n"),
     (b"\n", b"refused line\n"),
     (b"8 64 0 -", b"refused line\n"),
-    (b"0 65 256 gg\n", b"refused line\n"),
+    (b"0 65 4096 gg\n", b"refused line\n"),
     (b"0 64 - -\n", b"refused 1\n"),
     (b"513 64 - -\nabc", b"refused 1\n"),
-    (b"99999 65 256 " + b"5a" * 5000 + b"\n", b"refused 1\n"),
-    (b"8 65 256 " + b"5a" * 5000 + b"\n", b"refused 2\n"),
-    (b"8 65 256 -\n", b"refused 3\n"),
-    (b"8 64 256 -\n", b"refused 4\n"),
+    (b"99999 65 4096 " + b"5a" * 5000 + b"\n", b"refused 1\n"),
+    (b"8 65 4096 " + b"5a" * 5000 + b"\n", b"refused 2\n"),
+    (b"8 65 4096 -\n", b"refused 3\n"),
+    # number 4 is for r over 4,095 (document 02, M-108)
+    (b"8 64 4096 -\n", b"refused 4\n"),
+    (b"8 64 99999 -\nabc", b"refused 4\n"),
     # the key's digits decide about the default before any refusal (document 02, M-102)
     (b"128 64 - " + b"5a" * 65 + b"\nabc", b"refused 2\n"),
     (b"128 65 - " + b"5a" * 66 + b"\n", b"refused 2\n"),
@@ -59,9 +65,11 @@ def edge_lines():
     yield from (b"8 64 0 - -\n", b"- 64 0 -\n", b"8 - 0 -\n", b"+8 64 0 -\n", b"-8 64 0 -\n", b"000008 64 0 -\n", b"8 000064 0 -\n")
     yield from (b"8 64 000000 -\n", b"8 64 0 A0\n", b"8 64 0 a\n", b"8 64 0 abc\n", b"8 64 0 ag\n", b"8 64 0 --\n", b"8 64 0 \n", b"8 64 -- -\n")
     yield from (b"8 64 -1 -\n", b"8 64 1- -\n", b"8 64 0 -a\n", b"8 64 0 a-\n", b"8 64 0x0 -\n", b"8.0 64 0 -\n", b"8 64 0 0A\n", b" \n", b"   \n")
-    yield from (b"0 65 256 gg\n", b"00008 00064 00000 -\n", b"0 64 0 -\n", b"99999 64 0 -\n", b"8 99999 0 -\n", b"8 64 99999 -\n", b"00000 64 - -\n")
-    yield from (b"513 64 - 00\n", b"512 64 - 00\n", b"513 65 256 " + b"00" * 65 + b"\n", b"512 65 256 " + b"00" * 65 + b"\n", b"512 65 256 -\n")
-    yield from (b"512 64 256 -\n", b"512 64 255 -\n", b"1 0 0 -\n", b"\x008 64 0 -\n", b"8 64 0 \xff\xff\n", b"8 64 0 -\n8 64 0 -\n", b"8 64 0 00\x00\n")
+    yield from (b"0 65 4096 gg\n", b"00008 00064 00000 -\n", b"0 64 0 -\n", b"99999 64 0 -\n", b"8 99999 0 -\n", b"8 64 99999 -\n", b"00000 64 - -\n")
+    yield from (b"513 64 - 00\n", b"512 64 - 00\n", b"513 65 4096 " + b"00" * 65 + b"\n", b"512 65 4096 " + b"00" * 65 + b"\n", b"512 65 4096 -\n")
+    yield from (b"512 64 04096 -\n", b"512 64 04095 -\n", b"1 0 0 -\n", b"\x008 64 0 -\n", b"8 64 0 \xff\xff\n", b"8 64 0 -\n8 64 0 -\n", b"8 64 0 00\x00\n")
+    for rounds in ROUND_EDGES:
+        yield line("512", "64", str(rounds))
     for digits in range(0, 131):
         yield b"64 3 1 " + b"5a" * (digits // 2) + b"5" * (digits % 2) + b"\n"
     yield b"64 3 1 " + b"5a" * 100000 + b"\n"
@@ -95,6 +103,11 @@ def inputs(rng):
         key = rng.choice(["-", rng.randbytes(rng.randint(1, 64)).hex()])
         size = max(0, rng.choice(BLOCK_EDGES) + rng.randint(-2, 2)) if rng.random() < 0.6 else rng.randint(0, 20000)
         yield line(d, str(rng.choice([0, 1, 2, 3, 4, 5, 26, 27, 63, 64])), r, key) + rng.randbytes(size)
+    # r of the whole range, and messages of a few blocks
+    for _ in range(RANDOM_ROUNDS):
+        r = rng.choice([rng.randint(256, 4095), rng.randint(256, 4095), rng.choice(ROUND_EDGES)])
+        key = rng.choice(["-", rng.randbytes(rng.randint(1, 64)).hex()])
+        yield line(str(rng.randint(1, 512)), str(rng.choice([0, 1, 2, 64])), str(r), key) + rng.randbytes(rng.randint(0, 2600))
 
 
 def in_pieces(data, size):
@@ -133,7 +146,7 @@ def cut_inputs(rng):
     for limit in ("0", "1", "64"):
         yield in_pieces(line("8", limit, "0") + rng.randbytes(5 * BUFFER), BUFFER)
     for _ in range(RANDOM_CUTS):
-        data = line(str(rng.randint(0, 514)), str(rng.randint(0, 65)), rng.choice(["-", "0", "2"]), rng.choice(["-", "5a" * rng.randint(0, 66)]))
+        data = line(str(rng.randint(0, 514)), str(rng.randint(0, 65)), rng.choice(["-", "0", "2", "4095"]), rng.choice(["-", "5a" * rng.randint(0, 66)]))
         data += rng.randbytes(rng.choice([0, 1, 511, 512, 513, 2048, 2049, 30000]))
         cuts = sorted(rng.randint(0, len(data)) for _ in range(rng.randint(1, 12)))
         pieces = [data[a:b] for a, b in zip([0] + cuts, cuts + [len(data)])]
@@ -199,15 +212,15 @@ def main():
     for data, expected in TOLD:
         all_at_once.add(data, *whole(ours, data), expected)
     for data in inputs(rng):
-        all_at_once.add(data, *whole(ours, data), whole(second, data, "--m102")[0])
+        all_at_once.add(data, *whole(ours, data), whole(second, data, *SECOND)[0])
     for data, given in by_default(rng):
         defaults.add(data, *whole(ours, data), whole(second, given)[0])
     told = dict(TOLD)
     for pieces in cut_inputs(rng):
         data = b"".join(pieces)
-        expected = told[data] if data in told else whole(second, data, "--m102")[0]
+        expected = told[data] if data in told else whole(second, data, *SECOND)[0]
         in_reads.add(data, *run_cut(ours, pieces), expected, f" in {len(pieces)} reads")
-    rows = (("inputs", all_at_once, 1500), ("by default rounds", defaults, 2 * len(REPORT_ROUNDS)), ("inputs in many reads", in_reads, 220))
+    rows = (("inputs", all_at_once, 1800), ("by default rounds", defaults, 2 * len(REPORT_ROUNDS)), ("inputs in many reads", in_reads, 220))
     for what, tally, least in rows:
         print(f"seed {seed}: {tally.count} {what}, {tally.bad} differ")
         if tally.bad or tally.count < least:

@@ -4,9 +4,9 @@
 MD6REF is the second program (tests/second/md6ref.c), compiled: it prints a line for each node of the tree of the message fed
 so far, and the digest. Document 01, "Runs", says which of those nodes have been made before the end: those that do not reach
 the last bit, so all but the last of each level. Bits from a start bit on are cut out here, joined with those fed before and
-given to it as one message. Refusals are those of document 01's table, number 5 as document 02 has it, and change nothing. Told
-log words are those of document 02, M-103: two for each node that the feed would make; what is past the second program is
-counted level by level, by document 01's "Tree".
+given to it as one message. Refusals are those of document 01's table, numbers 4 and 5 as document 02 has them, and change
+nothing. Told log words are those of document 02, M-103: two for each node that the feed would make; what is past the second
+program is counted level by level, by document 01's "Tree".
 """
 import functools
 import subprocess
@@ -20,7 +20,7 @@ CUT = bytes((85 + 73 * i) % 256 for i in range(513))
 @functools.lru_cache(None)
 def tree(message, bits, key, d, limit, rounds):
     line = f"{d} {limit} {rounds} {key.hex() or '-'}\n".encode()
-    run = subprocess.run([sys.argv[1], "--bits", str(bits)], input=line + message, stdout=subprocess.PIPE, check=True)
+    run = subprocess.run([sys.argv[1], "--m108", "--bits", str(bits)], input=line + message, stdout=subprocess.PIPE, check=True)
     lines = run.stdout.decode().splitlines()
     return lines[:-1], lines[-1]
 
@@ -115,8 +115,20 @@ def cut_rows():
     return [line for r in rows for line in row(*r)]
 
 
+def with_rounds(rounds):
+    """Document 02, M-108: "Number 4 is now for r over 4,095". An area that was not opened is unsound."""
+    if rounds > 4095:
+        return refused(4) + refused(7) + refused_end(7, 3)
+    stream = Stream(b"", 24, 64, rounds=rounds)
+    return OPENED + stream.feed(4097) + stream.end(3)
+
+
+def rounds_edges():
+    return [line for rounds in (255, 256, 4095, 4096, 2 ** 32 + 5) for line in with_rounds(rounds)]
+
+
 def refused_opens():
-    return [line for number in (7, 1, 1, 1, 2, 3, 4) for line in refused(number)] + OPENED
+    return [line for number in (7, 1, 1, 1, 2, 3, 4) for line in refused(number)] + 3 * OPENED
 
 
 def unsound(count, number=7, room=3, shown=0):
@@ -128,15 +140,19 @@ def short_areas():
 
 
 def sound_areas():
-    """A held word or a chained output is set to zero after the feed: the message is then another one. A byte `a` is fed next."""
+    """A held word or a chained output is set to zero after the feed: the message is then another one. Or r is. A byte `a` is fed
+    next."""
     lines = []
-    for limit, bits, message in (
-        (64, 1, b"\x30\x80"),
-        (64, 4096, ONES[:504] + bytes(8) + b"a"),
-        (0, 3073, ONES[:376] + bytes(8) + b"\xb0\x80"),
-        (64, 1, b"\xb0\x80"),
+    for limit, bits, message, rounds in (
+        (64, 1, b"\x30\x80", 0),
+        (64, 4096, ONES[:504] + bytes(8) + b"a", 0),
+        (0, 3073, ONES[:376] + bytes(8) + b"\xb0\x80", 0),
+        (64, 1, b"\xb0\x80", 0),
+        (64, 1, b"\xb0\x80", 255),
+        (64, 1, b"\xb0\x80", 256),
+        (64, 1, b"\xb0\x80", 4095),
     ):
-        stream = Stream(KEY, 8, limit, message)
+        stream = Stream(KEY, 8, limit, message, rounds)
         stream.feed(bits)
         lines += told(limit, bits, 8) + stream.feed(8) + stream.end(3) + ["64"]
     return lines
@@ -259,8 +275,8 @@ def ordered_refusals():
     return [line for number in (8, 6, 5, 10, 7) for line in refused(number)]
 
 
-print("\n".join(whole_rows() + cut_rows() + refused_opens() + short_areas() + unsound(15) + unsound(11) + sound_areas()
-                + ended_areas() + short_logs() + told_edges() + told_longest() + most_nodes() + long_stream()
+print("\n".join(whole_rows() + cut_rows() + rounds_edges() + refused_opens() + short_areas() + unsound(15) + unsound(11)
+                + sound_areas() + ended_areas() + short_logs() + told_edges() + told_longest() + most_nodes() + long_stream()
                 + starts() + [pieces(bits) for bits in (1, 3, 9, 19, 171, 513, 1026, 4104)]
                 + logged([(CUT, 0, 4093), (CUT[511:], 5, 5), (CUT[512:], 2, 6)]) + start_edges() + ordered_refusals()
                 + ["0", "64", "64", "0", "0"]))

@@ -1,13 +1,16 @@
 #!/usr/bin/env python3
-"""expected.py: the lines that the program text_test must write, by document 01 alone.
+"""expected.py: the lines that the program text_test must write, by documents 01 and 02 alone.
 
-The streams are of ones (or zeros) with r = 0, so that the output of a full block is ones (or zeros) again: "Reels by hand".
-A text is read exactly if `sound` says that it is what writing some sound area gives.
+The streams are of ones (or zeros) with r = 0, so that the output of a full block is ones (or zeros) again: "Reels by hand"; a
+stream with another r has made no node. In line 1 r has two bytes as of M-108, and had one before: the width of its field.
+A text is read exactly if `sound` says at one of the two that it is what writing some sound area gives, or gave.
 """
 import re
 
 KEY = b"key"
 LEVELS = 27
+MOST_ROUNDS = 4095
+NEW, OLD = 2, 1
 
 
 def state(total, limit, ended):
@@ -41,28 +44,30 @@ def nodes_of_tree(total, limit):
     return count
 
 
-def line_1(phase, r, limit, key_bytes, d, total, made):
-    return f"{phase:02x}{r:02x}{limit:02x}{key_bytes:02x}{d:04x}{total:016x}{made:016x}\n"
+def line_1(width, phase, r, limit, key_bytes, d, total, made):
+    return f"{phase:02x}{r:0{2 * width}x}{limit:02x}{key_bytes:02x}{d:04x}{total:016x}{made:016x}\n"
 
 
-def text_of(total, limit, bit="1", ended=False):
+def text_of(width, total, limit, bit="1", ended=False, r=0):
     made, lines = state(total, limit, ended)
-    text = line_1(2 if ended else 1, 0, limit, len(KEY), 8, total, made) + KEY.hex().ljust(128, "0") + "\n"
+    text = line_1(width, 2 if ended else 1, r, limit, len(KEY), 8, total, made) + KEY.hex().ljust(128, "0") + "\n"
     for level, (place, output, held) in lines.items():
         bits = ((bit if output else "0") * place + bit * held).ljust(4096, "0")
         text += f"{level:02x}{int(bits, 2):01024x}\n"
     return text.encode()
 
 
-def sound(text):
-    """Whether some sound area writes this text."""
-    form = re.fullmatch(rb"([0-9a-f]{44})\n([0-9a-f]{128})\n((?:[0-9a-f]{1026}\n)*)", text)
+def sound(width, text):
+    """Whether some sound area writes this text, with r in so many bytes."""
+    form = re.fullmatch(rb"([0-9a-f]{%d})\n([0-9a-f]{128})\n((?:[0-9a-f]{1026}\n)*)" % (42 + 2 * width), text)
     if not form:
         return False
     head, key, rest = (part.decode() for part in form.groups())
-    phase, r, limit, key_bytes = (int(head[i:i + 2], 16) for i in (0, 2, 4, 6))
-    d, total, made = int(head[8:12], 16), int(head[12:28], 16), int(head[28:], 16)
-    if phase not in (1, 2) or limit > 64 or key_bytes > 64 or not 1 <= d <= 512 or key[2 * key_bytes:].strip("0"):
+    fields = re.fullmatch("(..)(%s)(..)(..)(.{4})(.{16})(.{16})" % (".." * width), head)
+    phase, r, limit, key_bytes, d, total, made = (int(field, 16) for field in fields.groups())
+    if phase not in (1, 2) or r > MOST_ROUNDS or limit > 64 or key_bytes > 64 or not 1 <= d <= 512:
+        return False
+    if key[2 * key_bytes:].strip("0"):
         return False
     count, lines = state(total, limit, phase == 2)
     found = [(int(line[:2], 16), f"{int(line[2:], 16):04096b}") for line in rest.splitlines()]
@@ -75,32 +80,45 @@ def sound(text):
     return True
 
 
-def suspended(name, text):
-    assert sound(text)
-    print(f"{name} 0 {len(text)} 0 0 same\n{text.decode()}", end="")
+def suspended(name, *stream, r=0, **more):
+    """The text is written and read. Then what writing gave before M-108 is read (with an r over 255, that of its low byte), and the
+    area that it gives writes the new form again."""
+    low = r % 256
+    new = text_of(NEW, *stream, r=r, **more)
+    old = text_of(OLD, *stream, r=low, **more)
+    again = text_of(NEW, *stream, r=low, **more)
+    assert sound(NEW, new) and sound(OLD, old) and sound(NEW, again)
+    print(f"{name} 0 {len(new)} 0 0 same\n{new.decode()}", end="")
+    print(f"old {name} 0 0 {'same' if r == low else 'changed'}\n{old.decode()}", end="")
+    print(f"again 0 {len(again)}\n{again.decode()}", end="")
 
 
 def read(name, text):
-    print(name, "0 0 changed" if sound(text) else "11 0 same")
+    """A text is read, and then the same without the two digits behind the phase: the old form, if the text was in the new one."""
+    for label, lent in ((name, text), (f"old {name}", text[:2] + text[4:])):
+        print(label, "0 0 changed" if sound(NEW, lent) or sound(OLD, lent) else "11 0 same")
 
 
-suspended("empty", text_of(0, 64))
-suspended("one", text_of(1, 64))
-suspended("zero", text_of(1, 64, "0"))
-suspended("full", text_of(4096, 64))
-suspended("later", text_of(4097, 64))
-suspended("sequential", text_of(3073, 0))
-suspended("joined", text_of(4097, 1))
-suspended("output", text_of(12289, 1))
-suspended("ended", text_of(4097, 64, ended=True))
-suspended("longest", text_of(2 ** 64 - 1, 64, "0"))
+suspended("empty", 0, 64)
+suspended("one", 1, 64)
+suspended("zero", 1, 64, "0")
+suspended("full", 4096, 64)
+suspended("later", 4097, 64)
+suspended("sequential", 3073, 0)
+suspended("joined", 4097, 1)
+suspended("output", 12289, 1)
+suspended("ended", 4097, 64, ended=True)
+suspended("longest", 2 ** 64 - 1, 64, "0")
+for r in (255, 256, 4095):
+    suspended(f"rounds-{r}", 1, 64, r=r)
 
-BASE = text_of(4097, 64)
-HEAD, LEVEL_1, LEVEL_2 = BASE[:174], BASE[174:1201], BASE[1201:]
+BASE = text_of(NEW, 4097, 64)
+HEAD, LEVEL_1, LEVEL_2 = BASE[:176], BASE[176:1203], BASE[1203:]
+assert BASE[:2] + BASE[4:] == text_of(OLD, 4097, 64)
 
 
-def head(phase=1, limit=64, key_bytes=3, d=8, total=4097, made=1):
-    return line_1(phase, 0, limit, key_bytes, d, total, made).encode() + BASE[45:]
+def head(phase=1, r=0, limit=64, key_bytes=3, d=8, total=4097, made=1):
+    return line_1(NEW, phase, r, limit, key_bytes, d, total, made).encode() + BASE[47:]
 
 
 def changed(at, new):
@@ -114,8 +132,8 @@ read("last-byte-missing", BASE[:-1])
 read("trailing-line-feed", BASE + b"\n")
 read("trailing-digit", BASE + b"0")
 read("carriage-return", BASE[:-1] + b"\r")
-read("capital", changed(45, b"6B"))
-read("space", changed(2, b"0 "))
+read("capital", changed(47, b"6B"))
+read("space", changed(4, b"0 "))
 for phase in (0, 2, 3):
     read(f"phase-{phase}", head(phase=phase))
 read("limit-65", head(limit=65))
@@ -123,25 +141,36 @@ for key_bytes in (65, 2):
     read(f"key-bytes-{key_bytes}", head(key_bytes=key_bytes))
 for d in (0, 513):
     read(f"d-{d}", head(d=d))
+for r in (255, 256, 4095, 4096, 65535):
+    read(f"r-{r}", head(r=r))
+read("r-space", changed(2, b" "))
+read("r-capital", changed(4, b"F"))
 # a bit more is a bit that is held: 4,098 bits, the last one zero
 for total in (4096, 4098):
     read(f"total-{total}", head(total=total))
 for made in (0, 2):
     read(f"compressions-{made}", head(made=made))
-read("unused-key-byte", changed(51, b"01"))
-read("unheld-bit", changed(174 + 2, b"c"))
-read("unheld-word", changed(1201 + 2 + 256, b"1"))
+read("unused-key-byte", changed(53, b"01"))
+read("unheld-bit", changed(176 + 2, b"c"))
+read("unheld-word", changed(1203 + 2 + 256, b"1"))
 read("level-1-left-out", HEAD + LEVEL_2)
 read("level-2-left-out", HEAD + LEVEL_1)
 read("level-2-twice", BASE + LEVEL_2)
 read("levels-falling", HEAD + b"02" + LEVEL_1[2:] + b"01" + LEVEL_2[2:])
 read("level-0", HEAD + LEVEL_1 + b"00" + LEVEL_2[2:])
 read("level-28", HEAD + LEVEL_1 + b"1c" + LEVEL_2[2:])
-read("zeros", text_of(1, 64) + b"02" + b"0" * 1024 + b"\n")
+read("zeros", text_of(NEW, 1, 64) + b"02" + b"0" * 1024 + b"\n")
+for at in (0, 2, 6, 8, 10, 14, 30, 44, 47, 173, 176, 1203, 2227):
+    print("at", at)
+    read("one-left-out", BASE[:at] + BASE[at + 1:])
+    read("two-left-out", BASE[:at] + BASE[at + 2:])
+    read("one-twice", BASE[:at + 1] + BASE[at:])
+    read("two-twice", BASE[:at + 2] + BASE[at:])
 print("short-area 7 0 same")
 print("short-area-bad-text 7 0 same")
 print("exact-area 0 0 same")
-print("output-short 9 0", "a5" * 173)
-print("output-long 0 174", text_of(0, 64).hex() + "a5" * 2)
+print("output-short 9 0", "a5" * 175)
+print("output-long 0 176", text_of(NEW, 0, 64).hex() + "a5" * 2)
 print("area-short 7 0 a5")
+print("rounds-over 7 0 a5")
 print("area-unsound 7 0 a5")

@@ -64,11 +64,12 @@ headRows =
     ∷ row 1 0 0 0 ((2, 64) ∷ []) [] true
     ∷ row 1 0 0 0 ((2, 64) ∷ (13, 1) ∷ []) [] true
     ∷ row 1 0 0 0 ((2, 65) ∷ []) [] false
-    -- L is up to 64, r up to 255
+    -- L is up to 64, r up to 4,095
     ∷ row 1 64 0 0 [] [] true
     ∷ row 1 65 0 0 [] [] false
-    ∷ row 1 0 0 0 ((5, 255) ∷ []) [] true
-    ∷ row 1 0 0 0 ((5, 256) ∷ []) [] false
+    ∷ row 1 0 0 0 ((5, 256) ∷ []) [] true
+    ∷ row 1 0 0 0 ((5, 4095) ∷ []) [] true
+    ∷ row 1 0 0 0 ((5, 4096) ∷ []) [] false
     -- "unused key bytes are zero": the first two of K, and the third; the eighth and last of word 6, of a key of 8 and of 7 bytes
     ∷ row 1 2 0 0 ((2, 2) ∷ (6, 0xffff000000000000) ∷ []) [] true
     ∷ row 1 2 0 0 ((2, 2) ∷ (6, 0xffff010000000000) ∷ []) [] false

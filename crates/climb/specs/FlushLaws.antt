@@ -30,8 +30,8 @@ flushed P (suc n) T (ws ∷ up) =
     made (emptyLevel ∷ above .levels) (m ∷ above .nodes)
 
 -- what the code needs to flush level 1
-pub record Flushing (key : List ℕ) (params : declared.Params) (table : List ℕ) (T : ℕ) (area log : List ℕ) (at : ℕ) : Type 0 where
-  pub ready : Ready key params table
+pub record Flushing (key : List ℕ) (params : declared.Params) (constants : List ℕ) (T : ℕ) (area log : List ℕ) (at : ℕ) : Type 0 where
+  pub ready : Ready key params constants
   pub long : Long area
   pub room : at + 2 * length (flushed (paramsFrom key params) (params .limit) T (levelsOf area) .nodes) ≤ length log
 
@@ -60,7 +60,7 @@ module _ (P : Params) (T : ℕ) (area : List ℕ) where
   flushed-some zero h = absurd (omega arith)
   flushed-some (suc n) h = let e : suc n - 1 ≡ n = omega arith in rw (levels-split area, e)
 
-module _ {key : List ℕ} {params : declared.Params} {table : List ℕ} {T : ℕ} {area log : List ℕ} {at : ℕ} (f : Flushing key params table T area log at) where
+module _ {key : List ℕ} {params : declared.Params} {constants : List ℕ} {T : ℕ} {area log : List ℕ} {at : ℕ} (f : Flushing key params constants T area log at) where
   abbrev P : Params
   P = paramsFrom key params
 
@@ -99,7 +99,7 @@ module _ {key : List ℕ} {params : declared.Params} {table : List ℕ} {T : ℕ
     above-is : received P (limit - 1) 2 done out area₁ ≡ above P T area limit
     above-is = rw (m .words, d, e₁, other-up first emptyLevel length-empty) refl
 
-    pub flush-coming : done < 2 ^ 56 → Coming key params table (limit - 1) 2 done out area₁ log₁ (at + 2)
+    pub flush-coming : done < 2 ^ 56 → Coming key params constants (limit - 1) 2 done out area₁ log₁ (at + 2)
     flush-coming small = record {
       ready = f .ready;
       level = record { long = rw (e₁, length-with first emptyLevel length-empty) (f .long); low = omega arith; high = omega arith };

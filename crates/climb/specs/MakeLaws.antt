@@ -6,7 +6,6 @@ use lib.Seq.{sets}
 use Rattle.tree.specs.Tree.{Params, Node, node, lastOr, noNode}
 use Rattle.node.specs.Words.{nodeWords}
 use Rattle.calls.specs.Calls.{outWords, nodeLog}
-use Rattle.node.specs.Words.{paramsFrom, Ready}
 pub use Rattle.node.specs.WordLaws.{limit-from}
 
 -- what is left of nodes that are made: U and V of each in the log from a place on, and the words of the last one given back

@@ -1,14 +1,13 @@
 -- Laws: what the words of a sound open area give: parameters in range, K, and the compressions done.
 use mathlib.Core.Path.{_≡_, refl, sym, _∙_}
 use mathlib.Core.List.{List}
-use Prim.Native.Nat.{ℕ, _^_, _≤_}
+use Prim.Native.Nat.{ℕ, _^_}
 use native.Mathlib.Omega.{arith}
 use lib.ListN.{length, getD, length-take, length-drop}
 use borrow.Author.Tests.{eqb-true}
 use Rattle.lists.specs.Below.{Below}
-use Rattle.compress.specs.Compress.{RoundTable}
+use Rattle.constants.specs.Constants.{RoundTable, partEntries}
 use Rattle.refusals.specs.declared.Params as declared
-use Rattle.tree.specs.Tree.{mostRounds}
 use Rattle.refusals.specs.Refusals.{firstRefusal, paramTests}
 use Rattle.refusals.specs.RefusalLaws.{InRange, in-range}
 use Rattle.calls.specs.Area.{phaseOf, totalOf, kOf, compressionsOf, paramsOf, openCount, countFor}
@@ -49,12 +48,12 @@ module _ {area : List ℕ} (o : OpenArea area) where
   length-keyOf = simp (length-take, length-drop) (omega (arith, o .long))
 
   -- a node can be made
-  pub open-ready : (table : List ℕ) → Below (2 ^ 64) area → RoundTable table → mostRounds ≤ length table → Ready (kOf area) (numbered area) table
+  pub open-ready : (constants : List ℕ) → Below (2 ^ 64) area → RoundTable 0 constants → length constants ≡ partEntries → Ready (kOf area) (numbered area) constants
   unfolding paramsFrom paramsOf
-  open-ready table b r h = record {
+  open-ready constants b r h = record {
     range = open-range;
     words = length-keyOf;
     key = sound-key area (o .long) b (o .sound);
     rule = r;
-    rows = h;
+    size = h;
   }

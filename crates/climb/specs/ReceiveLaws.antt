@@ -82,8 +82,8 @@ pub record Climbed (k : ℕ) (F : Made) (area log : List ℕ) (at : ℕ) (area�
   pub next : at′ ≡ at + 2 * length (F .nodes)
 
 -- output i comes to a level: what the code needs then
-pub record Coming (key : List ℕ) (params : declared.Params) (table : List ℕ) (n k i : ℕ) (out area log : List ℕ) (at : ℕ) : Type 0 where
-  pub ready : Ready key params table
+pub record Coming (key : List ℕ) (params : declared.Params) (constants : List ℕ) (n k i : ℕ) (out area log : List ℕ) (at : ℕ) : Type 0 where
+  pub ready : Ready key params constants
   pub level : Level area k
   pub small : i < 2 ^ 56
   pub words : length out ≡ outputWords
@@ -107,7 +107,7 @@ module _ {area : List ℕ} {k : ℕ} (l : Level area k) (place : ℕ) (out : Lis
 
 -- ---- the sequential level
 
-module _ {key : List ℕ} {params : declared.Params} {table : List ℕ} {k i : ℕ} {out area log : List ℕ} {at : ℕ} (c : Coming key params table 0 k i out area log at) where
+module _ {key : List ℕ} {params : declared.Params} {constants : List ℕ} {k i : ℕ} {out area log : List ℕ} {at : ℕ} (c : Coming key params constants 0 k i out area log at) where
   abbrev P : Params
   P = paramsFrom key params
 
@@ -153,7 +153,7 @@ pub record Climb (P : Params) (all : Made) (area₀ log₀ : List ℕ) (at₀ n 
   count-same : at + 2 * length (received P n k i out area .nodes) ≡ at₀ + 2 * length (all .nodes)
   pub room : at + 2 * length (received P n k i out area .nodes) ≤ length log
 
-pub climb-start : {key : List ℕ} {params : declared.Params} {table : List ℕ} {n i : ℕ} {out area log : List ℕ} {at : ℕ} (c : Coming key params table n 2 i out area log at)
+pub climb-start : {key : List ℕ} {params : declared.Params} {constants : List ℕ} {n i : ℕ} {out area log : List ℕ} {at : ℕ} (c : Coming key params constants n 2 i out area log at)
     → Climb (paramsFrom key params) (received (paramsFrom key params) n 2 i out area) area log at n 2 i out area log at
 climb-start c = record {
   low = omega arith;
@@ -239,7 +239,7 @@ module _ {P : Params} {all : Made} {area₀ log₀ : List ℕ} {at₀ n k i : �
   climb-room some high e = omega (arith, ap (λ (x : Made). at + 2 * length (x .nodes)) (received-full P n k i out area high some e), c .room)
 
 -- the loop is at the sequential level, where the output can come
-pub climb-coming : {key : List ℕ} {params : declared.Params} {table : List ℕ} {all : Made} {area₀ log₀ : List ℕ} {at₀ n k i : ℕ} {out area log : List ℕ} {at : ℕ}
-    → Ready key params table → Climb (paramsFrom key params) all area₀ log₀ at₀ n k i out area log at → n < 1 → k ≤ areaLevels
-    → Coming key params table 0 k i out area log at
+pub climb-coming : {key : List ℕ} {params : declared.Params} {constants : List ℕ} {all : Made} {area₀ log₀ : List ℕ} {at₀ n k i : ℕ} {out area log : List ℕ} {at : ℕ}
+    → Ready key params constants → Climb (paramsFrom key params) all area₀ log₀ at₀ n k i out area log at → n < 1 → k ≤ areaLevels
+    → Coming key params constants 0 k i out area log at
 climb-coming r c h high = let z = climb-zero c h in record { ready = r; level = climb-level c high; small = c .small; words = c .words; room = z .room }

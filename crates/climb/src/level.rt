@@ -19,13 +19,13 @@ pub fn make_level(
     area: &[u64],
     params: Params,
     key: &[u64],
-    table: &[u64],
+    constants: &[u64],
     level: usize,
     index: u64,
     log: &mut [u64],
     at: usize,
 ) -> [u64; 16]
-    requires { ⌜ Ready (now key) params (now table) ⌝ }
+    requires { ⌜ Ready (now key) params (now constants) ⌝ }
     requires { ⌜ Level (now area) level × (index < 2 ^ 56) × (at + 2 ≤ length (now log)) ⌝ }
     ensures { λ r. ⌜ Logged (paramsFrom (now (key .entry)) params) (node (paramsFrom (now (key .entry)) params) level index 0 0 (levelWords (now (area .entry)) level) ∷ []) (now (log .entry)) at r (now (log .exit)) ⌝ }
 {
@@ -36,7 +36,7 @@ pub fn make_level(
         z: 0,
         p: 0,
     };
-    make_node(params, key, table, place, part, log, at)
+    make_node(params, key, constants, place, part, log, at)
 }
 
 // Gives an output to a level, at a place of the level's own part of the area.

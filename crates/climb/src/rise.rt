@@ -10,14 +10,14 @@ fn receive_last(
     area: &mut [u64],
     params: Params,
     key: &[u64],
-    table: &[u64],
+    constants: &[u64],
     level: usize,
     i: u64,
     out: &[u64],
     log: &mut [u64],
     at: usize,
 ) -> usize
-    requires { ⌜ Coming (now key) params (now table) 0 level i (now out) (now area) (now log) at ⌝ }
+    requires { ⌜ Coming (now key) params (now constants) 0 level i (now out) (now area) (now log) at ⌝ }
     ensures { λ r. ⌜ Climbed level (received (paramsFrom (now (key .entry)) params) 0 level i (now (out .entry)) (now (area .entry))) (now (area .entry)) (now (log .entry)) at (now (area .exit)) (now (log .exit)) r ⌝ }
 {
     let place = Area::OUTPUT + Area::OUTPUT * ((i % 3) as usize);
@@ -25,7 +25,7 @@ fn receive_last(
     if i % 3 != 2 {
         return at;
     }
-    let made = level::make_level(area, params, key, table, level, i / 3, log, at);
+    let made = level::make_level(area, params, key, constants, level, i / 3, log, at);
     level::chain_level(&mut *area, level, &made);
     at + 2
 }
@@ -36,14 +36,14 @@ pub fn receive(
     area: &mut [u64],
     params: Params,
     key: &[u64],
-    table: &[u64],
+    constants: &[u64],
     levels: u64,
     outputs: u64,
     first: [u64; 16],
     log: &mut [u64],
     start: usize,
 ) -> usize
-    requires { ⌜ Coming (now key) params (now table) levels 2 outputs first (now area) (now log) start ⌝ }
+    requires { ⌜ Coming (now key) params (now constants) levels 2 outputs first (now area) (now log) start ⌝ }
     ensures { λ r. ⌜ Climbed 2 (received (paramsFrom (now (key .entry)) params) levels 2 outputs first (now (area .entry))) (now (area .entry)) (now (log .entry)) start (now (area .exit)) (now (log .exit)) r ⌝ }
 {
     let mut n = levels;
@@ -53,13 +53,13 @@ pub fn receive(
     let mut k: usize = 2;
     while k <= Area::LEVELS {
         if n < 1 {
-            return receive_last(area, params, key, table, k, i, &out, log, at);
+            return receive_last(area, params, key, constants, k, i, &out, log, at);
         }
         level::join(&mut *area, k, Area::OUTPUT * ((i % 4) as usize), &out);
         if i % 4 != 3 {
             return at;
         }
-        let next = level::make_level(area, params, key, table, k, i / 4, log, at);
+        let next = level::make_level(area, params, key, constants, k, i / 4, log, at);
         level::clear_level(&mut *area, k);
         out = next;
         at += 2;

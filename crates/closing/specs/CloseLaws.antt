@@ -101,8 +101,8 @@ block-made {area} {k} {part} l place out h =
 -- ---- the loop over the levels
 
 -- the last output of level 1 goes up: what the code needs then
-pub record Rising (key : List ℕ) (params : declared.Params) (table : List ℕ) (n i : ℕ) (out area log : List ℕ) (at : ℕ) : Type 0 where
-  pub ready : Ready key params table
+pub record Rising (key : List ℕ) (params : declared.Params) (constants : List ℕ) (n i : ℕ) (out area log : List ℕ) (at : ℕ) : Type 0 where
+  pub ready : Ready key params constants
   pub long : Long area
   pub some : 1 ≤ i
   pub small : i < 2 ^ 52
@@ -125,7 +125,7 @@ pub record Closing (P : Params) (all : List Node) (area log₀ : List ℕ) (at�
   last-same : lastOr last (closedUp P n k i out area) ≡ lastOr noNode all
   pub room : at + 2 * length (closedUp P n k i out area) ≤ length log
 
-pub close-start : {key : List ℕ} {params : declared.Params} {table : List ℕ} {n i : ℕ} {out area log : List ℕ} {at : ℕ} (r : Rising key params table n i out area log at)
+pub close-start : {key : List ℕ} {params : declared.Params} {constants : List ℕ} {n i : ℕ} {out area log : List ℕ} {at : ℕ} (r : Rising key params constants n i out area log at)
     → Closing (paramsFrom key params) (closedUp (paramsFrom key params) n 2 i out area) area log at n 2 i out log at
 close-start r = record {
   last = noNode;
@@ -251,12 +251,12 @@ last-above P (suc n) i out ws up x y = go (eqb (i / 4) 0) refl
     go false e = rw (Close.close-many P n 2 i out ws up e)
 
 -- what the code needs to make the last nodes of all levels
-pub record Ending (key : List ℕ) (params : declared.Params) (table : List ℕ) (T : ℕ) (area log : List ℕ) : Type 0 where
-  pub ready : Ready key params table
+pub record Ending (key : List ℕ) (params : declared.Params) (constants : List ℕ) (T : ℕ) (area log : List ℕ) : Type 0 where
+  pub ready : Ready key params constants
   pub long : Long area
   pub room : 2 * length (closing (paramsFrom key params) (params .limit) T (levelsOf area)) ≤ length log
 
-module _ {key : List ℕ} {params : declared.Params} {table : List ℕ} {T : ℕ} {area log : List ℕ} (c : Ending key params table T area log) where
+module _ {key : List ℕ} {params : declared.Params} {constants : List ℕ} {T : ℕ} {area log : List ℕ} (c : Ending key params constants T area log) where
   abbrev P : Params
   P = paramsFrom key params
 
@@ -302,7 +302,7 @@ module _ {key : List ℕ} {params : declared.Params} {table : List ℕ} {T : ℕ
       all-is = rw (d₀ .words, e) (closing-more P limit T area some (rw e at h))
 
       -- its output goes up otherwise
-      pub first-rising : done < 2 ^ 52 → Rising key params table (limit - 1) done first area log₁ 2
+      pub first-rising : done < 2 ^ 52 → Rising key params constants (limit - 1) done first area log₁ 2
       first-rising small = record {
         ready = c .ready;
         long = c .long;

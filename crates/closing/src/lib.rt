@@ -46,14 +46,14 @@ fn close_above(
     area: &[u64],
     params: Params,
     key: &[u64],
-    table: &[u64],
+    constants: &[u64],
     levels: u64,
     outputs: u64,
     first: [u64; 16],
     log: &mut [u64],
     start: usize,
 ) -> [u64; 16]
-    requires { ⌜ Rising (now key) params (now table) levels outputs first (now area) (now log) start ⌝ }
+    requires { ⌜ Rising (now key) params (now constants) levels outputs first (now area) (now log) start ⌝ }
     ensures { λ r. ⌜ Logged (paramsFrom (now (key .entry)) params) (closedUp (paramsFrom (now (key .entry)) params) levels 2 outputs first (now (area .entry))) (now (log .entry)) start r (now (log .exit)) ⌝ }
 {
     let mut n = levels;
@@ -70,14 +70,14 @@ fn close_above(
             let index = i / 3;
             let z = 1;
             let last = Place { level, index, z, p };
-            return climb::make_node(params, key, table, last, &block, log, at);
+            return climb::make_node(params, key, constants, last, &block, log, at);
         }
         let block = joined_block(area, k, Area::OUTPUT * ((i % 4) as usize), &out);
         let p = Block::OUTPUT_BITS * (3 - i % 4);
         let index = i / 4;
         let z = root_flag(index);
         let last = Place { level, index, z, p };
-        let next = climb::make_node(params, key, table, last, &block, log, at);
+        let next = climb::make_node(params, key, constants, last, &block, log, at);
         if i < 4 {
             return next;
         }
@@ -95,13 +95,13 @@ fn close_first(
     area: &[u64],
     params: Params,
     key: &[u64],
-    table: &[u64],
+    constants: &[u64],
     size: u64,
     z: u64,
     total: u64,
     log: &mut [u64],
 ) -> [u64; 16]
-    requires { ⌜ Ready (now key) params (now table) ⌝ }
+    requires { ⌜ Ready (now key) params (now constants) ⌝ }
     requires { ⌜ Long (now area) × (0 < size) × (size ≤ blockBits) × (heldBits size total ≤ size) × (doneBlocks size total < 2 ^ 56) × (z ≤ 1) × (2 ≤ length (now log)) ⌝ }
     ensures { λ r. ⌜ Logged (paramsFrom (now (key .entry)) params) (firstNode (paramsFrom (now (key .entry)) params) size total z (now (area .entry)) ∷ []) (now (log .entry)) 0 r (now (log .exit)) ⌝ }
 {
@@ -110,7 +110,7 @@ fn close_first(
     let p = size - count::held_bits(size, total);
     let block = &area[Area::HEAD..Area::FIRST_END];
     let last = Place { level, index, z, p };
-    climb::make_node(params, key, table, last, block, log, 0)
+    climb::make_node(params, key, constants, last, block, log, 0)
 }
 
 // Makes the nodes of all levels, when so many bits came. U and V of each go to the log from its first word, and the root's
@@ -119,25 +119,25 @@ fn close_levels(
     area: &[u64],
     params: Params,
     key: &[u64],
-    table: &[u64],
+    constants: &[u64],
     total: u64,
     log: &mut [u64],
 ) -> [u64; 16]
-    requires { ⌜ Ending (now key) params (now table) total (now area) (now log) ⌝ }
+    requires { ⌜ Ending (now key) params (now constants) total (now area) (now log) ⌝ }
     ensures { λ r. ⌜ Logged (paramsFrom (now (key .entry)) params) (closing (paramsFrom (now (key .entry)) params) (params .limit) total (levelsOf (now (area .entry)))) (now (log .entry)) 0 r (now (log .exit)) ⌝ }
 {
     let limit = params.limit;
     if limit < 1 {
         let size = Block::SEQUENTIAL_BITS;
-        return close_first(area, params, key, table, size, 1, total, log);
+        return close_first(area, params, key, constants, size, 1, total, log);
     }
     let done = count::done_blocks(Block::BITS, total);
     let z = root_flag(done);
-    let first = close_first(area, params, key, table, Block::BITS, z, total, log);
+    let first = close_first(area, params, key, constants, Block::BITS, z, total, log);
     if done < 1 {
         return first;
     }
-    close_above(area, params, key, table, limit - 1, done, first, log, 2)
+    close_above(area, params, key, constants, limit - 1, done, first, log, 2)
 }
 
 // The first half of the end: makes the last nodes of an open area, which it only reads. U and V of each go to the log from
@@ -148,7 +148,7 @@ pub fn closing(area: &[u64], log: &mut [u64]) -> [u64; 16]
     ensures { λ _. ⌜ now (log .exit) ≡ logged (closedBy (now (area .entry))) (now (log .entry)) ⌝ }
 {
     let params = Area::params(area);
-    let table = compress::round_constants();
+    let first = constants::first_part();
     let key = &area[Area::KEY..Area::KEY_END];
-    close_levels(area, params, key, &table, area[Area::TOTAL], log)
+    close_levels(area, params, key, &first, area[Area::TOTAL], log)
 }

@@ -1,5 +1,5 @@
--- The mathematics of the crate's proofs: a copy, word by word; and the 89 words before a place of the buffer, which stay the
--- last 89 words of the report's array A.
+-- The mathematics of the crate's proofs: a copy, word by word; and the 89 words before a place of the buffer, which stay the last 89
+-- words of the report's array A.
 use mathlib.Core.Path.{_≡_, refl, sym, ap, _∙_, subst}
 use mathlib.Core.Bool.{Bool}
 use mathlib.Core.List.{List, [], _∷_, _++_, append-nil}
@@ -12,9 +12,10 @@ use lib.ListN.{length, getD, set, take, drop, length-set, length-drop, replicate
 use lib.Seq.{paste, paste-suc, drop-paste, getD-take, getD-drop, drop-drop, drop-cons, drop-set-add, take-suc-set, take-take, length-take-le, drop-append-le}
 use Rattle.lists.specs.Table.{every, at}
 use Rattle.lists.specs.Take.{drop-take}
-use Rattle.compress.specs.Compress.{S, shiftsR, shiftsT, word, grown, compressed}
+use Rattle.compress.specs.Compress.{shiftsR, shiftsT, word, grown, compressed}
+use Rattle.constants.specs.Constants.{S}
 use Rattle.compress.specs.CompressLaws.{length-grown, grown-suc}
-use Rattle.compress.specs.Buffer.{putAt, putRound}
+use Rattle.compress.specs.Buffer.{putAt, putRound, before, after, Advances}
 
 -- ---- a loop that copies s to the front of d
 
@@ -42,14 +43,6 @@ move-more d b j room =
     ap (set (paste d 0 s j) j) ahead ∙ copy-more d s j (omega arith) (omega arith)
 
 -- ---- the window
-
--- the 89 words of the buffer xs before place i
-abbrev pub before : ℕ → List ℕ → List ℕ
-before i xs = take 89 (drop (i - 89) xs)
-
--- the last 89 words of the array after t steps on the window N
-abbrev pub after : ℕ → List ℕ → List ℕ
-after t N = drop t (grown t N)
 
 length-put : (i s r t : ℕ) (xs : List ℕ) → length (putAt i s r t xs) ≡ length xs
 unfolding putAt
@@ -131,6 +124,14 @@ module _ (N xs : List ℕ) (i q : ℕ) (size : length N ≡ 89) (low : 89 ≤ i)
   round-window =
       let t₁ : 16 * q + 16 ≡ 16 * (q + 1) = omega arith in
       steps 16 (omega arith) ∙ ap (λ (k : ℕ). after k N) t₁
+
+-- the number of rounds that are done, in other words
+pub reworded : {p q r i k : ℕ} {xs ys : List ℕ} → q ≡ r → Advances p q i xs k ys → Advances p r i xs k ys
+reworded {p} {q} {r} {i} {k} {xs} {ys} e f = subst (λ (m : ℕ). Advances p m i xs k ys) e f
+
+-- rounds after rounds
+pub onward : {p q r i j k : ℕ} {xs ys zs : List ℕ} → Advances p q i xs j ys → Advances q r j ys k zs → Advances p r i xs k zs
+onward f g = record { rule = λ N size e. g .rule N size (f .rule N size e) }
 
 -- ---- the output: the 16 words before place i
 

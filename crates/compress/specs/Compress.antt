@@ -1,29 +1,10 @@
 -- Definitions: the compression function. Document 01, "Compression"; the report, section 2.5 and figure 2.10.
 -- A word is a number below 2 ^ 64, and a list of words is the report's array A, which grows at its end.
-use mathlib.Core.Path.{_≡_}
 use mathlib.Core.List.{List, [], _∷_, _++_}
-use Prim.Native.Nat.{ℕ, zero, suc, _+_, _-_, _*_, _/_, _%_, _^_, _<_}
-use lib.Bits.{bitAnd, bitOr, bitXor}
-use lib.ListN.{length, getD, drop}
-
--- a word shifted right, and shifted left, by k bits
-abbrev pub shr : ℕ → ℕ → ℕ
-shr x k = x / 2 ^ k
-
-abbrev pub shl : ℕ → ℕ → ℕ
-shl x k = x * 2 ^ k % 2 ^ 64
-
--- "Round 0 has 0x0123456789abcdef. The next is S rotated left by 1, xor (S and 0x7311c2812425cfa0)."
-unfoldable pub nextS : ℕ → ℕ
-nextS s = bitXor (bitOr (shl s 1) (shr s 63)) (bitAnd s 0x7311c2812425cfa0)
-
-unfoldable pub S : ℕ → ℕ
-S zero = 0x0123456789abcdef
-S (suc j) = nextS (S j)
-
--- "The 255 round constants stand in a table whose rule is shown once for all entries": entry j is S of round j
-pub record RoundTable (table : List ℕ) : Type 0 where
-  pub rule : (j : ℕ) → j < length table → getD table j 0 ≡ S j
+use Prim.Native.Nat.{ℕ, zero, suc, _+_, _-_, _*_, _/_, _%_, _^_}
+use lib.Bits.{bitAnd, bitXor}
+use lib.ListN.{getD, drop}
+use Rattle.constants.specs.Constants.{shr, shl, S}
 
 -- "R and T go by (i - 89) mod 16"
 abbrev pub shiftsR : List ℕ

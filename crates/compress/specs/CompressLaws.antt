@@ -10,7 +10,8 @@ use lib.ListN.{length, getD, drop, length-append, length-drop}
 use lib.Pow.{pow-pos, shr-le}
 use Rattle.lists.specs.Below.{Below, none, more}
 use Rattle.lists.specs.BelowLaws.{below-append, below-drop}
-use Rattle.compress.specs.Compress.{shr, shl, nextS, S, mixed, stepped, word, grown, compressed}
+use Rattle.constants.specs.Constants.{shr, shl, nextS, S}
+use Rattle.compress.specs.Compress.{mixed, stepped, word, grown, compressed}
 
 -- ---- the steps of the array
 

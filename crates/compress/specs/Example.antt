@@ -3,7 +3,8 @@ use mathlib.Core.Path.{_≡_, refl}
 use mathlib.Core.List.{List, [], _∷_}
 use Prim.Native.Nat.{ℕ}
 use lib.ListN.{replicate}
-use Rattle.compress.specs.Compress.{nextS, S, stepped, word, grown, compressed, windowOf}
+use Rattle.constants.specs.Constants.{nextS, S}
+use Rattle.compress.specs.Compress.{stepped, word, grown, compressed, windowOf}
 
 -- A[0] to A[88]: no key; U of level 1 and index 0; V with r = 5, L = 64, z = 1, p = 4072, no key bytes, d = 256; and the block
 abbrev pub abc : List ℕ

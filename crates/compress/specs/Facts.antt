@@ -3,7 +3,8 @@ use mathlib.Core.Path.{_≡_, refl}
 use Prim.Native.Nat.{_+_, _*_, _^_, _≤_, _<_}
 use lib.Dec.{lit<, lit≤}
 use lib.ListN.{getD, replicate}
-use Rattle.compress.specs.Compress.{nextS, S, stepped, word, grown, scaledRoot}
+use Rattle.constants.specs.Constants.{nextS, S}
+use Rattle.compress.specs.Compress.{stepped, word, grown, scaledRoot}
 use Rattle.compress.specs.Report.{reportStep, reportWord}
 
 -- "Round 1 has S = 0x0347cace1376567e."

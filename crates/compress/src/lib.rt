@@ -1,13 +1,14 @@
 // The compression function of MD6. Document 01, "Compression".
 ghost use mathlib.Core.Path.{_≡_};
-ghost use Prim.Native.Nat.{_+_, _-_, _%_, _≤_, _<_};
-ghost use lib.ListN.{length, take, drop};
+ghost use Prim.Native.Nat.{ℕ, _+_, _-_, _≤_, _<_, min};
+ghost use lib.ListN.{length, drop};
 ghost use lib.Seq.{paste};
-ghost use Rattle.compress.specs.Compress.{RoundTable, Q, compressed};
+ghost use Rattle.constants.specs.Constants.{RoundTable, tableEntries, partEntries};
+ghost use Rattle.compress.specs.Compress.{Q, compressed};
 ghost use Rattle.compress.specs.Report.{reportStep};
-ghost use Rattle.compress.specs.Buffer.{putAt, putRound};
-
-mod table; // table.rt: the 255 round constants
+ghost use Rattle.compress.specs.Buffer.{putAt, putRound, before, Placed, Advances};
+use constants::PART;
+use constants::PARTS;
 
 // Q: the first 960 bits of the fraction of the square root of 6.
 const Q_WORDS: [u64; 15] = [
@@ -48,13 +49,6 @@ pub fn q_words() -> [u64; 15]
     ensures { λ r. ⌜ r ≡ Q ⌝ }
 {
     Q_WORDS
-}
-
-// The round constants: copied once a message, and lent to each compression of it.
-pub fn round_constants() -> [u64; 255]
-    ensures { λ r. ⌜ RoundTable r ⌝ }
-{
-    table::ROUND_CONSTANTS
 }
 
 // The new word of a step, line for line as figure 2.10 of the report has it: s is the constant, an is A[i-n], a0 to a4 are
@@ -116,8 +110,8 @@ fn move_to_front(a: &mut [u64], b: usize, n: usize)
 
 // Where the next round is written: at, or 89 after the last 89 words of a full buffer were moved to its front.
 fn next_place(a: &mut [u64], at: usize) -> usize
-    requires { ⌜ (length (now a) ≡ 345) × (89 ≤ at) × (at ≤ 345) × (at % 16 ≡ 9) ⌝ }
-    ensures { λ r. ⌜ (89 ≤ r) × (r + 16 ≤ 345) × (r % 16 ≡ 9) × (take 89 (drop (r - 89) (now (a .exit))) ≡ take 89 (drop (at - 89) (now (a .entry)))) ⌝ }
+    requires { ⌜ Placed (now a) at ⌝ }
+    ensures { λ r. ⌜ Placed (now (a .exit)) r × (r + 16 ≤ 345) × (before r (now (a .exit)) ≡ before at (now (a .entry))) ⌝ }
 {
     if at < BUFFER {
         at
@@ -127,21 +121,63 @@ fn next_place(a: &mut [u64], at: usize) -> usize
     }
 }
 
-// The compression function: so many rounds on a window, with the constants of the rounds in the table.
-pub fn compress(window: &[u64; WINDOW], table: &[u64], rounds: usize) -> [u64; ROUND]
-    requires { ⌜ RoundTable (now table) × (rounds ≤ length (now table)) ⌝ }
+// The lesser of two numbers.
+fn least(a: usize, b: usize) -> usize
+    ensures { λ r. ⌜ r ≡ min a b ⌝ }
+{
+    if a < b { a } else { b }
+}
+
+// So many rounds with the first constants of a part, written from `at` on. The place after them.
+fn some_rounds(a: &mut [u64], at: usize, part: &[u64], n: usize) -> usize
+    requires { ⌜ Placed (now a) at × (n ≤ length (now part)) ⌝ }
+    ensures { λ r. ⌜ Placed (now (a .exit)) r × ((q : ℕ) → RoundTable q (now (part .entry)) → Advances q (q + n) at (now (a .entry)) r (now (a .exit))) ⌝ }
+{
+    let mut place = at;
+    let mut k = 0;
+    while k < n {
+        place = next_place(a, place);
+        round(a, place, part[k]);
+        place += ROUND;
+        k += 1;
+    }
+    place
+}
+
+// The rounds after the first 273, if there are any: the next part is fetched when they come to it. The place after them. The first
+// test says again what the loop's says, so that the compiler leaves out the loop where it is not needed.
+fn later_rounds(a: &mut [u64], at: usize, rounds: usize) -> usize
+    requires { ⌜ Placed (now a) at × (rounds ≤ tableEntries) ⌝ }
+    ensures { λ r. ⌜ Placed (now (a .exit)) r × Advances (min rounds partEntries) rounds at (now (a .entry)) r (now (a .exit)) ⌝ }
+{
+    if rounds <= PART {
+        return at;
+    }
+    let mut place = at;
+    let mut part = 1;
+    while part < PARTS {
+        let done = PART * part;
+        if rounds <= done {
+            return place;
+        }
+        let s = constants::part(part);
+        let n = least(rounds - done, PART);
+        place = some_rounds(a, place, &s, n);
+        part += 1;
+    }
+    place
+}
+
+// The compression function: so many rounds on a window. The constants of the first 273 rounds are lent; more rounds fetch theirs.
+pub fn compress(window: &[u64; WINDOW], first: &[u64], rounds: usize) -> [u64; ROUND]
+    requires { ⌜ RoundTable 0 (now first) × (length (now first) ≡ partEntries) × (rounds ≤ tableEntries) ⌝ }
     ensures { λ c. ⌜ c ≡ compressed rounds (now (window .entry)) ⌝ }
 {
     let mut a = [0u64; BUFFER];
     words::copy(&mut a, 0, window);
-    let mut at = WINDOW;
-    let mut k = 0;
-    while k < rounds {
-        at = next_place(&mut a, at);
-        round(&mut a, at, table[k]);
-        at += ROUND;
-        k += 1;
-    }
+    let n = least(rounds, PART);
+    let mut at = some_rounds(&mut a, WINDOW, first, n);
+    at = later_rounds(&mut a, at, rounds);
     let mut c = [0u64; ROUND];
     let e = at - ROUND;
     words::copy(&mut c, 0, &a[e..at]);

@@ -1,8 +1,8 @@
 // What the benchmark of the compression links; nothing else uses it.
 
-// Compresses a window so many times, one after the other, with the table of round constants copied once for all of
+// Compresses a window so many times, one after the other, with the constants of the first rounds copied once for all of
 // them. Each output changes a word of the next window, so that no compression can be left out; the last one is
-// written to out. A window of other than 89 words, an output of other than 16 or more rounds than constants change nothing.
+// written to out. A window of other than 89 words, an output of other than 16 or more than 4,095 rounds change nothing.
 #[no_mangle]
 pub extern "C" fn md6_bench_compress(window: &[u64], rounds: usize, times: usize, out: &mut [u64]) {
     if window.len() != 89 {
@@ -11,17 +11,16 @@ pub extern "C" fn md6_bench_compress(window: &[u64], rounds: usize, times: usize
     if out.len() != 16 {
         return;
     }
-    let table = compress::round_constants();
-    let t: &[u64] = &table;
-    if t.len() < rounds {
+    if 4095 < rounds {
         return;
     }
+    let first = constants::first_part();
     let mut w = [0u64; 89];
     words::copy(&mut w, 0, window);
     let mut c = [0u64; 16];
     let mut i = 0;
     while i < times {
-        let next = compress::compress(&w, t, rounds);
+        let next = compress::compress(&w, &first, rounds);
         c = next;
         w[25] = w[25] ^ c[0];
         i += 1;

@@ -1,8 +1,9 @@
 // Prints every word that Appendix C of the report prints: the window of each node, its intermediate words and its output.
 // The file stdout is made from the report's text by tests/appendix_c/expected.py, and not from this code.
+ghost use mathlib.Core.Path.{_≡_};
 ghost use Prim.Native.Nat.{_+_, _^_, _≤_, _<_};
 ghost use lib.ListN.{length};
-ghost use Rattle.compress.specs.Compress.{RoundTable};
+ghost use Rattle.constants.specs.Constants.{RoundTable, partEntries};
 use libc::STDOUT_FILENO;
 
 // The bytes 11 22 33 44 55 66 77, repeated, as words: word i of the message is entry i mod 7.
@@ -47,13 +48,13 @@ fn print_words(node: usize, first: usize, words: &[u64], n: usize)
 
 // A node with five rounds of which the report prints all words: A[0] to A[72], and then the outputs of 0 to 5 rounds,
 // which are A[73] to A[168].
-fn print_all(node: usize, window: &[u64; 89], table: &[u64])
-    requires { ⌜ RoundTable (now table) × (5 ≤ length (now table)) ⌝ }
+fn print_all(node: usize, window: &[u64; 89], first: &[u64])
+    requires { ⌜ RoundTable 0 (now first) × (length (now first) ≡ partEntries) ⌝ }
 {
     print_words(node, 0, window, 73);
     let mut r = 0;
     while r <= 5 {
-        let c = compress::compress(window, table, r);
+        let c = compress::compress(window, first, r);
         print_words(node, 73 + 16 * r, &c, 16);
         r += 1;
     }
@@ -93,42 +94,42 @@ fn fill(part: &mut [u64], from: usize)
 }
 
 // C.1: "abc", d = 256, r = 5.
-fn first_example(table: &[u64])
-    requires { ⌜ RoundTable (now table) × (5 ≤ length (now table)) ⌝ }
+fn first_example(first: &[u64])
+    requires { ⌜ RoundTable 0 (now first) × (length (now first) ≡ partEntries) ⌝ }
 {
     let mut block = [0u64; 64];
     block[0] = 0x6162630000000000;
     let w = window_of(0, 0, 0x0100000000000000, 0x00054010fe800100, &block);
-    print_all(0, &w, table);
+    print_all(0, &w, first);
 }
 
 // A node of C.2, with the key "abcde12345": its words are printed, and its output is returned.
-fn keyed(node: usize, u: u64, v: u64, block: &[u64; 64], table: &[u64]) -> [u64; 16]
-    requires { ⌜ RoundTable (now table) × (5 ≤ length (now table)) ⌝ }
+fn keyed(node: usize, u: u64, v: u64, block: &[u64; 64], first: &[u64]) -> [u64; 16]
+    requires { ⌜ RoundTable 0 (now first) × (length (now first) ≡ partEntries) ⌝ }
 {
     let w = window_of(0x6162636465313233, 0x3435000000000000, u, v, block);
-    print_all(node, &w, table);
-    compress::compress(&w, table, 5)
+    print_all(node, &w, first);
+    compress::compress(&w, first, 5)
 }
 
 // C.2: 600 bytes, d = 224, r = 5: two leaves, and the root over their outputs.
-fn second_example(table: &[u64])
-    requires { ⌜ RoundTable (now table) × (5 ≤ length (now table)) ⌝ }
+fn second_example(first: &[u64])
+    requires { ⌜ RoundTable 0 (now first) × (length (now first) ≡ partEntries) ⌝ }
 {
     let mut left = [0u64; 64];
     fill(&mut left, 0);
-    let c = keyed(1, 0x0100000000000000, 0x000540000000a0e0, &left, table);
+    let c = keyed(1, 0x0100000000000000, 0x000540000000a0e0, &left, first);
     let mut right = [0u64; 64];
     fill(&mut right[..11], 64);
-    let d = keyed(2, 0x0100000000000001, 0x00054000d400a0e0, &right, table);
+    let d = keyed(2, 0x0100000000000001, 0x00054000d400a0e0, &right, first);
     let above = joined(&c, &d);
-    keyed(3, 0x0200000000000000, 0x000540108000a0e0, &above, table);
+    keyed(3, 0x0200000000000000, 0x000540108000a0e0, &above, first);
 }
 
 // A node of C.3, of which the report prints only the window and the output: U and V, the output before it, and so many
 // words of the message from word 48 * index on.
-fn sequential(index: usize, v: u64, chain: &[u64; 16], words: usize, table: &[u64]) -> [u64; 16]
-    requires { ⌜ RoundTable (now table) × (104 ≤ length (now table)) × (index < 3) × (words ≤ 48) ⌝ }
+fn sequential(index: usize, v: u64, chain: &[u64; 16], words: usize, first: &[u64]) -> [u64; 16]
+    requires { ⌜ RoundTable 0 (now first) × (length (now first) ≡ partEntries) × (index < 3) × (words ≤ 48) ⌝ }
 {
     let mut block = [0u64; 64];
     words::copy(&mut block, 0, chain);
@@ -136,24 +137,24 @@ fn sequential(index: usize, v: u64, chain: &[u64; 16], words: usize, table: &[u6
     fill(&mut block[16..end], 48 * index);
     let w = window_of(0, 0, 0x0100000000000000 + index as u64, v, &block);
     print_words(4 + index, 0, &w, 89);
-    let c = compress::compress(&w, table, 104);
+    let c = compress::compress(&w, first, 104);
     print_words(4 + index, 1737, &c, 16);
     c
 }
 
 // C.3: 800 bytes, L = 0, d = 256, r = 104: three nodes in sequence.
-fn third_example(table: &[u64])
-    requires { ⌜ RoundTable (now table) × (104 ≤ length (now table)) ⌝ }
+fn third_example(first: &[u64])
+    requires { ⌜ RoundTable 0 (now first) × (length (now first) ≡ partEntries) ⌝ }
 {
     let none = [0u64; 16];
-    let c = sequential(0, 0x0068000000000100, &none, 48, table);
-    let d = sequential(1, 0x0068000000000100, &c, 48, table);
-    sequential(2, 0x00680010b0000100, &d, 4, table);
+    let c = sequential(0, 0x0068000000000100, &none, 48, first);
+    let d = sequential(1, 0x0068000000000100, &c, 48, first);
+    sequential(2, 0x00680010b0000100, &d, 4, first);
 }
 
 fn main() {
-    let table = compress::round_constants();
-    first_example(&table);
-    second_example(&table);
-    third_example(&table);
+    let first = constants::first_part();
+    first_example(&first);
+    second_example(&first);
+    third_example(&first);
 }

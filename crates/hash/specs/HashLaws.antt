@@ -7,8 +7,8 @@ use borrow.Author.Tests.{ltb-false}
 use lib.ListN.{length, drop, replicate}
 use Rattle.lists.specs.Below.{Below}
 use Rattle.bits.specs.Bits.{bitsOf, numbers}
-use Rattle.compress.specs.Compress.{RoundTable}
-use Rattle.tree.specs.Tree.{Params, keyWords, digest, order, digestBytes, mostRounds}
+use Rattle.constants.specs.Constants.{RoundTable, partEntries}
+use Rattle.tree.specs.Tree.{Params, keyWords, digest, order, digestBytes}
 use Rattle.tree.specs.TreeLaws.{length-keyWords, key-back}
 use Rattle.bits.specs.Piece.{Piece, pieceBits, bitsTest}
 use Rattle.bits.specs.PieceLaws.{Fits, length-pieceBits, bits-there}
@@ -70,13 +70,13 @@ module _ (key : List ℕ) (params : declared.Params) (bytes : Below 256 key) (si
   params-key = rw (size, key-back key bytes (r .keyHigh))
 
   -- nodes can be made
-  pub key-ready : (table : List ℕ) → RoundTable table → mostRounds ≤ length table → Ready (keyWords key) params table
-  key-ready table rule rows = record {
+  pub key-ready : (constants : List ℕ) → RoundTable 0 constants → length constants ≡ partEntries → Ready (keyWords key) params constants
+  key-ready constants rule entries = record {
     range = rw size r;
     words = length-keyWords key;
     key = ap (λ (P : Params). keyWords (P .key)) params-key;
     rule = rule;
-    rows = rows;
+    size = entries;
   }
 
 pub digest-root : (P : Params) (M : List Bool) (root : List ℕ) → root ≡ rootValue P (P .limit) M

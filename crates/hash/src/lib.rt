@@ -65,8 +65,8 @@ fn put_digest(message: &[u8], span: Span, key: &[u8], params: Params, out: &mut 
     ensures { λ _. ⌜ now (out .exit) ≡ digest (withKey (now (key .entry)) params) (pieceBits (spanned (now (message .entry)) span)) ++ drop (digestBytes (params .d)) (now (out .entry)) ⌝ }
 {
     let k = digest::key_words(key);
-    let table = compress::round_constants();
-    let root = nodes::root(message, span, params, &k, &table);
+    let first = constants::first_part();
+    let root = nodes::root(message, span, params, &k, &first);
     digest::write_digest(&root, params.d, out);
 }
 

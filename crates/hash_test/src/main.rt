@@ -1,7 +1,7 @@
 // Runs the whole-message call on the rows of document 01's "Reels by hand", on the edges of each parameter, on the messages of
-// the report's Appendix C and on bits from every start bit on. A line is the number, the count and the output, which held a5 in
-// every byte before the call. Then the default rounds of every digest size, a line a size. tests/hash/expected.py makes the
-// expected lines with the second program and from document 02.
+// the report's Appendix C, with rounds about each edge and on bits from every start bit on. A line is the number, the count and
+// the output, which held a5 in every byte before the call. Then the default rounds of every digest size, a line a size.
+// tests/hash/expected.py makes the expected lines with the second program and from document 02.
 ghost use mathlib.Core.Path.{_≡_};
 ghost use Prim.Native.Nat.{_≤_, _<_};
 ghost use lib.ListN.{length};
@@ -12,6 +12,27 @@ const COUNTS: [u64; 8] = [0, 1, 7, 8, 9, 4095, 4096, 4097];
 
 // Those of a first block that is sequential.
 const SEQUENTIAL_COUNTS: [u64; 4] = [0, 3071, 3072, 3073];
+
+// Rounds about 255, the most before M-108, about the ends of parts of the table of constants, which have 273 each, and about
+// 4,095, the most; then 2^12 + 5, 2^16 + 5 and 2^32 + 5, which are 5 where their high bits are lost, and 2^64 - 1.
+const ROUNDS: [u64; 16] = [
+    254,
+    255,
+    256,
+    273,
+    274,
+    546,
+    547,
+    3822,
+    3823,
+    4094,
+    4095,
+    4096,
+    4101,
+    65541,
+    4294967301,
+    u64::MAX,
+];
 
 // Calls hash, and writes what it answers.
 fn call(
@@ -74,14 +95,30 @@ fn edges() {
     show(b"abc", 24, b"", 8, 65, 5, 1);
     show(b"abc", 24, b"", 8, 64, 255, 1);
     show(b"abc", 24, b"", 8, 64, 256, 1);
-    show(b"abc", 25, b"", 0, 65, 256, 0);
+    show(b"abc", 24, b"", 8, 64, 4095, 1);
+    show(b"abc", 24, b"", 8, 64, 4096, 1);
+    show(b"abc", 25, b"", 0, 65, 4096, 0);
     show(b"abc", 18446744073709551615, b"", 8, 64, 5, 1);
     show(b"abc", 23, b"", 9, 64, 5, 1);
     show(b"abc", 23, b"", 9, 64, 5, 3);
-    show(b"abc", 24, &key, 0, 65, 256, 0);
-    show(b"abc", 24, &key, 8, 65, 256, 0);
-    show(b"abc", 24, b"", 8, 65, 256, 0);
-    show(b"abc", 24, b"", 8, 64, 256, 0);
+    show(b"abc", 24, &key, 0, 65, 4096, 0);
+    show(b"abc", 24, &key, 8, 65, 4096, 0);
+    show(b"abc", 24, b"", 8, 65, 4096, 0);
+    show(b"abc", 24, b"", 8, 64, 4096, 0);
+}
+
+// A message of two blocks, under a key and with so many rounds.
+fn with_rounds(rounds: u64) {
+    let ones = [0xffu8; 2049];
+    show(&ones, 4097, b"key", 512, 64, rounds, 64);
+}
+
+fn each_rounds() {
+    let mut i = 0;
+    while i < 16 {
+        with_rounds(ROUNDS[i]);
+        i += 1;
+    }
 }
 
 // The bytes 11 22 33 44 55 66 77, repeated.
@@ -168,9 +205,9 @@ fn refused_starts(message: &[u8]) {
     show_from(message, 7, u64::MAX, 64);
     show_from(message, 7, 18446744073709551609, 64);
     show_from(message, 7, 18446744073709551608, 64);
-    call(message, 8, 8, b"", 0, 65, 256, &mut out);
-    call(message, 7, 18, b"", 0, 65, 256, &mut out);
-    call(message, 7, 17, b"", 0, 65, 256, &mut out);
+    call(message, 8, 8, b"", 0, 65, 4096, &mut out);
+    call(message, 7, 18, b"", 0, 65, 4096, &mut out);
+    call(message, 7, 17, b"", 0, 65, 4096, &mut out);
 }
 
 // What is told for a digest size and a key length, behind what separates it from what stands before it.
@@ -206,6 +243,7 @@ fn all_default_rounds() {
 fn main() {
     reels();
     edges();
+    each_rounds();
     report();
     starts();
     all_last_bits();

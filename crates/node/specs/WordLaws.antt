@@ -36,7 +36,7 @@ pub limit-from : (k : List ℕ) (params : declared.Params) → paramsFrom k para
 unfolding paramsFrom
 limit-from k params = refl
 
-module _ {k : List ℕ} {params : declared.Params} {table : List ℕ} (ready : Ready k params table) where
+module _ {k : List ℕ} {params : declared.Params} {constants : List ℕ} (ready : Ready k params constants) where
   valid : Valid (paramsFrom k params)
   unfolding paramsFrom
   valid = record {

@@ -1,11 +1,11 @@
 -- Laws: the 16 words of a node, and what the code that makes nodes is given.
 use mathlib.Core.Path.{_≡_}
 use mathlib.Core.List.{List}
-use Prim.Native.Nat.{ℕ, _^_, _≤_, _<_}
+use Prim.Native.Nat.{ℕ, _^_, _<_}
 use lib.ListN.{length, replicate}
 use Rattle.bits.specs.Bits.{bitsOf, numbers}
-use Rattle.compress.specs.Compress.{RoundTable}
-use Rattle.tree.specs.Tree.{Params, words, keyWords, node, output, mostRounds}
+use Rattle.constants.specs.Constants.{RoundTable, partEntries}
+use Rattle.tree.specs.Tree.{Params, words, keyWords, node, output}
 use Rattle.refusals.specs.RefusalLaws.{InRange}
 use Rattle.refusals.specs.declared.Params as declared
 use Rattle.node.specs.declared.Place.{Place}
@@ -31,10 +31,10 @@ paramsFrom k params = record {
   rounds = params .rounds;
 }
 
--- what every node needs: parameters in range, K as words, and the table of round constants
-pub record Ready (k : List ℕ) (params : declared.Params) (table : List ℕ) : Type 0 where
+-- what every node needs: parameters in range, K as words, and the round constants of the first part of their table
+pub record Ready (k : List ℕ) (params : declared.Params) (constants : List ℕ) : Type 0 where
   pub range : InRange (params .keylen) (params .d) (params .limit) (params .rounds)
   pub words : length k ≡ 8
   pub key : keyWords (paramsFrom k params .key) ≡ k
-  pub rule : RoundTable table
-  pub rows : mostRounds ≤ length table
+  pub rule : RoundTable 0 constants
+  pub size : length constants ≡ partEntries

@@ -1,7 +1,7 @@
 // One node, and what the whole-message call and the stream share: blocks, K and the digest, how many nodes a tree has.
 ghost use mathlib.Core.Path.{_≡_};
-ghost use Prim.Native.Nat.{_+_, _-_, _*_, _≤_, _<_, _^_};
-ghost use lib.ListN.{length, replicate};
+ghost use Prim.Native.Nat.{_+_, _-_, _*_, _<_, _^_};
+ghost use lib.ListN.{replicate};
 ghost use Rattle.tree.specs.Tree.{blockBits, sequentialBits, nodeU, nodeV};
 ghost use Rattle.node.specs.Words.{sized, nodeWords, FieldsFit, paramsFrom, Ready};
 use refusals::Params;
@@ -79,11 +79,11 @@ pub fn node_v(params: Params, z: u64, p: u64) -> u64
 pub fn compress_node(
     params: Params,
     k: &[u64],
-    table: &[u64],
+    constants: &[u64],
     place: Place,
     block: &[u64],
 ) -> [u64; 16]
-    requires { ⌜ Ready (now k) params (now table) ⌝ }
+    requires { ⌜ Ready (now k) params (now constants) ⌝ }
     requires { ⌜ FieldsFit place (now block) ⌝ }
     ensures { λ r. ⌜ r ≡ nodeWords (paramsFrom (now (k .entry)) params) (place .level) (place .index) (place .z) (place .p) (now (block .entry)) ⌝ }
 {
@@ -94,5 +94,5 @@ pub fn compress_node(
     window[23] = node_u(place.level, place.index);
     window[24] = node_v(params, place.z, place.p);
     words::copy(&mut window, 25, block);
-    compress::compress(&window, table, params.rounds as usize)
+    compress::compress(&window, constants, params.rounds as usize)
 }

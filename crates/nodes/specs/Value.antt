@@ -15,8 +15,8 @@ use Rattle.refusals.specs.declared.Params as declared
 use Rattle.node.specs.Words.{nodeWords, Ready}
 
 -- what the code that works out values is given: what every node needs, and a message that has its bits
-pub record Given (message : Piece) (k : List ℕ) (params : declared.Params) (table : List ℕ) : Type 0 where
-  pub ready : Ready k params table
+pub record Given (message : Piece) (k : List ℕ) (params : declared.Params) (constants : List ℕ) : Type 0 where
+  pub ready : Ready k params constants
   pub enough : Fits message
 
 -- how many of m things a node takes that stands at an index and takes so many at most

@@ -24,11 +24,11 @@ fn leaf(
     span: Span,
     params: Params,
     k: &[u64],
-    table: &[u64],
+    constants: &[u64],
     index: u64,
     z: u64,
 ) -> [u64; 16]
-    requires { ⌜ Given (spanned (now message) span) (now k) params (now table) ⌝ }
+    requires { ⌜ Given (spanned (now message) span) (now k) params (now constants) ⌝ }
     requires { ⌜ (index < levelNodes (span .bits) 1) × (z < 16) ⌝ }
     ensures { λ r. ⌜ r ≡ value (paramsFrom (now (k .entry)) params) (pieceBits (spanned (now (message .entry)) span)) 1 index z ⌝ }
 {
@@ -46,7 +46,7 @@ fn leaf(
     );
     let level = 1;
     let p = Block::BITS - n;
-    node::compress_node(params, k, table, Place { level, index, z, p }, &block)
+    node::compress_node(params, k, constants, Place { level, index, z, p }, &block)
 }
 
 // The value of the node at a parallel level and an index: at level 1 from the message, above it from the values of its
@@ -56,29 +56,38 @@ pub fn value(
     span: Span,
     params: Params,
     k: &[u64],
-    table: &[u64],
+    constants: &[u64],
     level: u64,
     index: u64,
     z: u64,
 ) -> [u64; 16]
-    requires { ⌜ Given (spanned (now message) span) (now k) params (now table) ⌝ }
+    requires { ⌜ Given (spanned (now message) span) (now k) params (now constants) ⌝ }
     requires { ⌜ (0 < level) × (level < 256) × (index < levelNodes (span .bits) level) × (z < 16) ⌝ }
     ensures { λ r. ⌜ r ≡ value (paramsFrom (now (k .entry)) params) (pieceBits (spanned (now (message .entry)) span)) level index z ⌝ }
 {
     if level == 1 {
-        return leaf(message, span, params, k, table, index, z);
+        return leaf(message, span, params, k, constants, index, z);
     }
     let n = shape::taken(4, shape::nodes_at(span.bits, level - 1), index);
     let mut block = [0u64; 64];
     let mut j: u64 = 0;
     while j < n {
-        let child = value(message, span, params, k, table, level - 1, 4 * index + j, 0);
+        let child = value(
+            message,
+            span,
+            params,
+            k,
+            constants,
+            level - 1,
+            4 * index + j,
+            0,
+        );
         let at = 16 * j as usize;
         words::copy(&mut block, at, &child);
         j += 1;
     }
     let p = Block::OUTPUT_BITS * (4 - n);
-    node::compress_node(params, k, table, Place { level, index, z, p }, &block)
+    node::compress_node(params, k, constants, Place { level, index, z, p }, &block)
 }
 
 // With L = 0, the 48 words of message bits that a sequential node takes behind the output of the node before it.
@@ -99,10 +108,10 @@ fn child_words(
     span: Span,
     params: Params,
     k: &[u64],
-    table: &[u64],
+    constants: &[u64],
     index: u64,
 ) -> [u64; 48]
-    requires { ⌜ Given (spanned (now message) span) (now k) params (now table) ⌝ }
+    requires { ⌜ Given (spanned (now message) span) (now k) params (now constants) ⌝ }
     requires { ⌜ (0 < params .limit) × (index < sequentialNodes (params .limit) (span .bits)) ⌝ }
     ensures { λ r. ⌜ r ≡ sequentialWords (paramsFrom (now (k .entry)) params) (params .limit) (pieceBits (spanned (now (message .entry)) span)) index ⌝ }
 {
@@ -111,7 +120,7 @@ fn child_words(
     let mut rest = [0u64; 48];
     let mut j: u64 = 0;
     while j < n {
-        let child = value(message, span, params, k, table, limit, 3 * index + j, 0);
+        let child = value(message, span, params, k, constants, limit, 3 * index + j, 0);
         let at = 16 * j as usize;
         words::copy(&mut rest, at, &child);
         j += 1;
@@ -125,17 +134,17 @@ fn sequential_words(
     span: Span,
     params: Params,
     k: &[u64],
-    table: &[u64],
+    constants: &[u64],
     index: u64,
 ) -> [u64; 48]
-    requires { ⌜ Given (spanned (now message) span) (now k) params (now table) ⌝ }
+    requires { ⌜ Given (spanned (now message) span) (now k) params (now constants) ⌝ }
     requires { ⌜ index < sequentialNodes (params .limit) (span .bits) ⌝ }
     ensures { λ r. ⌜ r ≡ sequentialWords (paramsFrom (now (k .entry)) params) (params .limit) (pieceBits (spanned (now (message .entry)) span)) index ⌝ }
 {
     if params.limit == 0 {
         return message_words(message, span, index);
     }
-    child_words(message, span, params, k, table, index)
+    child_words(message, span, params, k, constants, index)
 }
 
 // The padding bits of the sequential node at an index: the chained words count for nothing.
@@ -155,23 +164,23 @@ fn sequential_value(
     span: Span,
     params: Params,
     k: &[u64],
-    table: &[u64],
+    constants: &[u64],
     index: u64,
     z: u64,
     before: &[u64],
 ) -> [u64; 16]
-    requires { ⌜ Given (spanned (now message) span) (now k) params (now table) ⌝ }
+    requires { ⌜ Given (spanned (now message) span) (now k) params (now constants) ⌝ }
     requires { ⌜ (index < sequentialNodes (params .limit) (span .bits)) × (z < 16) × (length (now before) ≡ 16) ⌝ }
     ensures { λ r. ⌜ r ≡ nodeWords (paramsFrom (now (k .entry)) params) (params .limit + 1) index z (sequentialPadding (params .limit) (span .bits) index) (now (before .entry) ++ sequentialWords (paramsFrom (now (k .entry)) params) (params .limit) (pieceBits (spanned (now (message .entry)) span)) index) ⌝ }
 {
     let limit = params.limit;
-    let rest = sequential_words(message, span, params, k, table, index);
+    let rest = sequential_words(message, span, params, k, constants, index);
     let p = sequential_padding(limit, span.bits, index);
     let mut block = [0u64; 64];
     words::copy(&mut block, 0, before);
     words::copy(&mut block, 16, &rest);
     let level = limit + 1;
-    node::compress_node(params, k, table, Place { level, index, z, p }, &block)
+    node::compress_node(params, k, constants, Place { level, index, z, p }, &block)
 }
 
 // z of the sequential node at an index: 1 at the last.
@@ -186,8 +195,8 @@ fn last_flag(index: u64, nodes: u64) -> u64
 }
 
 // The value of the sequential level's last node, along the chain.
-fn sequential(message: &[u8], span: Span, params: Params, k: &[u64], table: &[u64]) -> [u64; 16]
-    requires { ⌜ Given (spanned (now message) span) (now k) params (now table) ⌝ }
+fn sequential(message: &[u8], span: Span, params: Params, k: &[u64], constants: &[u64]) -> [u64; 16]
+    requires { ⌜ Given (spanned (now message) span) (now k) params (now constants) ⌝ }
     ensures { λ r. ⌜ r ≡ chain (paramsFrom (now (k .entry)) params) (params .limit) (pieceBits (spanned (now (message .entry)) span)) (sequentialNodes (params .limit) (span .bits)) ⌝ }
 {
     let nodes = shape::sequential_nodes(params.limit, span.bits);
@@ -195,7 +204,7 @@ fn sequential(message: &[u8], span: Span, params: Params, k: &[u64], table: &[u6
     let mut i: u64 = 0;
     while i < nodes {
         let z = last_flag(i, nodes);
-        let next = sequential_value(message, span, params, k, table, i, z, &last);
+        let next = sequential_value(message, span, params, k, constants, i, z, &last);
         last = next;
         i += 1;
     }
@@ -203,14 +212,14 @@ fn sequential(message: &[u8], span: Span, params: Params, k: &[u64], table: &[u6
 }
 
 // The root's value.
-pub fn root(message: &[u8], span: Span, params: Params, k: &[u64], table: &[u64]) -> [u64; 16]
-    requires { ⌜ Given (spanned (now message) span) (now k) params (now table) ⌝ }
+pub fn root(message: &[u8], span: Span, params: Params, k: &[u64], constants: &[u64]) -> [u64; 16]
+    requires { ⌜ Given (spanned (now message) span) (now k) params (now constants) ⌝ }
     ensures { λ r. ⌜ r ≡ rootValue (paramsFrom (now (k .entry)) params) (params .limit) (pieceBits (spanned (now (message .entry)) span)) ⌝ }
 {
     let limit = params.limit;
     let top = shape::top_level(limit, span.bits);
     if limit < top {
-        return sequential(message, span, params, k, table);
+        return sequential(message, span, params, k, constants);
     }
-    value(message, span, params, k, table, top, 0, 1)
+    value(message, span, params, k, constants, top, 0, 1)
 }

@@ -44,8 +44,8 @@ abbrev pub fedPart : List ℕ → declared.Params → ℕ → List ℕ → ℕ �
 fedPart key params T bytes byte bit count area = feedBits (paramsFrom key params) T (partBits bytes (8 * byte + bit) count) (levelsOf area)
 
 -- a chunk: those that level 1 takes at once
-pub record Chunk (key : List ℕ) (params : declared.Params) (table : List ℕ) (T : ℕ) (area bytes : List ℕ) (byte bit count : ℕ) (log : List ℕ) (at : ℕ) : Type 0 where
-  pub ready : Ready key params table
+pub record Chunk (key : List ℕ) (params : declared.Params) (constants : List ℕ) (T : ℕ) (area bytes : List ℕ) (byte bit count : ℕ) (log : List ℕ) (at : ℕ) : Type 0 where
+  pub ready : Ready key params constants
   pub part : Part area bytes byte bit count
   pub some : 1 ≤ count
   pub most : count ≤ roomOf (params .limit) T
@@ -55,8 +55,8 @@ pub record Chunk (key : List ℕ) (params : declared.Params) (table : List ℕ) 
 abbrev pub fedWhole : List ℕ → declared.Params → ℕ → Piece → List ℕ → Made
 fedWhole key params T piece area = feedBits (paramsFrom key params) T (pieceBits piece) (levelsOf area)
 
-pub record Whole (key : List ℕ) (params : declared.Params) (table : List ℕ) (T : ℕ) (area : List ℕ) (piece : Piece) (log : List ℕ) : Type 0 where
-  pub ready : Ready key params table
+pub record Whole (key : List ℕ) (params : declared.Params) (constants : List ℕ) (T : ℕ) (area : List ℕ) (piece : Piece) (log : List ℕ) : Type 0 where
+  pub ready : Ready key params constants
   pub long : Long area
   pub bits : Fits piece
   pub total : T + piece .count < 2 ^ 64
@@ -101,8 +101,8 @@ module _ {area bytes : List ℕ} {byte bit count : ℕ} (part : Part area bytes 
 abbrev flushedNow : List ℕ → declared.Params → ℕ → List ℕ → Made
 flushedNow key params T area = flushed (paramsFrom key params) (params .limit) T (levelsOf area)
 
-module _ {key : List ℕ} {params : declared.Params} {table : List ℕ} {T : ℕ} {area bytes : List ℕ} {byte bit count : ℕ} {log : List ℕ} {at : ℕ}
-    (c : Chunk key params table T area bytes byte bit count log at) (full : freeOf (params .limit) T ≤ 0) where
+module _ {key : List ℕ} {params : declared.Params} {constants : List ℕ} {T : ℕ} {area bytes : List ℕ} {byte bit count : ℕ} {log : List ℕ} {at : ℕ}
+    (c : Chunk key params constants T area bytes byte bit count log at) (full : freeOf (params .limit) T ≤ 0) where
   full-is : fedPart key params T bytes byte bit count area
       ≡ (let F : Made = flushedNow key params T area in made (filled (firstOf (F .levels)) (baseOf (params .limit)) bytes (8 * byte + bit) count ∷ restOf (F .levels)) (F .nodes))
   full-is =
@@ -197,8 +197,8 @@ feeding-none P T Y area log =
       };
     }
 
-module _ {key : List ℕ} {params : declared.Params} {table : List ℕ} {T : ℕ} {piece : Piece} {area₀ log₀ area log : List ℕ} {at done : ℕ}
-    (w : Whole key params table T area₀ piece log₀) (f : Feeding (paramsFrom key params) T (pieceBits piece) area₀ log₀ area log at done) where
+module _ {key : List ℕ} {params : declared.Params} {constants : List ℕ} {T : ℕ} {piece : Piece} {area₀ log₀ area log : List ℕ} {at done : ℕ}
+    (w : Whole key params constants T area₀ piece log₀) (f : Feeding (paramsFrom key params) T (pieceBits piece) area₀ log₀ area log at done) where
   abbrev P : Params
   P = paramsFrom key params
 
@@ -229,7 +229,7 @@ module _ {key : List ℕ} {params : declared.Params} {table : List ℕ} {T : ℕ
       ∙ rw (length-take-le done Y (f .within), back, next-bits piece done c h)
 
   pub next-chunk : {c : ℕ} → done + c ≤ piece .count → 1 ≤ c → c ≤ roomOf (params .limit) (T + done)
-      → Chunk key params table (T + done) area (piece .bytes) (byteAfter piece done) (bitAfter piece done) c log at
+      → Chunk key params constants (T + done) area (piece .bytes) (byteAfter piece done) (bitAfter piece done) c log at
   next-chunk {c} h some most =
       let A : Made = feedBits P T (take (done + c) Y) (levelsOf area₀) in
       let whole = ap (λ (x : List Bool). length (feedBits P T x (levelsOf area₀) .nodes)) (sym (take-append-drop (done + c) Y))

@@ -62,7 +62,7 @@ fn feed_chunk(
     area: &mut [u64],
     params: Params,
     key: &[u64],
-    table: &[u64],
+    constants: &[u64],
     total: u64,
     piece: &[u8],
     byte: usize,
@@ -71,7 +71,7 @@ fn feed_chunk(
     log: &mut [u64],
     at: usize,
 ) -> usize
-    requires { ⌜ Chunk (now key) params (now table) total (now area) (now piece) byte bit count (now log) at ⌝ }
+    requires { ⌜ Chunk (now key) params (now constants) total (now area) (now piece) byte bit count (now log) at ⌝ }
     ensures { λ r. ⌜ Leaves (fedPart (now (key .entry)) params total (now (piece .entry)) byte bit count (now (area .entry))) (now (area .entry)) (now (log .entry)) at (now (area .exit)) (now (log .exit)) r ⌝ }
 {
     let free = free_of(params.limit, total);
@@ -79,7 +79,7 @@ fn feed_chunk(
         fill_level(&mut *area, Block::BITS - free, piece, byte, bit, count);
         return at;
     }
-    let next = climb::flush(&mut *area, params, key, table, total, log, at);
+    let next = climb::flush(&mut *area, params, key, constants, total, log, at);
     let size = size_of(params.limit);
     fill_level(&mut *area, Block::BITS - size, piece, byte, bit, count);
     next
@@ -90,13 +90,13 @@ pub fn feed_bits(
     area: &mut [u64],
     params: Params,
     key: &[u64],
-    table: &[u64],
+    constants: &[u64],
     total: u64,
     piece: &[u8],
     span: Span,
     log: &mut [u64],
 ) -> usize
-    requires { ⌜ Whole (now key) params (now table) total (now area) (spanned (now piece) span) (now log) ⌝ }
+    requires { ⌜ Whole (now key) params (now constants) total (now area) (spanned (now piece) span) (now log) ⌝ }
     ensures { λ r. ⌜ Leaves (fedWhole (now (key .entry)) params total (spanned (now (piece .entry)) span) (now (area .entry))) (now (area .entry)) (now (log .entry)) 0 (now (area .exit)) (now (log .exit)) r ⌝ }
 {
     let mut done: u64 = 0;
@@ -111,7 +111,7 @@ pub fn feed_bits(
             area,
             params,
             key,
-            table,
+            constants,
             total + done,
             piece,
             (done / 8 + past / 8) as usize,

@@ -22,8 +22,8 @@ fn feed_nodes(area: &mut [u64], piece: &[u8], span: Span, log: &mut [u64]) -> us
     let total = area[Area::TOTAL];
     let mut key = [0u64; 8];
     words::copy(&mut key, 0, &area[Area::KEY..Area::KEY_END]);
-    let table = compress::round_constants();
-    chunk::feed_bits(area, params, &key, &table, total, piece, span, log)
+    let first = constants::first_part();
+    chunk::feed_bits(area, params, &key, &first, total, piece, span, log)
 }
 
 // Feeds a piece to the levels, and answers how many words of the log were written. Bits that level 1 takes before a node is made

@@ -11,7 +11,8 @@ use native.Mathlib.Omega.{arith}
 use lib.ListN.{replicate, length-replicate}
 use Rattle.lists.specs.Below.{none as no-reads, more}
 use Rattle.bits.specs.Bits.{numbers}
-use Rattle.compress.specs.Compress.{S, nextS, stepped, word, grown, compressed}
+use Rattle.constants.specs.Constants.{S, nextS}
+use Rattle.compress.specs.Compress.{stepped, word, grown, compressed}
 use Rattle.tree.specs.Tree.{keyWords, output, noChain}
 use Rattle.digits.specs.Digits.{hexDigits}
 use Rattle.calls.specs.Area.{areaWords, paramsOf, levelsOf, withLevels, emptyLevel, emptyLevels, sound}
@@ -48,7 +49,7 @@ table =
     ∷ (10 ∷ ln "8 64 0 -", ln "refused line")
     ∷ (ln "000008 64 0 -", ln "refused line")
     ∷ (ln "8 64 0 abc", ln "refused line")
-    ∷ (ln "0 65 256 a", ln "refused line")
+    ∷ (ln "0 65 4096 a", ln "refused line")
     -- refusals, and which of two comes first; a message behind them is not looked at
     ∷ (ln "0 64 - -", ln "refused 1")
     ∷ (ln "513 64 - -", ln "refused 1")
@@ -56,10 +57,10 @@ table =
     ∷ (bytes "128 64 - " ++ longKey, ln "refused 2")
     ∷ (bytes "0 64 - " ++ longKey, ln "refused 1")
     ∷ (ln "8 65 0 -" ++ bytes "abc", ln "refused 3")
-    ∷ (ln "8 64 256 -", ln "refused 4")
-    ∷ (bytes "0 65 256 " ++ longKey, ln "refused 1")
-    ∷ (bytes "8 65 256 " ++ longKey, ln "refused 2")
-    ∷ (ln "8 65 256 -", ln "refused 3")
+    ∷ (ln "8 64 4096 -", ln "refused 4")
+    ∷ (bytes "0 65 4096 " ++ longKey, ln "refused 1")
+    ∷ (bytes "8 65 4096 " ++ longKey, ln "refused 2")
+    ∷ (ln "8 65 4096 -", ln "refused 3")
     -- leading zeros, and a key of one byte: V has its length
     ∷ (ln "00008 064 00 00", ln "0100000000000000 0000401100001008" ++ ln "00")
     -- the same with a round, which is used as given; the digest is the second program's

@@ -31,7 +31,7 @@ pub record Told : Type 0 where
 abbrev pub sizeTests : ℕ → ℕ → List (Bool × ℕ)
 sizeTests d keyBytes = (ltb d 1, 1) ∷ (ltb mostDigestBits d, 1) ∷ (ltb mostKeyBytes keyBytes, 2) ∷ []
 
--- then "3, 0: L over 64", "4, 0: r over 255", in that order
+-- then "3, 0: L over 64" and, since M-108, "Number 4 is now for r over 4,095", in that order
 abbrev pub rangeTests : ℕ → ℕ → ℕ → ℕ → List (Bool × ℕ)
 rangeTests keyBytes d limit rounds = sizeTests d keyBytes ++ ((ltb mostLimit limit, 3) ∷ (ltb mostRounds rounds, 4) ∷ [])
 

@@ -22,7 +22,7 @@ impl Params {
 
     pub const MOST_LIMIT: u64 = 64;
 
-    pub const MOST_ROUNDS: u64 = 255;
+    pub const MOST_ROUNDS: u64 = 4095;
 
     // The most levels of a tree.
     pub const LEVELS: u64 = 27;

@@ -13,8 +13,8 @@ use Rattle.tree.specs.Tree.{Params, keyWords, output, noChain}
 use Rattle.calls.specs.Area.{areaWords, paramsOf, levelsOf, withLevels, emptyLevel, emptyLevels, sound}
 use Rattle.calls.specs.Calls.{withBit, outWords, receive, feedBit, feedBits, closeAbove, closing, openNumber, openedArea, openOf, fedBits, feedNumber, fedArea, feedOf, closedBy, endNumber, endedArea, digestOut, endOf, logWordsNumber, logWordsOf}
 use Rattle.digits.specs.Digits.{hexDigits, speltWords}
-use Rattle.text.specs.Text.{textOf, speltHead, speltArea, same, writeNumber, writeOf, readable, readNumber, readOf}
-use Rattle.text.specs.ReadLaws.{same-eq}
+use Rattle.text.specs.Text.{textWith, textOf, oldTextOf, speltHead, speltArea, same, writeNumber, writeOf, readableWith, readable, readArea, readNumber, readOf}
+use Rattle.text.specs.ReadForms.{same-eq}
 use Rattle.hash.specs.Hash.{hashNumber, hashOf, defaultRoundsOf}
 
 -- ---- parameters and areas
@@ -68,12 +68,14 @@ openRows =
     ∷ (openOf used (params 8 65 64 0) .number, 2)
     ∷ (openOf used (params 8 65 65 0) .number, 2)
     ∷ (openOf used (params 8 0 65 0) .number, 3)
-    ∷ (openOf used (params 8 0 65 256) .number, 3)
-    ∷ (openOf used (params 8 0 64 256) .number, 4)
-    -- edges: the length of the area; d 1, 512 and 513; key 64; L 64; r 255
+    ∷ (openOf used (params 8 0 65 4096) .number, 3)
+    ∷ (openOf used (params 8 0 64 4096) .number, 4)
+    -- edges: the length of the area; d 1, 512 and 513; key 64; L 64; r 255, 256 and 4,095
     ∷ (openOf (shorter used) (params 8 0 64 0) .number, 7)
     ∷ (openOf used (params 1 0 0 0) .number, 0)
     ∷ (openOf used (params 512 64 64 255) .number, 0)
+    ∷ (openOf used (params 512 64 64 256) .number, 0)
+    ∷ (openOf used (params 512 64 64 4095) .number, 0)
     ∷ (openOf used (params 513 0 64 0) .number, 1)
     ∷ []
 
@@ -129,15 +131,15 @@ endRows =
     ∷ (endOf (openOf used (params 9 0 64 0) .area) (0 ∷ 0 ∷ []) (0 ∷ 0 ∷ []) .number, 0)
     ∷ []
 
--- "Write 7, 9": the text of an opened or ended area has 174 bytes
+-- "Write 7, 9": the text of an opened or ended area has 176 bytes
 abbrev writeRows : List Row
 writeRows =
     (writeOf (shorter opened) [] .number, 7)
     ∷ (writeOf used [] .number, 7)
     ∷ (writeOf opened [] .number, 9)
-    ∷ (writeOf opened (replicate 173 0) .number, 9)
-    ∷ (writeOf opened (replicate 174 0) .number, 0)
-    ∷ (writeOf ended (replicate 174 0) .number, 0)
+    ∷ (writeOf opened (replicate 175 0) .number, 9)
+    ∷ (writeOf opened (replicate 176 0) .number, 0)
+    ∷ (writeOf ended (replicate 176 0) .number, 0)
     ∷ []
 
 -- "Read 7, 11": what the area holds does not matter
@@ -147,6 +149,8 @@ readRows =
     ∷ (readOf used [] .number, 11)
     ∷ (readOf (shorter used) (textOf ended) .number, 7)
     ∷ (readOf used (textOf ended) .number, 0)
+    ∷ (readOf used (oldTextOf ended) .number, 0)
+    ∷ (readOf used (oldTextOf ended ++ (10 ∷ [])) .number, 11)
     ∷ (readOf used (textOf ended ++ (10 ∷ [])) .number, 11)
     ∷ []
 
@@ -159,9 +163,9 @@ wholeRows =
     ∷ (hashOf (pieceOf byte 0 8) (params 8 65 64 0) room .number, 2)
     ∷ (hashOf (pieceOf byte 0 8) (params 8 65 65 0) room .number, 2)
     ∷ (hashOf (pieceOf byte 0 8) (params 8 0 65 0) room .number, 3)
-    ∷ (hashOf (pieceOf byte 0 8) (params 8 0 65 256) room .number, 3)
-    ∷ (hashOf (pieceOf byte 0 8) (params 8 0 64 256) room .number, 4)
-    ∷ (hashOf (pieceOf byte 0 8) (params 8 0 64 256) [] .number, 4)
+    ∷ (hashOf (pieceOf byte 0 8) (params 8 0 65 4096) room .number, 3)
+    ∷ (hashOf (pieceOf byte 0 8) (params 8 0 64 4096) room .number, 4)
+    ∷ (hashOf (pieceOf byte 0 8) (params 8 0 64 4096) [] .number, 4)
     ∷ (hashOf (pieceOf byte 0 8) (params 8 0 64 0) [] .number, 9)
     -- document 02, M-104: a start bit above 7; start and count together
     ∷ (hashOf (pieceOf byte 8 0) (params 0 0 64 0) room .number, 5)
@@ -171,9 +175,11 @@ wholeRows =
     ∷ (hashOf (pieceOf byte 1 (2 ^ 64 - 1)) (params 8 0 64 0) room .number, 5)
     ∷ (hashOf (pieceOf [] 3 0) (params 8 0 64 0) room .number, 5)
     ∷ (hashOf (pieceOf [] 0 0) (params 8 0 64 0) room .number, 0)
-    -- edges: 8 times the bytes and one more; d 1, 512 and 513; key 64; L 64; r 255; the bytes of a digest
+    -- edges: 8 times the bytes and one more; d 1, 512 and 513; key 64; L 64; r 255, 256 and 4,095; the bytes of a digest
     ∷ (hashOf (pieceOf byte 0 8) (params 1 64 64 255) byte .number, 0)
-    ∷ (hashOf (pieceOf byte 0 9) (params 1 64 64 255) byte .number, 5)
+    ∷ (hashOf (pieceOf byte 0 8) (params 1 64 64 256) byte .number, 0)
+    ∷ (hashOf (pieceOf byte 0 8) (params 1 64 64 4095) byte .number, 0)
+    ∷ (hashOf (pieceOf byte 0 9) (params 1 64 64 4095) byte .number, 5)
     ∷ (hashOf (pieceOf byte 0 8) (params 512 0 0 0) (take 64 room) .number, 0)
     ∷ (hashOf (pieceOf byte 0 8) (params 512 0 0 0) (take 63 room) .number, 9)
     ∷ (hashOf (pieceOf byte 0 8) (params 513 0 0 0) room .number, 1)
@@ -218,7 +224,7 @@ abbrev expected : List ℕ
 expected = map (λ (w : Row). w .1) rows
 
 computed : same answered expected ≡ true
-unfolding numbers keyWords output noChain compressed grown paramsOf levelsOf withLevels emptyLevel emptyLevels sound withBit outWords receive feedBit feedBits closeAbove closing openNumber openedArea openOf fedBits feedNumber fedArea feedOf closedBy endNumber endedArea digestOut endOf logWordsNumber logWordsOf hexDigits textOf speltWords speltHead speltArea writeNumber writeOf readable readNumber readOf hashNumber hashOf defaultRoundsOf mathlib.Core.List.flatten
+unfolding numbers keyWords output noChain compressed grown paramsOf levelsOf withLevels emptyLevel emptyLevels sound withBit outWords receive feedBit feedBits closeAbove closing openNumber openedArea openOf fedBits feedNumber fedArea feedOf closedBy endNumber endedArea digestOut endOf logWordsNumber logWordsOf hexDigits textWith speltWords speltHead speltArea writeNumber writeOf readableWith readable readArea readNumber readOf hashNumber hashOf defaultRoundsOf mathlib.Core.List.flatten
 computed = refl
 
 pub rows-hold : map (λ (w : Row). w .0) rows ≡ map (λ (w : Row). w .1) rows

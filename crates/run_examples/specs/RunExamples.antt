@@ -15,7 +15,7 @@ use Rattle.tree.specs.Tree.{keyWords, output, noChain}
 use Rattle.calls.specs.Area.{areaWords, paramsOf, levelsOf, withLevels, emptyLevel, emptyLevels, sound}
 use Rattle.calls.specs.Calls.{withBit, outWords, receive, feedBit, feedBits, closeAbove, closing, openNumber, openedArea, openOf, fedBits, feedNumber, fedArea, feedOf, closedBy, endNumber, endedArea, digestOut, endOf, shown, levelOf}
 use Rattle.digits.specs.Digits.{hexDigits, line, speltWords}
-use Rattle.text.specs.Text.{textOf, speltHead, speltArea, writeNumber, writeOf, readable, readNumber, readOf}
+use Rattle.text.specs.Text.{textWith, speltHead, speltArea, writeNumber, writeOf, readableWith, readable, readArea, readNumber, readOf}
 use Rattle.runs.specs.Runs.{Bytes, feed, end, show, write, read, readInto, outcomeOf, roleOf, Run, answered, Share, shareOf, joinedShares, shares}
 use Rattle.runs.specs.Statements.{piecesIn}
 use Rattle.run_examples.specs.RunTest.{lent, goesIf, other, zeros, Example, computed, expected, runOf, Gives, gives}
@@ -32,7 +32,7 @@ log words = replicate words 9
 -- the text after 8,193 bits and 2 compressions: level 1 holds a bit, and level 2 two outputs behind 16 words of zeros
 abbrev heldText : List ℕ
 heldText =
-    line (hexDigits 44 0x01000100000800000000000020010000000000000002)
+    line (hexDigits 46 0x0100000100000800000000000020010000000000000002)
     ++ (line (zeros 128)
     ++ (line (hexDigits 3 0x018 ++ zeros 1023) ++ line (hexDigits 2 2 ++ (zeros 256 ++ (replicate 512 102 ++ zeros 256)))))
 
@@ -57,7 +57,7 @@ openShare = record {
 
 -- both writes give lines 1 and 2 and those of levels 1 and 2
 abbrev pub openCounts : List ℕ
-openCounts = 1 ∷ 2228 ∷ 1 ∷ 2228 ∷ 0 ∷ 0 ∷ 0 ∷ 0 ∷ 2 ∷ []
+openCounts = 1 ∷ 2230 ∷ 1 ∷ 2230 ∷ 0 ∷ 0 ∷ 0 ∷ 0 ∷ 2 ∷ []
 
 abbrev pub openPieces : List Piece
 openPieces = pieceOf (ones 626) 0 5003 ∷ pieceOf (ones 399) 0 3190 ∷ pieceOf (ones 512) 0 4096 ∷ []
@@ -67,7 +67,7 @@ openExample = record {
   params = record { key = []; d = 8; limit = 1; rounds = 0 };
   list =
       (feed (pieceOf (ones 626) 0 5003) (log 2) (lent (ones 626) refl) (omega arith) (omega arith) (lent (log 2) refl), 0)
-      ∷ (write (zeros 2228) (lent (zeros 2228) refl), 0)
+      ∷ (write (zeros 2230) (lent (zeros 2230) refl), 0)
       ∷ (feed (pieceOf (ones 399) 0 3190) (log 3) (lent (ones 399) refl) (omega arith) (omega arith) (lent (log 3) refl), 0)
       ∷ (write (zeros 2300) (lent (zeros 2300) refl), 0)
       ∷ (readInto short heldText (lent short refl) held-bytes, 7)
@@ -87,7 +87,7 @@ abbrev pub lastBytes : List ℕ
 lastBytes = 0xa5 ∷ 0xc3 ∷ []
 
 abbrev endedText : List ℕ
-endedText = line (hexDigits 44 0x02000101000c00000000000030000000000000000004) ++ line (hexDigits 2 0x6b ++ zeros 126)
+endedText = line (hexDigits 46 0x0200000101000c00000000000030000000000000000004) ++ line (hexDigits 2 0x6b ++ zeros 126)
 
 ended-bytes : Bytes endedText
 unfolding hexDigits
@@ -107,7 +107,7 @@ endedShare = record {
 }
 
 abbrev pub endedCounts : List ℕ
-endedCounts = 2 ∷ 0 ∷ 2 ∷ 174 ∷ 0 ∷ 0 ∷ 0 ∷ 0 ∷ []
+endedCounts = 2 ∷ 0 ∷ 2 ∷ 176 ∷ 0 ∷ 0 ∷ 0 ∷ 0 ∷ []
 
 abbrev pub endedPieces : List Piece
 endedPieces = pieceOf (ones 1534) 0 12272 ∷ pieceOf lastBytes 0 16 ∷ []
@@ -119,7 +119,7 @@ endedExample = record {
       (feed (pieceOf (ones 1534) 0 12272) (log 4) (lent (ones 1534) refl) (omega arith) (omega arith) (lent (log 4) refl), 0)
       ∷ (feed (pieceOf lastBytes 0 16) [] (lent lastBytes refl) (omega arith) (omega arith) nil, 0)
       ∷ (end (log 3) (log 4) (lent (log 3) refl) (lent (log 4) refl), 0)
-      ∷ (write (zeros 174) (lent (zeros 174) refl), 0)
+      ∷ (write (zeros 176) (lent (zeros 176) refl), 0)
       ∷ (readInto other endedText (lent other refl) ended-bytes, 0)
       ∷ (feed (pieceOf (ones 1) 0 1) (log 2) (lent (ones 1) refl) (omega arith) (omega arith) (lent (log 2) refl), 10)
       ∷ (end (log 3) (log 4) (lent (log 3) refl) (lent (log 4) refl), 10)
@@ -133,7 +133,7 @@ endedExample = record {
 -- ---- both, by computing
 
 examples : (computed openExample ≡ expected openExample) × (computed endedExample ≡ expected endedExample)
-unfolding piecesIn numbers keyWords output noChain compressed grown paramsOf levelsOf withLevels emptyLevel emptyLevels sound withBit outWords receive feedBit feedBits closeAbove closing openNumber openedArea openOf fedBits feedNumber fedArea feedOf closedBy endNumber endedArea digestOut endOf shown levelOf hexDigits textOf speltWords speltHead speltArea writeNumber writeOf readable readNumber readOf outcomeOf roleOf goesIf answered shareOf joinedShares shares mathlib.Core.List.flatten
+unfolding piecesIn numbers keyWords output noChain compressed grown paramsOf levelsOf withLevels emptyLevel emptyLevels sound withBit outWords receive feedBit feedBits closeAbove closing openNumber openedArea openOf fedBits feedNumber fedArea feedOf closedBy endNumber endedArea digestOut endOf shown levelOf hexDigits textWith speltWords speltHead speltArea writeNumber writeOf readableWith readable readArea readNumber readOf outcomeOf roleOf goesIf answered shareOf joinedShares shares mathlib.Core.List.flatten
 examples = (refl, refl)
 
 -- ---- the runs

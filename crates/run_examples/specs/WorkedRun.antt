@@ -13,7 +13,7 @@ use Rattle.tree.specs.Tree.{keyWords, output, noChain}
 use Rattle.calls.specs.Area.{paramsOf, levelsOf, withLevels, emptyLevel, emptyLevels, sound}
 use Rattle.calls.specs.Calls.{withBit, outWords, receive, feedBit, feedBits, closeAbove, closing, openNumber, openedArea, openOf, fedBits, feedNumber, fedArea, feedOf, closedBy, endNumber, endedArea, digestOut, endOf, shown, levelOf, logWordsNumber, logWordsOf}
 use Rattle.digits.specs.Digits.{hexDigits, speltWords}
-use Rattle.text.specs.Text.{textOf, speltHead, speltArea, writeNumber, writeOf, readable, readNumber, readOf}
+use Rattle.text.specs.Text.{textWith, speltHead, speltArea, writeNumber, writeOf, readableWith, readable, readArea, readNumber, readOf}
 use Rattle.runs.specs.Runs.{Bytes, Share, feed, end, show, logWords, write, read, readInto, reopen, outcomeOf, roleOf, Run, answered, shareOf, joinedShares, shares}
 use Rattle.runs.specs.Statements.{piecesIn, piecesOf, CutFrom, uncut, cut}
 use Rattle.run_examples.specs.RunTest.{lent, goesIf, used, other, zeros, Example, computed, expected, runOf, Gives, gives}
@@ -23,7 +23,7 @@ use Rattle.lists.specs.Below.{none as nil}
 
 -- the text after 13 bits: line 1, line 2, and level 1, which has no sequential output and holds 1010 0101 1010 0
 abbrev head : List ℕ
-head = 48 ∷ 49 ∷ 48 ∷ 48 ∷ 48 ∷ 48 ∷ 48 ∷ 49 ∷ 48 ∷ 48 ∷ 48 ∷ 99 ∷ (zeros 15 ++ (100 ∷ (zeros 16 ++ (10 ∷ []))))
+head = 48 ∷ 49 ∷ 48 ∷ 48 ∷ 48 ∷ 48 ∷ 48 ∷ 48 ∷ 48 ∷ 49 ∷ 48 ∷ 48 ∷ 48 ∷ 99 ∷ (zeros 15 ++ (100 ∷ (zeros 16 ++ (10 ∷ []))))
 
 abbrev line2 : List ℕ
 line2 = 54 ∷ 98 ∷ (zeros 126 ++ (10 ∷ []))
@@ -33,7 +33,7 @@ suspendedText = head ++ (line2 ++ (48 ∷ 49 ∷ (zeros 256 ++ (97 ∷ 53 ∷ 97
 
 -- and the text after the end
 abbrev endedText : List ℕ
-endedText = 48 ∷ 50 ∷ 48 ∷ 48 ∷ 48 ∷ 48 ∷ 48 ∷ 49 ∷ 48 ∷ 48 ∷ 48 ∷ 99 ∷ (zeros 12 ++ (49 ∷ 56 ∷ 48 ∷ 48 ∷ (zeros 15 ++ (50 ∷ 10 ∷ line2))))
+endedText = 48 ∷ 50 ∷ 48 ∷ 48 ∷ 48 ∷ 48 ∷ 48 ∷ 48 ∷ 48 ∷ 49 ∷ 48 ∷ 48 ∷ 48 ∷ 99 ∷ (zeros 12 ++ (49 ∷ 56 ∷ 48 ∷ 48 ∷ (zeros 15 ++ (50 ∷ 10 ∷ line2))))
 
 -- a message of 768 bytes, and two pieces of it that share a byte: the first ends after 5 of its bits, and the second begins there
 abbrev whole : List ℕ
@@ -59,7 +59,7 @@ workedShare = record {
 
 -- of the writes the counts are the text's bytes; two words are told for the 6,131 bits, which then make one node
 abbrev pub workedCounts : List ℕ
-workedCounts = 0 ∷ 0 ∷ 0 ∷ 0 ∷ 0 ∷ 1201 ∷ 0 ∷ 0 ∷ 0 ∷ 0 ∷ 0 ∷ 2 ∷ 1 ∷ 0 ∷ 1 ∷ 0 ∷ 0 ∷ 0 ∷ 174 ∷ 0 ∷ []
+workedCounts = 0 ∷ 0 ∷ 0 ∷ 0 ∷ 0 ∷ 1203 ∷ 0 ∷ 0 ∷ 0 ∷ 0 ∷ 0 ∷ 2 ∷ 1 ∷ 0 ∷ 1 ∷ 0 ∷ 0 ∷ 0 ∷ 176 ∷ 0 ∷ []
 
 abbrev pub workedPieces : List Piece
 workedPieces = pieceOf piece1 0 13 ∷ pieceOf piece2 5 6131 ∷ []
@@ -87,7 +87,7 @@ workedExample = record {
       ∷ (feed (pieceOf piece1 8 13) [] (lent piece1 refl) (omega arith) (omega arith) nil, 10)
       ∷ (logWords 13 (omega arith), 10)
       ∷ (end (1 ∷ 2 ∷ 3 ∷ []) (9 ∷ 9 ∷ []) (lent (1 ∷ 2 ∷ 3 ∷ []) refl) (lent (9 ∷ 9 ∷ []) refl), 10)
-      ∷ (write (replicate 174 0) (lent (replicate 174 0) refl), 0)
+      ∷ (write (replicate 176 0) (lent (replicate 176 0) refl), 0)
       ∷ (read endedText (lent endedText refl), 0)
       ∷ [];
   counts = workedCounts;
@@ -96,7 +96,7 @@ workedExample = record {
 }
 
 works : computed workedExample ≡ expected workedExample
-unfolding piecesIn numbers keyWords output noChain compressed grown paramsOf levelsOf withLevels emptyLevel emptyLevels sound withBit outWords receive feedBit feedBits closeAbove closing openNumber openedArea openOf fedBits feedNumber fedArea feedOf closedBy endNumber endedArea digestOut endOf shown levelOf logWordsNumber logWordsOf hexDigits textOf speltWords speltHead speltArea writeNumber writeOf readable readNumber readOf outcomeOf roleOf goesIf answered shareOf joinedShares shares mathlib.Core.List.flatten
+unfolding piecesIn numbers keyWords output noChain compressed grown paramsOf levelsOf withLevels emptyLevel emptyLevels sound withBit outWords receive feedBit feedBits closeAbove closing openNumber openedArea openOf fedBits feedNumber fedArea feedOf closedBy endNumber endedArea digestOut endOf shown levelOf logWordsNumber logWordsOf hexDigits textWith speltWords speltHead speltArea writeNumber writeOf readableWith readable readArea readNumber readOf outcomeOf roleOf goesIf answered shareOf joinedShares shares mathlib.Core.List.flatten
 works = refl
 
 -- ---- what it gives

@@ -12,10 +12,10 @@ use Rattle.tree.specs.Tree.{Params}
 use Rattle.calls.specs.Area.{areaWords, sound}
 use Rattle.calls.specs.Stands.{Head, Stands, Closed, stands-sound, closed-sound}
 use Rattle.calls.specs.Moved.{stands-moved, closed-moved, stands-below, closed-below}
-use Rattle.text.specs.Text.{textOf, speltArea, readNumber, readOf}
+use Rattle.text.specs.Text.{roundsBytes, textOf, readArea, readNumber, readOf}
 use Rattle.text.specs.LayoutLaws.{sound-front, text-front}
-use Rattle.text.specs.TextLaws.{spells-back, length-speltArea}
-use Rattle.text.specs.Terms.{SoundArea}
+use Rattle.text.specs.ReadForms.{writing-read}
+use Rattle.text.specs.Terms.{SoundArea, new-writing}
 use Rattle.text.specs.ReadLaws.{read-passed, read-accepted}
 
 -- false while the stream is open, true once it has ended
@@ -40,16 +40,16 @@ at-moved : {P : Params} {M : List Bool} {area : List ℕ} {e : Bool} (to : List 
 at-moved {P} {M} {area} to long t (isOpen s) = isOpen (stands-moved P M area to long t s)
 at-moved {P} {M} {area} to long t (hasEnded s) = hasEnded (closed-moved P M area to long t s)
 
--- its text spells its first 1,744 words, which are all that the text goes by
-at-spelt : {P : Params} {M : List Bool} (area : List ℕ) {e : Bool} → At P M area e → speltArea (textOf area) ≡ some (take areaWords area)
-at-spelt area s =
+-- its text is read as its first 1,744 words, which are all that the text goes by
+at-read : {P : Params} {M : List Bool} (area : List ℕ) {e : Bool} → At P M area e → readArea (textOf area) ≡ some (take areaWords area)
+at-read area s =
     let front : List ℕ = take areaWords area in
     let sa : SoundArea front = record {
       words = at-below s;
       long = omega (arith, length-take-le areaWords area (at-head s .long));
       is-sound = sound-front area (at-head s .long) ∙ at-sound s;
     } in
-    ap speltArea (sym (text-front area (at-head s .long))) ∙ spells-back front sa
+    writing-read front (textOf area) sa (new-writing (text-front roundsBytes area (at-head s .long))) .area
     ∙ ap {B = Option (List ℕ)} some (take-take areaWords areaWords area (omega arith))
 
 -- an accepted read of the area's text, into any area
@@ -58,9 +58,9 @@ pub at-resumed : {P : Params} {M : List Bool} (area into text : List ℕ) {e : B
 at-resumed area into text s t e =
     let p = read-passed into text e in
     let new : List ℕ = take areaWords area in
-    let spelt : speltArea text ≡ some new = ap speltArea t ∙ at-spelt area s in
+    let spelt : readArea text ≡ some new = ap readArea t ∙ at-read area s in
     let to : List ℕ = new ++ drop areaWords into in
-    let l = length-speltArea text new spelt in
+    let l : length new ≡ areaWords = length-take-le areaWords area (at-head s .long) in
     let front : take areaWords to ≡ new = take-at new (drop areaWords into) areaWords l in
     let long : areaWords ≤ length to = rw (length-append new (drop areaWords into), l) (omega arith) in
     rw (read-accepted into text new (p .0) spelt (p .1)) (at-moved to long (sym front) s)

@@ -1,8 +1,8 @@
-// Runs the stream's calls on the rows of document 01's "Reels by hand", fed whole and cut, on pieces from every start bit on, and
-// on every refusal. A call writes a line: its number, its count, and whether the area, the words past the area and the log past
-// the nodes are as before; then a line U V for each node; an end then writes its output. A telling of log words writes its
-// number, its count and whether the area is as before. Of the many pieces a line is what feed and end answered, and the digest.
-// tests/stream/expected.py makes the expected lines.
+// Runs the stream's calls on the rows of document 01's "Reels by hand", fed whole and cut, with rounds at each edge, on pieces
+// from every start bit on, and on every refusal. A call writes a line: its number, its count, and whether the area, the words
+// past the area and the log past the nodes are as before; then a line U V for each node; an end then writes its output. A
+// telling of log words writes its number, its count and whether the area is as before. Of the many pieces a line is what feed
+// and end answered, and the digest. tests/stream/expected.py makes the expected lines.
 ghost use mathlib.Core.Path.{_≡_};
 ghost use Prim.Native.Nat.{_≤_, _<_};
 ghost use lib.ListN.{length};
@@ -211,6 +211,24 @@ fn cut_rows() {
     row(1, 8, 1, 4095, 1, 8192);
 }
 
+// Two blocks with so many rounds and no key. Where the open is refused the area is unsound for the calls behind it.
+fn with_rounds(rounds: u64) {
+    let ones = [0xffu8; 2049];
+    let mut area = [FILL; 1750];
+    open(&mut area, b"", 24, 64, rounds);
+    feed(&mut area, &ones, 0, 4097, 64);
+    end(&mut area, 3, 54);
+}
+
+// The edges of r, before M-108 and as of it, and 2^32 + 5.
+fn rounds_edges() {
+    with_rounds(255);
+    with_rounds(256);
+    with_rounds(4095);
+    with_rounds(4096);
+    with_rounds(4294967301);
+}
+
 // Changes a word, if there is one.
 fn set(area: &mut [u64], at: usize, value: u64) {
     if at < area.len() {
@@ -267,7 +285,7 @@ fn unsound_heads() {
     altered(64, 1, 3, 513);
     altered(64, 1, 3, 4294967304);
     altered(64, 1, 4, 65);
-    altered(64, 1, 5, 256);
+    altered(64, 1, 5, 4096);
     altered(64, 1, 6, 0x6b65790000000001);
     altered(64, 1, 13, 1);
     altered(64, 1, 14, 1);
@@ -300,25 +318,30 @@ fn ended_areas() {
     altered_ended(64, 1, 1744, FILL);
 }
 
-// Areas with another word changed that are sound, as it may hold anything there.
+// Areas with another word changed that are sound, as it may hold anything there, or as many rounds.
 fn sound_areas() {
     altered(64, 1, 16, 0);
     altered(64, 4096, 79, 0);
     altered(0, 3073, 31, 0);
     altered(64, 1, 1744, FILL);
+    altered(64, 1, 5, 255);
+    altered(64, 1, 5, 256);
+    altered(64, 1, 5, 4095);
 }
 
-// The refusals of open, each with all later ones as well.
+// The refusals of open, each with all later ones as well; then rounds that are not refused.
 fn refused_opens() {
     let key = [0x6bu8; 65];
     let mut area = [FILL; 1744];
     let mut short = [FILL; 1743];
-    open(&mut short, &key, 0, 65, 256);
-    open(&mut area, &key, 0, 65, 256);
-    open(&mut area, &key, 513, 65, 256);
-    open(&mut area, &key, 4294967304, 65, 256);
-    open(&mut area, &key, 512, 65, 256);
-    open(&mut area, b"", 1, 65, 256);
+    open(&mut short, &key, 0, 65, 4096);
+    open(&mut area, &key, 0, 65, 4096);
+    open(&mut area, &key, 513, 65, 4096);
+    open(&mut area, &key, 4294967304, 65, 4096);
+    open(&mut area, &key, 512, 65, 4096);
+    open(&mut area, b"", 1, 65, 4096);
+    open(&mut area, b"", 1, 64, 4096);
+    open(&mut area, b"", 1, 64, 4095);
     open(&mut area, b"", 1, 64, 256);
     open(&mut area, b"", 1, 64, 255);
 }
@@ -638,6 +661,7 @@ fn levels() {
 fn main() {
     whole_rows();
     cut_rows();
+    rounds_edges();
     refused_opens();
     short_areas();
     unsound_heads();

@@ -9,8 +9,7 @@ use borrow.Rule.Slice.PartMut.{putMid}
 use lib.ListN.{length, drop}
 use lib.Seq.{paste, take-all}
 use Rattle.calls.specs.Area.{areaWords, sound}
-use Rattle.text.specs.Text.{textOf, speltArea, readable, Written, writeOf, Taken, readOf}
-use Rattle.text.specs.TextLaws.{length-speltArea}
+use Rattle.text.specs.Text.{textOf, readArea, readable, Written, writeOf, Taken, readOf}
 use Rattle.text.specs.ReadLaws.{read-accepted, write-accepted}
 
 abbrev written : ℕ → ℕ → List ℕ → Written
@@ -28,10 +27,9 @@ write-done area out n ys h s size l y =
     ∙ ap (λ (m : ℕ). written 0 m (textOf area ++ drop m out)) size
     ∙ sym (write-accepted area out h s (omega (arith, size)))
 
-pub read-done : (area text s last : List ℕ) → areaWords ≤ length area → readable text ≡ true → speltArea text ≡ some s
+pub read-done : (area text s last : List ℕ) → areaWords ≤ length area → readable text ≡ true → readArea text ≡ some s → length s ≡ areaWords
     → last ≡ paste area 0 s (length s) → record { number = 0; count = 0; area = last } ≡ readOf area text
-read-done area text s last h e a l =
-    let n : length s ≡ areaWords = length-speltArea text s a in
+read-done area text s last h e a n l =
     let k : 0 + length s ≡ areaWords = omega arith in
     let p : last ≡ s ++ drop areaWords area =
     l ∙ ap (λ (x : List ℕ). x ++ drop (0 + length s) area) (take-all (length s) s (omega arith)) ∙ ap (λ (m : ℕ). s ++ drop m area) k in

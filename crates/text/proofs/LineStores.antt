@@ -29,22 +29,23 @@ line-end P part n p h =
 
 -- ---- line 1, field i after those before it
 
-pub field-stored : (area part₀ part ys : List ℕ) (a i : ℕ) → i < 7 → a ≡ digitsIn (take i line1Fields) → length part₀ ≡ line1Bytes line1Fields
-    → part ≡ fieldDigits (take i line1Fields) area ++ drop a part₀
-    → ys ≡ hexDigits (length (midOf a (a + getD (fieldSizes line1Fields) i 0 - a) part)) (getD area (getD (fieldWords line1Fields) i 0) 0)
-    → putMid a (a + getD (fieldSizes line1Fields) i 0 - a) part ys ≡ fieldDigits (take (i + 1) line1Fields) area ++ drop (a + getD (fieldSizes line1Fields) i 0) part₀
-field-stored area part₀ part ys a i h s l is y =
-    let n : ℕ = getD (fieldSizes line1Fields) i 0 in
-    let x : ℕ = getD area (getD (fieldWords line1Fields) i 0) 0 in
-    lent-digits a (a + n) (fieldDigits (take i line1Fields) area) part part₀ ys (length-fields (take i line1Fields) area ∙ sym s) is (omega arith)
-    (omega (arith, digits-more line1Fields i h, digits-some line1Fields (i + 1))) n x (omega arith) y
-    ∙ ap (λ (P : List ℕ). P ++ drop (a + n) part₀) (sym (field-more line1Fields i h area))
+-- it has n digits
+pub field-stored : (w : ℕ) (area part₀ part ys : List ℕ) (a i n : ℕ) → i < 7 → n ≡ getD (fieldSizes (line1Fields w)) i 0 → a ≡ digitsIn (take i (line1Fields w))
+    → length part₀ ≡ line1Bytes (line1Fields w) → part ≡ fieldDigits (take i (line1Fields w)) area ++ drop a part₀
+    → ys ≡ hexDigits (length (midOf a (a + n - a) part)) (getD area (getD (fieldWords (line1Fields w)) i 0) 0)
+    → putMid a (a + n - a) part ys ≡ fieldDigits (take (i + 1) (line1Fields w)) area ++ drop (a + n) part₀
+field-stored w area part₀ part ys a i n h e s l is y =
+    let x : ℕ = getD area (getD (fieldWords (line1Fields w)) i 0) 0 in
+    let P : List ℕ = fieldDigits (take i (line1Fields w)) area in
+    lent-digits a (a + n) P part part₀ ys (length-fields (take i (line1Fields w)) area ∙ sym s) is (omega arith)
+    (omega (arith, digits-more (line1Fields w) i h, digits-some (line1Fields w) (i + 1))) n x (omega arith) y
+    ∙ ap (λ (Q : List ℕ). Q ++ drop (a + n) part₀) (ap (λ (m : ℕ). P ++ hexDigits m x) e ∙ sym (field-more (line1Fields w) i h area))
 
-pub line1-stored : (area part₀ : List ℕ) (a i : ℕ) → i ≡ 7 → a ≡ digitsIn (take i line1Fields) → length part₀ ≡ line1Bytes line1Fields
-    → set (fieldDigits (take i line1Fields) area ++ drop a part₀) a 10 ≡ line1 line1Fields area
-line1-stored area part₀ a i e s l =
-    line-end (fieldDigits (take i line1Fields) area) part₀ a (length-fields (take i line1Fields) area ∙ sym s) (omega (arith, ap (λ (k : ℕ). digitsIn (take k line1Fields)) e))
-    ∙ ap (λ (k : ℕ). line1 (take k line1Fields) area) e
+pub line1-stored : (w : ℕ) (area part₀ : List ℕ) (a i : ℕ) → i ≡ 7 → a ≡ digitsIn (take i (line1Fields w)) → length part₀ ≡ line1Bytes (line1Fields w)
+    → set (fieldDigits (take i (line1Fields w)) area ++ drop a part₀) a 10 ≡ line1 (line1Fields w) area
+line1-stored w area part₀ a i e s l =
+    line-end (fieldDigits (take i (line1Fields w)) area) part₀ a (length-fields (take i (line1Fields w)) area ∙ sym s) (omega (arith, ap (λ (k : ℕ). digitsIn (take k (line1Fields w))) e))
+    ∙ ap (λ (k : ℕ). line1 (take k (line1Fields w)) area) e
 
 -- ---- a level's line
 
@@ -64,18 +65,16 @@ level-stored part area y0 y1 level l h g e f =
 
 -- ---- the first two lines
 
-abbrev end1 : ℕ
-end1 = line1Bytes line1Fields
-
-pub head-stored : (part area y0 y1 : List ℕ) → length part ≡ headBytes → headWords ≤ length area → y0 ≡ line1 line1Fields area → y1 ≡ wordDigits (kOf area)
-    → set (putMid end1 128 (putMid 0 end1 part y0) y1) (end1 + 128) 10 ≡ line1 line1Fields area ++ line2 area
-head-stored part area y0 y1 l h e f =
+-- line 1 has a bytes
+pub head-stored : (w a : ℕ) (part area y0 y1 : List ℕ) → a ≡ line1Bytes (line1Fields w) → length part ≡ headBytes w → headWords ≤ length area → y0 ≡ line1 (line1Fields w) area
+    → y1 ≡ wordDigits (kOf area) → set (putMid a (a + 128 - a) (putMid 0 (a - 0) part y0) y1) (a + 128) 10 ≡ line1 (line1Fields w) area ++ line2 area
+head-stored w a part area y0 y1 is l h e f =
     let k : length y1 ≡ 128 = ap length f ∙ rw (length-wordDigits (kOf area), length-keyOf area h) in
-    let n : length y0 ≡ end1 = ap length e ∙ length-line1 line1Fields area in
-    let s0 = lent-next 0 end1 [] part part y0 refl refl (omega arith) (omega arith) n in
-    let s1 = lent-next end1 (end1 + 128) y0 (putMid 0 end1 part y0) part y1 n s0 (omega arith) (omega arith) k in
-    ap (λ (x : List ℕ). set x (end1 + 128) 10) s1 ∙ line-end (y0 ++ y1) part (end1 + 128) (rw (length-append, n, k)) l
-    ∙ rw (e, f) (append-assoc (line1 line1Fields area) (wordDigits (kOf area)) (10 ∷ []))
+    let n : length y0 ≡ a = ap length e ∙ length-line1 (line1Fields w) area ∙ sym is in
+    let s0 = lent-next 0 a [] part part y0 refl refl (omega arith) (omega arith) (n ∙ omega arith) in
+    let s1 = lent-next a (a + 128) y0 (putMid 0 (a - 0) part y0) part y1 n s0 (omega arith) (omega arith) (k ∙ omega arith) in
+    ap (λ (x : List ℕ). set x (a + 128) 10) s1 ∙ line-end (y0 ++ y1) part (a + 128) (rw (length-append, n, k)) (omega arith)
+    ∙ rw (e, f) (append-assoc (line1 (line1Fields w) area) (wordDigits (kOf area)) (10 ∷ []))
 
 -- ---- words from digits
 
@@ -114,18 +113,20 @@ level-spelt area line ys level r h g e =
 
 -- ---- words 0 to 15 from the first two lines: a field is refused, or K comes after the fields
 
-pub head-none : (text : List ℕ) → speltFields line1Fields text (replicate headWords 0) ≡ none → none ≡ speltHead line1Fields text
+pub head-none : (w : ℕ) (text : List ℕ) → speltFields (line1Fields w) text (replicate headWords 0) ≡ none → none ≡ speltHead (line1Fields w) text
 unfolding speltHead
-head-none text e = rw e
+head-none w text e = rw e
 
-pub head-known : (text ws ks : List ℕ) (r : Bool) → speltFields line1Fields text (replicate headWords 0) ≡ some ws → length ws ≡ headWords
-    → cond r (some ks) none ≡ allSpelt (speltWords (length (midOf 6 8 ws)) (take 128 (drop (line1Bytes line1Fields) text)))
-    → cond r (some (putMid 6 8 ws ks)) none ≡ speltHead line1Fields text
+pub head-known : (w a : ℕ) (text ws ks : List ℕ) (r : Bool) → a ≡ line1Bytes (line1Fields w) → speltFields (line1Fields w) text (replicate headWords 0) ≡ some ws
+    → length ws ≡ headWords → cond r (some ks) none ≡ allSpelt (speltWords (length (midOf 6 8 ws)) (take (a + 128 - a) (drop a text)))
+    → cond r (some (putMid 6 8 ws ks)) none ≡ speltHead (line1Fields w) text
 unfolding speltHead
-head-known text ws ks r f n e =
-    let k : allSpelt (speltWords 8 (drop (line1Bytes line1Fields) text)) ≡ cond r (some ks) none =
-    sym (e ∙ ap (λ (m : ℕ). allSpelt (speltWords m (take 128 (drop (line1Bytes line1Fields) text)))) (mid-len 6 14 ws (omega arith))
-    ∙ ap allSpelt (words-front 8 (drop (line1Bytes line1Fields) text))) in
+head-known w a text ws ks r is f n e =
+    let m : a + 128 - a ≡ 128 = omega arith in
+    let k : allSpelt (speltWords 8 (drop (line1Bytes (line1Fields w)) text)) ≡ cond r (some ks) none =
+    sym (e ∙ ap (λ (x : ℕ). allSpelt (speltWords (length (midOf 6 8 ws)) (take x (drop a text)))) m
+    ∙ ap (λ (x : ℕ). allSpelt (speltWords x (take 128 (drop a text)))) (mid-len 6 14 ws (omega arith))
+    ∙ ap allSpelt (words-front 8 (drop a text)) ∙ ap (λ (x : ℕ). allSpelt (speltWords 8 (drop x text))) is) in
     rw (f, k) (by r)
   where
     by : (r : Bool) → cond r (some (putMid 6 8 ws ks)) none ≡ withSpelt (cond r (some ks) none) (λ (key : List ℕ). some (put 6 8 ws key))

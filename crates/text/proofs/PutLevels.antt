@@ -8,7 +8,7 @@ use borrow.Rule.Slice.PartMut.{midOf, putMid, mid-len}
 use lib.ListN.{length, take, drop, replicate, length-append, length-replicate}
 use lib.Seq.{drop-length, take-all, take-at}
 use Rattle.calls.specs.Area.{areaWords, levelWords, Long, areaLevels}
-use Rattle.text.specs.Text.{line1Fields, line1, line2, levelLine, textOf, levelBytes, headBytes}
+use Rattle.text.specs.Text.{roundsBytes, line1Fields, line1, line2, levelLine, textWith, levelBytes, headBytes}
 use Rattle.text.specs.LengthLaws.{length-levelLine, mostText, text-most}
 use Rattle.calls.specs.AreaLaws.{length-levelWords}
 use Rattle.text.specs.Lines.{hasLineAt, linesAbove, above-yes, above-no, length-yes, above-all, text-lines, length-head, length-text, above-most}
@@ -59,36 +59,42 @@ put-all area part at k p h =
     let n = above-all area k h in
     sym (ap (λ (x : List ℕ). take at part ++ x) n ∙ append-nil (take at part) ∙ take-all at part (omega (arith, p .size, ap length n))) ∙ p .is
 
--- ---- the text in two parts, the first two lines and those of the levels
+-- ---- the text in two parts, the first two lines, of n bytes, and those of the levels
 
-module _ (area part y0 : List ℕ) (h : areaWords ≤ length area) (l : length part ≡ length (textOf area)) (e : y0 ≡ line1 line1Fields area ++ line2 area) where
-  head-bytes : length y0 ≡ headBytes
-  head-bytes = ap length e ∙ length-head area (omega arith)
+module _ (w n : ℕ) (area part y0 : List ℕ) (size : n ≡ headBytes w) (h : areaWords ≤ length area) (l : length part ≡ length (textWith w area))
+    (e : y0 ≡ line1 (line1Fields w) area ++ line2 area) where
+  abbrev put : List ℕ
+  put = putMid 0 (n - 0) part y0
 
-  head-put : putMid 0 headBytes part y0 ≡ y0 ++ drop headBytes part
-  head-put = lent-next 0 headBytes [] part part y0 refl refl (omega arith) (omega (arith, length-text area (omega arith))) head-bytes
+  head-bytes : length y0 ≡ n
+  head-bytes = ap length e ∙ length-head w area (omega arith) ∙ sym size
 
-  head-length : length (putMid 0 headBytes part y0) ≡ length part
-  head-length = put-length 0 headBytes part y0 (omega (arith, length-text area (omega arith))) head-bytes
+  room : n ≤ length part
+  room = omega (arith, length-text w area (omega arith))
 
-  pub head-room : headBytes ≤ length (putMid 0 headBytes part y0)
-  head-room = omega (arith, head-length, length-text area (omega arith))
+  head-put : put ≡ y0 ++ drop n part
+  head-put = lent-next 0 n [] part part y0 refl refl (omega arith) room (head-bytes ∙ omega arith)
 
-  pub levels-length : length (midOf headBytes (length (putMid 0 headBytes part y0) - headBytes) (putMid 0 headBytes part y0)) ≡ length (linesAbove area 0)
-  levels-length =
-      mid-len headBytes (length (putMid 0 headBytes part y0)) (putMid 0 headBytes part y0) (omega arith) ∙ omega (arith, head-length, length-text area (omega arith))
+  head-length : length put ≡ length part
+  head-length = put-length 0 (n - 0) part y0 (omega (arith, room)) (head-bytes ∙ omega arith)
 
-  pub text-put : (y1 : List ℕ) → y1 ≡ linesAbove area 0 → putMid headBytes (length (putMid 0 headBytes part y0) - headBytes) (putMid 0 headBytes part y0) y1 ≡ textOf area
+  pub head-room : n ≤ length put
+  head-room = omega (arith, head-length, room)
+
+  pub levels-length : length (midOf n (length put - n) put) ≡ length (linesAbove area 0)
+  levels-length = mid-len n (length put) put (omega arith) ∙ omega (arith, head-length, length-text w area (omega arith))
+
+  pub text-put : (y1 : List ℕ) → y1 ≡ linesAbove area 0 → putMid n (length put - n) put y1 ≡ textWith w area
   text-put y1 f =
-      let m : length y1 ≡ length part - headBytes = ap length f ∙ omega (arith, length-text area (omega arith)) in
-      ap (λ (x : ℕ). putMid headBytes (x - headBytes) (putMid 0 headBytes part y0) y1) head-length
-      ∙ lent-next headBytes (length part) y0 (putMid 0 headBytes part y0) part y1 head-bytes head-put (omega (arith, length-text area (omega arith))) (omega arith) m
-      ∙ rw (drop-length part, e, f) (append-nil ((line1 line1Fields area ++ line2 area) ++ linesAbove area 0) ∙ sym (text-lines area))
+      let m : length y1 ≡ length part - n = ap length f ∙ omega (arith, length-text w area (omega arith)) in
+      ap (λ (x : ℕ). putMid n (x - n) put y1) head-length
+      ∙ lent-next n (length part) y0 put part y1 head-bytes head-put room (omega arith) m
+      ∙ rw (drop-length part, e, f) (append-nil ((line1 (line1Fields w) area ++ line2 area) ++ linesAbove area 0) ∙ sym (text-lines w area))
 
 -- ---- the text of an area, written again into the first n bytes of a longer part
 
-pub again-room : (area text : List ℕ) → areaWords ≤ length area → length text ≡ length (textOf area) → length text ≤ length {A = ℕ} (replicate mostText 0)
-again-room area text h e = rw (length-replicate {A = ℕ} mostText 0) (omega (arith, text-most area h))
+pub again-room : (w : ℕ) (area text : List ℕ) → w ≤ roundsBytes → areaWords ≤ length area → length text ≡ length (textWith w area) → length text ≤ length {A = ℕ} (replicate mostText 0)
+again-room w area text b h e = rw (length-replicate {A = ℕ} mostText 0) (omega (arith, text-most w area b h))
 
 module _ (again : List ℕ) (n : ℕ) (h : n ≤ length again) where
   pub front-length : length (midOf 0 (n - 0) again) ≡ n

@@ -17,7 +17,7 @@ use Rattle.calls.specs.Area.{headWords}
 use Rattle.calls.specs.Block.{below-set}
 use Rattle.digits.specs.Digits.{hexDigits, spelt}
 use Rattle.digits.specs.DigitLaws.{length-digits, digits-back, take-digits, drop-digits, spelt-lt}
-use Rattle.text.specs.Text.{Field, fieldOf, line1Fields, digitsOf, fieldDigits, digitsIn, withSpelt, speltFields}
+use Rattle.text.specs.Text.{Field, fieldOf, roundsBytes, line1Fields, digitsOf, fieldDigits, digitsIn, withSpelt, speltFields}
 
 -- the words and the digits of fields, as the code has them in two tables
 abbrev pub fieldWords : List Field → List ℕ
@@ -30,11 +30,14 @@ fieldSizes fs = map digitsOf fs
 tested : (b : ℕ) (xs : List ℕ) → T (every (λ (k x : ℕ). ltb x b) 0 xs) → Below b xs
 tested b xs t = below-all xs (λ i h. ltb→lt (getD xs i 0) b (at (λ (k x : ℕ). ltb x b) xs t i h))
 
-pub words-head : Below headWords (fieldWords line1Fields)
-words-head = tested headWords (fieldWords line1Fields) tt
+pub words-head : (w : ℕ) → Below headWords (fieldWords (line1Fields w))
+words-head w = tested headWords (fieldWords (line1Fields w)) tt
 
-pub sizes-word : Below 17 (fieldSizes line1Fields)
-sizes-word = tested 17 (fieldSizes line1Fields) tt
+pub sizes-word : (w : ℕ) → w ≤ roundsBytes → Below 17 (fieldSizes (line1Fields w))
+sizes-word zero h = tested 17 (fieldSizes (line1Fields 0)) tt
+sizes-word (suc zero) h = tested 17 (fieldSizes (line1Fields 1)) tt
+sizes-word (suc (suc zero)) h = tested 17 (fieldSizes (line1Fields 2)) tt
+sizes-word (suc (suc (suc w))) h = absurd (omega arith)
 
 -- ---- the digits
 
@@ -139,9 +142,29 @@ module _ (fs : List Field) (i : ℕ) (h : i < length fs) where
     pub field-refused : spelt 0 (take (a + n - a) (drop a text)) ≡ none → speltFields (drop i fs) (drop a text) ws ≡ none
     field-refused e = rw (drop-cons fs i (fieldOf 0 0) h, sym lent ∙ e)
 
-pub in-line : (i : ℕ) (h : i < length line1Fields) → InLine line1Fields i h
-in-line i h = record {
-  word = below-at words-head i h;
-  size = le-of-suc-le-suc (below-at sizes-word i h);
-  ends = omega (arith, digits-more line1Fields i h, digits-some line1Fields (i + 1));
+in-line : (w : ℕ) → w ≤ roundsBytes → (i : ℕ) (h : i < length (line1Fields w)) → InLine (line1Fields w) i h
+in-line w b i h = record {
+  word = below-at (words-head w) i h;
+  size = le-of-suc-le-suc (below-at (sizes-word w b) i h);
+  ends = omega (arith, digits-more (line1Fields w) i h, digits-some (line1Fields w) (i + 1));
 }
+
+-- the same of the sizes that an array has
+pub record Sized (w : ℕ) (sizes : List ℕ) (i : ℕ) : Type 0 where
+  pub is : getD sizes i 0 ≡ getD (fieldSizes (line1Fields w)) i 0
+  pub word : getD (fieldWords (line1Fields w)) i 0 < headWords
+  pub size : getD sizes i 0 ≤ 16
+  pub ends : digitsIn (take i (line1Fields w)) + getD sizes i 0 ≤ digitsIn (line1Fields w)
+  pub more : digitsIn (take (i + 1) (line1Fields w)) ≡ digitsIn (take i (line1Fields w)) + getD sizes i 0
+
+pub sized : (w : ℕ) → w ≤ roundsBytes → (sizes : List ℕ) → sizes ≡ fieldSizes (line1Fields w) → (i : ℕ) → i < length (line1Fields w) → Sized w sizes i
+sized w b sizes e i h =
+    let f = in-line w b i h in
+    let s : getD sizes i 0 ≡ getD (fieldSizes (line1Fields w)) i 0 = ap (λ (l : List ℕ). getD l i 0) e in
+    record {
+      is = s;
+      word = f .word;
+      size = omega (arith, s, f .size);
+      ends = omega (arith, s, f .ends);
+      more = omega (arith, s, digits-more (line1Fields w) i h);
+    }

@@ -9,7 +9,7 @@ use lib.Seq.{take-add, drop-drop, drop-cons, take-take, length-take-le}
 use Rattle.lists.specs.Append.{cons-eq}
 use Rattle.calls.specs.Area.{headWords, areaWords, kOf, sound, Long}
 use Rattle.calls.specs.Moved.{Same, same-front, same-sound}
-use Rattle.text.specs.Text.{line1Fields, textOf}
+use Rattle.text.specs.Text.{line1Fields, textWith}
 use Rattle.text.specs.FieldLaws.{words-head, fields-same}
 
 -- ---- the words before the levels
@@ -50,12 +50,12 @@ front-same area h =
 pub sound-front : (area : List ℕ) → Long area → sound (take areaWords area) ≡ sound area
 sound-front area h = same-sound (take areaWords area) area (front-same area h)
 
-pub text-front : (area : List ℕ) → areaWords ≤ length area → textOf (take areaWords area) ≡ textOf area
-unfolding textOf
-text-front area h =
+pub text-front : (w : ℕ) (area : List ℕ) → areaWords ≤ length area → textWith w (take areaWords area) ≡ textWith w area
+unfolding textWith
+text-front w area h =
     let s = front-same area h in
     rw (
-      fields-same line1Fields (take areaWords area) area words-head (s .word),
+      fields-same (line1Fields w) (take areaWords area) area (words-head w) (s .word),
       s .word 0 (omega arith),
       s .word 1 (omega arith),
       s .word 4 (omega arith),

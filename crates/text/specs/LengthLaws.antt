@@ -9,7 +9,7 @@ use lib.ListN.{length, getD, replicate, length-append, length-map, length-replic
 use Rattle.tree.specs.Tree.{blockBits, mostLevels}
 use Rattle.calls.specs.Area.{Hold, headWords, blockWords, Long, phaseOf, totalOf, kOf, doneBlocks, parallelHold, holdsAbove, openHolds, holdsFor, levelWords, levelsFrom, levelsOf, areaLevels, areaWords}
 use Rattle.digits.specs.Digits.{hexDigits, wordDigits}
-use Rattle.text.specs.Text.{Field, line1Fields, fieldDigits, line1, line2, levelLine, hasLine, heldLevels, heldOf, levelLines, textOf, line1Bytes, line2Bytes, levelBytes, headBytes}
+use Rattle.text.specs.Text.{Field, line1Fields, fieldDigits, line1, line2, levelLine, hasLine, heldLevels, heldOf, levelLines, textWith, textOf, roundsBytes, line1Bytes, line2Bytes, levelBytes, headBytes}
 use Rattle.digits.specs.DigitLaws.{length-digits, length-wordDigits}
 use Rattle.text.specs.FieldLaws.{length-fields}
 use Rattle.text.specs.LayoutLaws.{length-keyOf}
@@ -79,21 +79,25 @@ length-levelLines area (true ∷ hs) (suc n) k level h e g =
     (omega arith)
 length-levelLines area (false ∷ hs) (suc n) k level h e g = length-levelLines area hs n (suc k) (suc level) h (omega arith) (omega arith)
 
-pub text-length : (area : List ℕ) → areaWords ≤ length area → length (textOf area) ≡ headBytes + levelBytes * lines (heldOf area)
-unfolding textOf levelsOf
-text-length area h =
+pub text-length : (w : ℕ) (area : List ℕ) → areaWords ≤ length area → length (textWith w area) ≡ headBytes w + levelBytes * lines (heldOf area)
+unfolding textWith levelsOf
+text-length w area h =
     rw (
-      length-append (line1 line1Fields area) (line2 area ++ levelLines 1 (heldOf area) (levelsFrom area areaLevels 1)),
+      length-append (line1 (line1Fields w) area) (line2 area ++ levelLines 1 (heldOf area) (levelsFrom area areaLevels 1)),
       length-append (line2 area) (levelLines 1 (heldOf area) (levelsFrom area areaLevels 1)),
-      length-line1 line1Fields area,
+      length-line1 (line1Fields w) area,
       length-line2 area (omega arith),
       length-levelLines area (heldOf area) areaLevels 1 1 h (length-heldLevels (phaseOf area) (getD area 4 0) (totalOf area)) (omega arith),
     )
     (omega arith)
 
 abbrev pub mostText : ℕ
-mostText = headBytes + mostLevels * levelBytes
+mostText = headBytes roundsBytes + mostLevels * levelBytes
 
-pub text-most : (area : List ℕ) → areaWords ≤ length area → length (textOf area) ≤ mostText
-text-most area h =
-    omega (arith, text-length area h, lines-le (heldOf area), length-heldLevels (phaseOf area) (getD area 4 0) (totalOf area))
+pub text-most : (w : ℕ) (area : List ℕ) → w ≤ roundsBytes → areaWords ≤ length area → length (textWith w area) ≤ mostText
+text-most w area b h =
+    omega (arith, text-length w area h, lines-le (heldOf area), length-heldLevels (phaseOf area) (getD area 4 0) (totalOf area))
+
+-- so 27,905 bytes are always enough
+pub longest : (area : List ℕ) → Long area → length (textOf area) ≤ 27905
+longest area h = text-most roundsBytes area (omega arith) h

@@ -1,11 +1,12 @@
 pub mod FieldLaws
+pub mod FormLaws
 pub mod HeldLaws
 pub mod LayoutLaws
 pub mod LengthLaws
 pub mod Lines
+pub mod ReadForms
 pub mod ReadLaws
 pub mod ReadLeaves
 pub mod Terms
 pub mod Text
-pub mod TextExamples
 pub mod TextLaws

@@ -11,7 +11,7 @@ use lib.Seq.{drop-cons}
 use Rattle.lists.specs.Part.{put}
 use Rattle.calls.specs.Area.{headWords, blockWords, Long, phaseOf, totalOf, levelWords, levelsFrom, levelsOf, areaLevels}
 use Rattle.digits.specs.Digits.{speltWords, allSpelt}
-use Rattle.text.specs.Text.{line1Fields, line1, line2, levelLine, heldOf, levelLines, textOf, levelBytes, headBytes, speltArea, readable}
+use Rattle.text.specs.Text.{roundsBytes, line1Fields, line1, line2, levelLine, heldOf, levelLines, textWith, levelBytes, headBytes, speltArea, readableWith}
 use Rattle.calls.specs.AreaLaws.{length-levelWords}
 use Rattle.text.specs.LengthLaws.{length-line1, length-line2, length-levelLine, length-heldLevels, text-most}
 
@@ -40,10 +40,10 @@ pub record LevelSpelt (r : Bool) (level : ℕ) (line area last : List ℕ) : Typ
   pub yes : r ≡ true → (allSpelt (levelSpelt line) ≡ some (values (levelSpelt line))) × (last ≡ put (headWords + blockWords * (level - 1)) blockWords area (values (levelSpelt line)))
   pub no : r ≡ false → allSpelt (levelSpelt line) ≡ none
 
--- whether a text spells an area whose text is as long; if so, that area is at hand
-pub record Spelt (r : Bool) (text area : List ℕ) : Type 0 where
-  pub yes : r ≡ true → (speltArea text ≡ some area) × (length text ≡ length (textOf area))
-  pub no : r ≡ false → readable text ≡ false
+-- whether a text, with r in w bytes, spells an area whose text is as long; if so, that area is at hand
+pub record Spelt (w : ℕ) (r : Bool) (text area : List ℕ) : Type 0 where
+  pub yes : r ≡ true → (speltArea w text ≡ some area) × (length text ≡ length (textWith w area))
+  pub no : r ≡ false → readableWith w text ≡ false
 
 -- ---- one level more
 
@@ -96,15 +96,16 @@ above-all area k h = rw (drop-of-length-le (heldOf area) {i = k} (omega (arith, 
 
 -- ---- the whole text
 
-pub text-lines : (area : List ℕ) → textOf area ≡ (line1 line1Fields area ++ line2 area) ++ linesAbove area 0
-unfolding textOf linesAbove levelsOf
-text-lines area = sym (append-assoc (line1 line1Fields area) (line2 area) (levelLines 1 (heldOf area) (levelsOf area)))
+pub text-lines : (w : ℕ) (area : List ℕ) → textWith w area ≡ (line1 (line1Fields w) area ++ line2 area) ++ linesAbove area 0
+unfolding textWith linesAbove levelsOf
+text-lines w area = sym (append-assoc (line1 (line1Fields w) area) (line2 area) (levelLines 1 (heldOf area) (levelsOf area)))
 
-pub length-head : (area : List ℕ) → headWords ≤ length area → length (line1 line1Fields area ++ line2 area) ≡ headBytes
-length-head area h = rw (length-append (line1 line1Fields area) (line2 area), length-line1 line1Fields area, length-line2 area h)
+pub length-head : (w : ℕ) (area : List ℕ) → headWords ≤ length area → length (line1 (line1Fields w) area ++ line2 area) ≡ headBytes w
+length-head w area h = rw (length-append (line1 (line1Fields w) area) (line2 area), length-line1 (line1Fields w) area, length-line2 area h)
 
-pub length-text : (area : List ℕ) → headWords ≤ length area → length (textOf area) ≡ headBytes + length (linesAbove area 0)
-length-text area h = ap length (text-lines area) ∙ rw (length-append (line1 line1Fields area ++ line2 area) (linesAbove area 0), length-head area h)
+pub length-text : (w : ℕ) (area : List ℕ) → headWords ≤ length area → length (textWith w area) ≡ headBytes w + length (linesAbove area 0)
+length-text w area h =
+    ap length (text-lines w area) ∙ rw (length-append (line1 (line1Fields w) area ++ line2 area) (linesAbove area 0), length-head w area h)
 
 pub above-most : (area : List ℕ) → Long area → length (linesAbove area 0) ≤ areaLevels * levelBytes
-above-most area h = omega (arith, length-text area (omega arith), text-most area h)
+above-most area h = omega (arith, length-text roundsBytes area (omega arith), text-most roundsBytes area (omega arith) h)

@@ -1,46 +1,30 @@
--- Laws: demand 2 for suspended text: reading what was written gives the same area; one text stands for one area; a text that is read
--- writes back as itself; and a text is read exactly if some sound area writes it.
+-- Laws: demand 2 for suspended text, in both forms: reading what was written gives the same area; one text stands for one area; a text
+-- that is read is what its area writes, or wrote before M-108; and a text is read exactly if some sound area writes it, or wrote it.
 use mathlib.Core.Path.{_≡_, refl, sym, ap, _∙_}
 use mathlib.Core.Bool.{true, not}
 use mathlib.Core.List.{List, [], _∷_, _++_}
-use mathlib.Core.Logic.{_↔_}
-use mathlib.Core.Option.{Option, none, some, Option·some-injective}
+use mathlib.Core.Logic.{_↔_, _⊎_, inl, inr}
+use mathlib.Core.Option.{some, Option·some-injective}
 use Prim.Native.Nat.{ℕ, _^_, _≤_}
 use native.Mathlib.Omega.{arith}
-use borrow.Author.Tests.{eqb-true, eq-eqb, ltb-false, le-ltb, not-false}
-use lib.Dec.{eqb}
-use lib.ListN.{length, take, drop, length-append}
-use lib.Seq.{take-at}
-use Rattle.lists.specs.Append.{cons-eq}
+use borrow.Author.Tests.{ltb-false, le-ltb, not-false}
+use lib.ListN.{length, take, drop, getD, length-append}
+use lib.Seq.{take-at, getD-take}
 use Rattle.lists.specs.Below.{Below}
 use Rattle.lists.specs.BelowLaws.{below-append, below-drop}
 use Rattle.refusals.specs.Refusals.{outputTest}
 use Rattle.calls.specs.Area.{areaWords, sound, Long}
-use Rattle.lists.specs.And.{and-intro, and-parts}
 use Rattle.refusals.specs.RefusalLaws.{passed, answer-number, answer-refused}
 use Rattle.calls.specs.Calls.{shortTest, areaTests}
-use Rattle.text.specs.Text.{textOf, speltArea, same, textIs, readable, Written, writeNumber, writeOf, Taken, readNumber, readOf}
+use Rattle.text.specs.Text.{roundsBytes, oldRoundsBytes, textWith, textOf, readable, readArea, Written, writeNumber, writeOf, Taken, readNumber, readOf}
 use Rattle.text.specs.LayoutLaws.{sound-front, text-front}
-use Rattle.text.specs.TextLaws.{spells-back, length-speltArea, speltArea-below}
-use Rattle.text.specs.Terms.{SoundArea, WrittenBy}
-
--- ---- tests
-
-same-refl : (xs : List ℕ) → same xs xs ≡ true
-same-refl [] = refl
-same-refl (x ∷ xs) = and-intro (eq-eqb x x refl) (same-refl xs)
-
-pub same-eq : (xs ys : List ℕ) → same xs ys ≡ true → xs ≡ ys
-same-eq [] [] e = refl
-same-eq [] (y ∷ ys) e = let z : _≡_ {A = ℕ} 0 1 = cc in absurd (omega arith)
-same-eq (x ∷ xs) [] e = let z : _≡_ {A = ℕ} 0 1 = cc in absurd (omega arith)
-same-eq (x ∷ xs) (y ∷ ys) e =
-    let p = and-parts (eqb x y) (same xs ys) e in
-    cons-eq (eqb-true x y (p .0)) (same-eq xs ys (p .1))
+use Rattle.text.specs.FormLaws.{old-widened}
+use Rattle.text.specs.ReadForms.{writing-read, Readable, readable-sound}
+use Rattle.text.specs.Terms.{SoundArea, Writing, new-writing, old-writing, WrittenBy, widened}
 
 -- ---- what is accepted
 
-pub read-accepted : (area text new : List ℕ) → Long area → speltArea text ≡ some new → readable text ≡ true
+pub read-accepted : (area text new : List ℕ) → Long area → readArea text ≡ some new → readable text ≡ true
     → readOf area text ≡ record { number = 0; count = 0; area = new ++ drop areaWords area }
 unfolding readOf readNumber
 read-accepted area text new h s e = rw (le-ltb (length area) areaWords h, e, s)
@@ -91,47 +75,24 @@ written-text area out e =
     rw (write-accepted area out (p .long) (p .is-sound) (p .room))
     (take-at (textOf area) (drop (length (textOf area)) out) (length (textOf area)) refl)
 
--- a sound area's text is readable
-text-readable : (area : List ℕ) → SoundArea area → readable (textOf area) ≡ true
-unfolding readable
-text-readable area s =
-    rw (spells-back area s) (and-intro (sound-front area (s .long) ∙ s .is-sound)
-    (rw (text-front area (s .long)) (same-refl (textOf area))))
+-- "either reads back to its area": a text that writing a sound area gives, or gave before M-108, is accepted and gives that area in its
+-- first 1,744 words; the tail of the area read into stays
+pub reads-back : (area text other : List ℕ) → SoundArea area → Writing area text → Long other
+    → readOf other text ≡ record { number = 0; count = 0; area = take areaWords area ++ drop areaWords other }
+reads-back area text other s w h = let r = writing-read area text s w in read-accepted other text (take areaWords area) h (r .area) (r .yes)
 
--- reading what was written is accepted and gives the same area in its first 1,744 words; the tail of the area read into stays
+-- and so what a write put out
 pub read-back : (area out other : List ℕ) → Below (2 ^ 64) area → writeNumber area out ≡ 0 → Long other
     → readOf other (take (writeOf area out .count) (writeOf area out .text)) ≡ record { number = 0; count = 0; area = take areaWords area ++ drop areaWords other }
 read-back area out other b e h =
     let p = write-passed area out e in
     let s : SoundArea area = record { words = b; long = p .long; is-sound = p .is-sound } in
-    ap (readOf other) (written-text area out e) ∙ read-accepted other (textOf area) (take areaWords area) h (spells-back area s) (text-readable area s)
+    ap (readOf other) (written-text area out e) ∙ reads-back area (textOf area) other s (new-writing refl) h
 
--- two sound areas with one text agree in those words
-pub one-text : (a b : List ℕ) → SoundArea a → SoundArea b → textOf a ≡ textOf b → take areaWords a ≡ take areaWords b
-one-text a b s t e =
-    Option·some-injective (take areaWords a) (take areaWords b) (sym (spells-back a s) ∙ ap speltArea e ∙ spells-back b t)
-
--- a readable text spells a sound area, and its text is that text
-pub record Readable (text : List ℕ) : Type 0 where
-  pub new : List ℕ
-  pub spelt : speltArea text ≡ some new
-  pub is : SoundArea new
-  pub writes : textOf new ≡ text
-
-pub readable-sound : (text : List ℕ) → readable text ≡ true → Readable text
-unfolding readable
-readable-sound text e = by (speltArea text) refl e
-  where
-    by : (o : Option (List ℕ)) → speltArea text ≡ o → textIs text o ≡ true → Readable text
-    by none f e = let z : _≡_ {A = ℕ} 0 1 = cc in absurd (omega arith)
-    by (some new) f e =
-        let p = and-parts (sound new) (same (textOf new) text) e in
-        record {
-          new = new;
-          spelt = f;
-          is = record { words = speltArea-below text new f; long = omega (arith, length-speltArea text new f); is-sound = p .0 };
-          writes = same-eq (textOf new) text (p .1);
-        }
+-- two sound areas with one text, each in either form, agree in those words
+pub one-text : (a b text : List ℕ) → SoundArea a → SoundArea b → Writing a text → Writing b text → take areaWords a ≡ take areaWords b
+one-text a b text s t v w =
+    Option·some-injective (take areaWords a) (take areaWords b) (sym (writing-read a text s v .area) ∙ writing-read b text t w .area)
 
 -- the area after an accepted read, new being what the text spells
 module _ (area text : List ℕ) (e : readNumber area text ≡ 0) where
@@ -147,7 +108,7 @@ module _ (area text : List ℕ) (e : readNumber area text ≡ 0) where
 
   front : take areaWords last ≡ accepted .new
   unfolding last
-  front = take-at (accepted .new) (drop areaWords area) areaWords (length-speltArea text (accepted .new) (accepted .spelt))
+  front = take-at (accepted .new) (drop areaWords area) areaWords (accepted .size)
 
   front-long : Long last
   unfolding last
@@ -162,17 +123,30 @@ module _ (area text : List ℕ) (e : readNumber area text ≡ 0) where
     is-sound = sym (sound-front last front-long) ∙ ap sound front ∙ accepted .is .is-sound;
   }
 
+  -- what its first words write, it writes
+  front-writes : Writing (accepted .new) text → Writing last text
+  front-writes (new-writing w) = new-writing (sym (text-front roundsBytes last front-long) ∙ ap (textWith roundsBytes) front ∙ w)
+  front-writes (old-writing h w) =
+      old-writing (rw (sym (getD-take areaWords last 5 0 (omega arith)) ∙ ap (λ (l : List ℕ). getD l 5 0) front) h)
+      (sym (text-front oldRoundsBytes last front-long) ∙ ap (textWith oldRoundsBytes) front ∙ w)
+
 -- an accepted read leaves a sound area
 pub read-sound : (area text : List ℕ) → Below (2 ^ 64) area → readNumber area text ≡ 0 → SoundArea (readOf area text .area)
 read-sound area text b e = rw (read-last area text e) (read-sound-by area text e b)
 
--- a text that is read writes back as itself
-pub writes-back : (area text : List ℕ) → readNumber area text ≡ 0 → textOf (readOf area text .area) ≡ text
-writes-back area text e =
-    rw (read-last area text e)
-    (sym (text-front (last area text e) (front-long area text e)) ∙ ap textOf (front area text e) ∙ accepted area text e .writes)
+-- a text that is read is what the area read writes, or wrote before M-108
+pub writes-back : (area text : List ℕ) → readNumber area text ≡ 0 → Writing (readOf area text .area) text
+writes-back area text e = rw (read-last area text e) (front-writes area text e (accepted area text e .writes))
 
--- "11, 0: text is not what writing some sound area gives"
+-- so that area writes the text in the new form: the text itself, or an old one with two digits more
+pub writes-new : (area text : List ℕ) → readNumber area text ≡ 0 → (textOf (readOf area text .area) ≡ text) ⊎ (textOf (readOf area text .area) ≡ widened text)
+writes-new area text e = by (writes-back area text e)
+  where
+    by : Writing (readOf area text .area) text → (textOf (readOf area text .area) ≡ text) ⊎ (textOf (readOf area text .area) ≡ widened text)
+    by (new-writing w) = inl w
+    by (old-writing h w) = inr (old-widened (readOf area text .area) h ∙ ap widened w)
+
+-- "a text is read exactly if it is new writing or was old writing"
 pub readable-iff : (area text : List ℕ) → Long area → (readOf area text .number ≡ 0) ↔ WrittenBy text
 readable-iff area text h = (there, back)
   where
@@ -183,6 +157,4 @@ readable-iff area text h = (there, back)
         record { area = s .new; is = s .is; writes = s .writes }
 
     back : WrittenBy text → readOf area text .number ≡ 0
-    back w =
-        let e : readable text ≡ true = ap readable (sym (w .writes)) ∙ text-readable (w .area) (w .is) in
-        ap (λ (x : Taken). x .number) (read-accepted area text (readable-sound text e .new) h (readable-sound text e .spelt) e)
+    back w = ap (λ (x : Taken). x .number) (reads-back (w .area) text area (w .is) (w .writes) h)

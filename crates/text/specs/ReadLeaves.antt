@@ -10,8 +10,8 @@ use Rattle.calls.specs.Area.{areaWords, sound, Long}
 use Rattle.calls.specs.Terms.{LeavesSound}
 use Rattle.text.specs.Text.{readNumber, readOf}
 use Rattle.text.specs.LayoutLaws.{sound-front}
-use Rattle.text.specs.TextLaws.{length-speltArea}
-use Rattle.text.specs.ReadLaws.{read-accepted, read-refused, read-number, read-passed, readable-sound}
+use Rattle.text.specs.ReadLaws.{read-accepted, read-refused, read-number, read-passed}
+use Rattle.text.specs.ReadForms.{readable-sound}
 
 pub read-tail : (area text : List ℕ) → drop areaWords (readOf area text .area) ≡ drop areaWords area
 read-tail area text = by (readNumber area text) refl
@@ -21,7 +21,7 @@ read-tail area text = by (readNumber area text) refl
         let p = read-passed area text e in
         let r = readable-sound text (p .1) in
         rw (read-accepted area text (r .new) (p .0) (r .spelt) (p .1))
-        (drop-at (r .new) (drop areaWords area) areaWords (length-speltArea text (r .new) (r .spelt)))
+        (drop-at (r .new) (drop areaWords area) areaWords (r .size))
     by (suc k) e = rw (← read-refused area text (suc k) (sym e) (omega arith)) refl
 
 -- of any area, whatever it held
@@ -30,7 +30,7 @@ read-leaves-sound area text e =
     let p = read-passed area text (sym (read-number area text) ∙ e) in
     let r = readable-sound text (p .1) in
     let to : List ℕ = r .new ++ drop areaWords area in
-    let n : length (r .new) ≡ areaWords = length-speltArea text (r .new) (r .spelt) in
+    let n : length (r .new) ≡ areaWords = r .size in
     let s : length to ≡ length area = rw (length-append (r .new) (drop areaWords area), n, length-drop areaWords area) (omega (arith, p .0)) in
     let l : Long to = rw s (p .0) in
     rw (read-accepted area text (r .new) (p .0) (r .spelt) (p .1)) (record {

@@ -1,5 +1,6 @@
--- Definitions: a suspended stream as text. Document 01, "Suspended text", and the calls write and read. A text is a list of bytes.
-use mathlib.Core.Bool.{Bool, true, false, not, _||_, _&&_}
+-- Definitions: a suspended stream as text. Document 01, "Suspended text", and the calls write and read; document 02, M-108. A text is a
+-- list of bytes.
+use mathlib.Core.Bool.{Bool, true, false, not, cond, _||_, _&&_}
 use mathlib.Core.List.{List, [], _∷_, _++_, map, flatten}
 use mathlib.Core.Option.{Option, none, some, Option·getD}
 use Prim.Native.Nat.{ℕ, suc, _+_, _*_}
@@ -21,9 +22,17 @@ pub record Field : Type 0 where
 abbrev pub fieldOf : ℕ → ℕ → Field
 fieldOf word bytes = record { word = word; bytes = bytes }
 
--- "Line 1: phase (1 byte), r (1), L (1), key bytes (1), d (2), total (8), compressions (8): 44 digits."
-abbrev pub line1Fields : List Field
-line1Fields = fieldOf 0 1 ∷ fieldOf 5 1 ∷ fieldOf 4 1 ∷ fieldOf 2 1 ∷ fieldOf 3 2 ∷ fieldOf 1 8 ∷ fieldOf 14 8 ∷ []
+-- "Line 1: phase (1 byte), r (1), L (1), key bytes (1), d (2), total (8), compressions (8): 44 digits." M-108: "Line 1 of the
+-- suspended text holds r in two bytes, 46 digits. Old lines of 44 digits are still read; writing gives the new form." So the
+-- bytes of r, w, are left open here and in what follows; these are what writing gives and what it gave before:
+abbrev pub roundsBytes : ℕ
+roundsBytes = 2
+
+abbrev pub oldRoundsBytes : ℕ
+oldRoundsBytes = 1
+
+abbrev pub line1Fields : ℕ → List Field
+line1Fields w = fieldOf 0 1 ∷ fieldOf 5 w ∷ fieldOf 4 1 ∷ fieldOf 2 1 ∷ fieldOf 3 2 ∷ fieldOf 1 8 ∷ fieldOf 14 8 ∷ []
 
 abbrev pub digitsOf : Field → ℕ
 digitsOf f = 2 * f .bytes
@@ -61,8 +70,16 @@ levelLines level (h ∷ hs) [] = []
 levelLines level (true ∷ hs) (ws ∷ up) = levelLine level ws ++ levelLines (suc level) hs up
 levelLines level (false ∷ hs) (ws ∷ up) = levelLines (suc level) hs up
 
-unfoldable pub textOf : List ℕ → List ℕ
-textOf area = line1 line1Fields area ++ (line2 area ++ levelLines 1 (heldOf area) (levelsOf area))
+-- the whole text, with r in w bytes
+unfoldable pub textWith : ℕ → List ℕ → List ℕ
+textWith w area = line1 (line1Fields w) area ++ (line2 area ++ levelLines 1 (heldOf area) (levelsOf area))
+
+-- what writing an area gives, and what it gave before M-108
+abbrev pub textOf : List ℕ → List ℕ
+textOf area = textWith roundsBytes area
+
+abbrev pub oldTextOf : List ℕ → List ℕ
+oldTextOf area = textWith oldRoundsBytes area
 
 -- ---- the area that a text's digits spell
 
@@ -81,8 +98,8 @@ line2Bytes = 16 * 8 + 1
 abbrev pub levelBytes : ℕ
 levelBytes = 2 + 16 * blockWords + 1
 
-abbrev pub headBytes : ℕ
-headBytes = line1Bytes line1Fields + line2Bytes
+abbrev pub headBytes : ℕ → ℕ
+headBytes w = line1Bytes (line1Fields w) + line2Bytes
 
 -- what follows goes on with what is spelt, and a refused digit refuses
 abbrev pub withSpelt : {A : Type 0} → Option A → (A → Option (List ℕ)) → Option (List ℕ)
@@ -109,9 +126,10 @@ speltLevels (true ∷ hs) text = speltWords blockWords (drop 2 text) ++ speltLev
 speltLevels (false ∷ hs) text = map some emptyLevel ++ speltLevels hs text
 
 -- the 1,744 words, or none if a digit is refused; which levels have a line goes by the phase, L and total of line 1
-unfoldable pub speltArea : List ℕ → Option (List ℕ)
-speltArea text =
-    withSpelt (speltHead line1Fields text) (λ (head : List ℕ). allSpelt (map some head ++ speltLevels (heldOf head) (drop headBytes text)))
+unfoldable pub speltArea : ℕ → List ℕ → Option (List ℕ)
+speltArea w text =
+    withSpelt (speltHead (line1Fields w) text)
+    (λ (head : List ℕ). allSpelt (map some head ++ speltLevels (heldOf head) (drop (headBytes w) text)))
 
 -- ---- write text
 
@@ -145,14 +163,21 @@ same [] (y ∷ ys) = false
 same (x ∷ xs) [] = false
 same (x ∷ xs) (y ∷ ys) = eqb x y && same xs ys
 
--- "text is not what writing some sound area gives": a digit is refused, or the area that the digits spell is unsound or writes
--- another text
-abbrev pub textIs : List ℕ → Option (List ℕ) → Bool
-textIs text none = false
-textIs text (some area) = sound area && same (textOf area) text
+-- whether the area that the digits spell is sound, and the text is its text with r in w bytes; if a digit is refused, there is none
+abbrev pub textIs : ℕ → List ℕ → Option (List ℕ) → Bool
+textIs w text none = false
+textIs w text (some area) = sound area && same (textWith w area) text
 
+unfoldable pub readableWith : ℕ → List ℕ → Bool
+readableWith w text = textIs w text (speltArea w text)
+
+-- M-108: "So a text is read exactly if it is new writing or was old writing, any other gets 11, .."
 unfoldable pub readable : List ℕ → Bool
-readable text = textIs text (speltArea text)
+readable text = readableWith roundsBytes text || readableWith oldRoundsBytes text
+
+-- ".. and either reads back to its area"
+unfoldable pub readArea : List ℕ → Option (List ℕ)
+readArea text = cond (readableWith roundsBytes text) (speltArea roundsBytes text) (speltArea oldRoundsBytes text)
 
 -- "Read 7, 11"
 unfoldable pub readNumber : List ℕ → List ℕ → ℕ
@@ -162,5 +187,5 @@ readNumber area text = firstRefusal (shortTest area ∷ (not (readable text), 11
 unfoldable pub readOf : List ℕ → List ℕ → Taken
 readOf area text =
     answerOf (readNumber area text)
-    record { number = 0; count = 0; area = Option·getD (speltArea text) [] ++ drop areaWords area }
+    record { number = 0; count = 0; area = Option·getD (readArea text) [] ++ drop areaWords area }
     (λ k. record { number = k; count = 0; area = area })

@@ -3,10 +3,10 @@ use mathlib.Core.Path.{_≡_, refl, sym, ap, _∙_}
 use mathlib.Core.Bool.{Bool, true, false}
 use mathlib.Core.List.{List, [], _∷_, _++_, map, append-assoc, append-nil, flatten}
 use mathlib.Core.Option.{Option, some, Option·some-injective}
-use Prim.Native.Nat.{ℕ, suc, _+_, _*_, _^_, _≤_}
+use Prim.Native.Nat.{ℕ, suc, _+_, _*_, _^_, _≤_, _<_}
 use native.Mathlib.Omega.{arith}
-use lib.ListN.{length, take, drop, getD, replicate, length-append, length-map}
-use lib.Seq.{drop-at, drop-drop, getD-take}
+use lib.ListN.{length, take, drop, getD, set, replicate, length-append, length-map, length-take}
+use lib.Seq.{drop-at, drop-drop, getD-take, getD-set-same, getD-set-other, length-take-le}
 use Rattle.calls.specs.Keeps.{levelsOf-words}
 use Rattle.calls.specs.WriteLaws.{levelsOf-widths}
 use Rattle.lists.specs.Below.{Below, none, more}
@@ -16,33 +16,39 @@ use Rattle.lists.specs.PartLaws.{put-length}
 use Rattle.lists.specs.Flatten.{map-append}
 use Rattle.calls.specs.Area.{headWords, blockWords, areaWords, phaseOf, totalOf, kOf, levelsOf, emptyLevel, holdsFor, areaLevels}
 use Rattle.calls.specs.Moved.{area-front}
-use Rattle.digits.specs.Digits.{hexDigits, wordDigits, speltWords, allSpelt}
-use Rattle.text.specs.Text.{Field, line1Fields, fieldDigits, line1, line2, levelLine, heldLevels, heldOf, levelLines, textOf, line1Bytes, line2Bytes, levelBytes, headBytes, withSpelt, speltFields, speltHead, speltLevels, speltArea}
-use Rattle.digits.specs.DigitLaws.{drop-digits, length-speltWords, words-exact, all-known, known-all, known-front, Fits, no-word, one-more, fits-append, fits-below, speltWords-fits}
+use Rattle.digits.specs.Digits.{hexDigits, wordDigits, spelt, speltWords, allSpelt}
+use Rattle.text.specs.Text.{Field, line1Fields, digitsOf, fieldDigits, line1, line2, levelLine, heldLevels, heldOf, levelLines, textWith, roundsBytes, line1Bytes, line2Bytes, levelBytes, headBytes, withSpelt, speltFields, speltHead, speltLevels, speltArea}
+use Rattle.digits.specs.DigitLaws.{pow-16, spelt-lt, drop-digits, length-speltWords, words-exact, all-known, known-all, known-front, Fits, no-word, one-more, fits-append, fits-below, speltWords-fits}
 use Rattle.text.specs.FieldLaws.{fieldSizes, sizes-word, FieldsFit, told, fields-back, spelt-parts, Spells, fields-spelt}
 use Rattle.text.specs.LayoutLaws.{head-words, length-keyOf}
 use Rattle.calls.specs.AreaLaws.{length-levelsOf}
 use Rattle.text.specs.HeldLaws.{Ranges, ranges, Fit, none, line, bare, fit-levels}
 use Rattle.text.specs.LengthLaws.{length-line1, length-line2, length-levelLine, length-holdsFor, length-heldLevels}
 use Rattle.text.specs.Terms.{SoundArea}
+use Rattle.text.specs.FormLaws.{in-front}
 
 -- ---- the head
 
-fields-fit : (area : List ℕ) → Below (2 ^ 64) area → headWords ≤ length area → Ranges area → FieldsFit line1Fields area
-fields-fit area b h g =
-    (omega (arith, g .phase), (omega (arith, g .rounds), (omega (arith, g .limit), (omega (arith, g .keyBytes), (omega (arith, g .d), (below-at b 1 (omega arith), (below-at b 14 (omega arith), tt)))))))
+-- r fits its w bytes
+abbrev pub RoundsFit : ℕ → List ℕ → Type 0
+RoundsFit w area = getD area 5 0 < 16 ^ (2 * w)
 
-head-back : (area rest : List ℕ) → Below (2 ^ 64) area → headWords ≤ length area → Ranges area
-    → speltHead line1Fields (line1 line1Fields area ++ (line2 area ++ rest)) ≡ some (take headWords area)
+fields-fit : (w : ℕ) (area : List ℕ) → Below (2 ^ 64) area → headWords ≤ length area → Ranges area → RoundsFit w area → FieldsFit (line1Fields w) area
+fields-fit w area b h g f =
+    (omega (arith, g .phase), (f, (omega (arith, g .limit), (omega (arith, g .keyBytes), (omega (arith, g .d), (below-at b 1 (omega arith), (below-at b 14 (omega arith), tt)))))))
+
+head-back : (w : ℕ) (area rest : List ℕ) → Below (2 ^ 64) area → headWords ≤ length area → Ranges area → RoundsFit w area
+    → speltHead (line1Fields w) (line1 (line1Fields w) area ++ (line2 area ++ rest)) ≡ some (take headWords area)
 unfolding speltHead
-head-back area rest b h g =
+head-back w area rest b h g i =
+    let fs : List Field = line1Fields w in
     let up : List ℕ = line2 area ++ rest in
     let zeros : List ℕ = replicate headWords 0 in
-    let f : speltFields line1Fields (line1 line1Fields area ++ up) zeros ≡ some (told line1Fields area zeros) =
-    ap (λ (l : List ℕ). speltFields line1Fields l zeros) (append-assoc (fieldDigits line1Fields area) (10 ∷ []) up) ∙ fields-back line1Fields area zeros (10 ∷ up) (fields-fit area b h g) in
+    let f : speltFields fs (line1 fs area ++ up) zeros ≡ some (told fs area zeros) =
+    ap (λ (l : List ℕ). speltFields fs l zeros) (append-assoc (fieldDigits fs area) (10 ∷ []) up) ∙ fields-back fs area zeros (10 ∷ up) (fields-fit w area b h g i) in
     let a : up ≡ wordDigits (kOf area) ++ (10 ∷ rest) = append-assoc (wordDigits (kOf area)) (10 ∷ []) rest in
-    let key : allSpelt (speltWords 8 (drop (line1Bytes line1Fields) (line1 line1Fields area ++ up))) ≡ some (kOf area) =
-    ap (λ (l : List ℕ). allSpelt (speltWords 8 l)) (drop-at (line1 line1Fields area) up (line1Bytes line1Fields) (length-line1 line1Fields area) ∙ a)
+    let key : allSpelt (speltWords 8 (drop (line1Bytes fs) (line1 fs area ++ up))) ≡ some (kOf area) =
+    ap (λ (l : List ℕ). allSpelt (speltWords 8 l)) (drop-at (line1 fs area) up (line1Bytes fs) (length-line1 fs area) ∙ a)
     ∙ ap allSpelt (words-exact 8 (10 ∷ rest) (below-take 8 (below-drop 6 b)) (length-keyOf area h)) ∙ all-known (kOf area) in
     rw (f, key) (ap {B = Option (List ℕ)} some (sym (rw (g .last) at (head-words area h))))
 
@@ -71,19 +77,20 @@ held-front area =
     ∙ ap (λ (l : ℕ). heldLevels (phaseOf area) l (getD (take 16 area) 1 0)) (getD-take 16 area 4 0 (omega arith))
     ∙ ap (λ (t : ℕ). heldLevels (phaseOf area) (getD area 4 0) t) (getD-take 16 area 1 0 (omega arith))
 
-pub spells-back : (area : List ℕ) → SoundArea area → speltArea (textOf area) ≡ some (take areaWords area)
-unfolding speltArea textOf
-spells-back area s =
+pub spells-back : (w : ℕ) (area : List ℕ) → SoundArea area → RoundsFit w area → speltArea w (textWith w area) ≡ some (take areaWords area)
+unfolding speltArea textWith
+spells-back w area s i =
+    let fs : List Field = line1Fields w in
     let ls : List ℕ = levelLines 1 (heldOf area) (levelsOf area) in
     let g = ranges area (s .is-sound) in
     let h : headWords ≤ length area = omega (arith, s .long) in
     let n : length (holdsFor areaLevels (phaseOf area) (getD area 4 0) (totalOf area)) ≡ length (levelsOf area) =
     length-holdsFor areaLevels (phaseOf area) (getD area 4 0) (totalOf area) ∙ sym (length-levelsOf area) in
     let fit = fit-levels area n (levelsOf-widths area (s .long)) (levelsOf-words area (s .words)) (g .levels) in
-    let head : speltHead line1Fields (line1 line1Fields area ++ (line2 area ++ ls)) ≡ some (take headWords area) = head-back area ls (s .words) h g in
-    let rest : drop headBytes (line1 line1Fields area ++ (line2 area ++ ls)) ≡ ls =
-    sym (drop-drop line2Bytes (line1Bytes line1Fields) (line1 line1Fields area ++ (line2 area ++ ls)))
-    ∙ ap (drop line2Bytes) (drop-at (line1 line1Fields area) (line2 area ++ ls) (line1Bytes line1Fields) (length-line1 line1Fields area))
+    let head : speltHead fs (line1 fs area ++ (line2 area ++ ls)) ≡ some (take headWords area) = head-back w area ls (s .words) h g i in
+    let rest : drop (headBytes w) (line1 fs area ++ (line2 area ++ ls)) ≡ ls =
+    sym (drop-drop line2Bytes (line1Bytes fs) (line1 fs area ++ (line2 area ++ ls)))
+    ∙ ap (drop line2Bytes) (drop-at (line1 fs area) (line2 area ++ ls) (line1Bytes fs) (length-line1 fs area))
     ∙ drop-at (line2 area) ls line2Bytes (length-line2 area h) in
     let up : speltLevels (heldOf area) ls ≡ map some (flatten (levelsOf area)) = ap (speltLevels (heldOf area)) (sym (append-nil ls)) ∙ levels-back 1 [] fit in
     rw head
@@ -121,8 +128,9 @@ head-spelt fs text head b e =
       words = λ c. below-append (below-take 6 (r .words c)) (below-append (spelt-below (speltWords 8 up) (k .0) (speltWords-fits 8 up) (k .1)) (below-drop 8 (below-drop 6 (r .words c))));
     })
 
-pub length-speltHead : (text head : List ℕ) → speltHead line1Fields text ≡ some head → length head ≡ headWords
-length-speltHead text head e = head-spelt line1Fields text head sizes-word e .size
+module _ (w : ℕ) (small : w ≤ roundsBytes) where
+  pub length-speltHead : (text head : List ℕ) → speltHead (line1Fields w) text ≡ some head → length head ≡ headWords
+  length-speltHead text head e = head-spelt (line1Fields w) text head (sizes-word w small) e .size
 
 length-speltLevels : (hs : List Bool) (text : List ℕ) → length (speltLevels hs text) ≡ length hs * blockWords
 unfolding emptyLevel
@@ -137,41 +145,84 @@ speltLevels-fits [] text = no-word
 speltLevels-fits (true ∷ hs) text = fits-append (speltWords-fits 64 (drop 2 text)) (speltLevels-fits hs (drop levelBytes text))
 speltLevels-fits (false ∷ hs) text = fits-append (known-fits (below-zeros (2 ^ 64) 64 (omega arith))) (speltLevels-fits hs text)
 
--- it comes from a head
-pub record Headed (text area : List ℕ) : Type 0 where
+-- with r in w bytes, it comes from a head
+pub record Headed (w : ℕ) (text area : List ℕ) : Type 0 where
   pub head : List ℕ
-  pub spelt : speltHead line1Fields text ≡ some head
-  pub whole : allSpelt (map some head ++ speltLevels (heldOf head) (drop headBytes text)) ≡ some area
+  pub spelt : speltHead (line1Fields w) text ≡ some head
+  pub whole : allSpelt (map some head ++ speltLevels (heldOf head) (drop (headBytes w) text)) ≡ some area
 
-pub headed : (text area : List ℕ) → speltArea text ≡ some area → Headed text area
+pub headed : (w : ℕ) (text area : List ℕ) → speltArea w text ≡ some area → Headed w text area
 unfolding speltArea
-headed text area e =
-    let s = spelt-parts (speltHead line1Fields text) (λ (head : List ℕ). allSpelt (map some head ++ speltLevels (heldOf head) (drop headBytes text))) area e in
+headed w text area e =
+    let s = spelt-parts (speltHead (line1Fields w) text) (λ (head : List ℕ). allSpelt (map some head ++ speltLevels (heldOf head) (drop (headBytes w) text))) area e in
     record { head = s .0; spelt = s .1; whole = s .2 }
 
--- and begins with it
-pub headed-front : (text area : List ℕ) (h : Headed text area) → take headWords area ≡ h .head
-headed-front text area h =
-    ap (λ (n : ℕ). take n area) (sym (length-speltHead text (h .head) (h .spelt)))
-    ∙ known-front (h .head) area (speltLevels (heldOf (h .head)) (drop headBytes text)) (h .whole)
+module _ (w : ℕ) (small : w ≤ roundsBytes) (text area : List ℕ) where
+  -- and begins with it
+  pub headed-front : (h : Headed w text area) → take headWords area ≡ h .head
+  headed-front h =
+      ap (λ (n : ℕ). take n area) (sym (length-speltHead w small text (h .head) (h .spelt)))
+      ∙ known-front (h .head) area (speltLevels (heldOf (h .head)) (drop (headBytes w) text)) (h .whole)
 
-pub length-speltArea : (text area : List ℕ) → speltArea text ≡ some area → length area ≡ areaWords
-length-speltArea text area e =
-    let h = headed text area e in
-    let hs : List Bool = heldOf (h .head) in
-    let up : List (Option ℕ) = speltLevels hs (drop headBytes text) in
-    spelt-length (map some (h .head) ++ up) area (h .whole)
-    ∙ length-append (map some (h .head)) up
-    ∙ rw (
-      length-map (h .head) some,
-      length-speltHead text (h .head) (h .spelt),
-      length-speltLevels hs (drop headBytes text),
-      length-heldLevels (phaseOf (h .head)) (getD (h .head) 4 0) (totalOf (h .head)),
-    )
+  pub length-speltArea : speltArea w text ≡ some area → length area ≡ areaWords
+  length-speltArea e =
+      let h = headed w text area e in
+      let hs : List Bool = heldOf (h .head) in
+      let up : List (Option ℕ) = speltLevels hs (drop (headBytes w) text) in
+      spelt-length (map some (h .head) ++ up) area (h .whole)
+      ∙ length-append (map some (h .head)) up
+      ∙ rw (
+        length-map (h .head) some,
+        length-speltHead w small text (h .head) (h .spelt),
+        length-speltLevels hs (drop (headBytes w) text),
+        length-heldLevels (phaseOf (h .head)) (getD (h .head) 4 0) (totalOf (h .head)),
+      )
 
-pub speltArea-below : (text area : List ℕ) → speltArea text ≡ some area → Below (2 ^ 64) area
-speltArea-below text area e =
-    let h = headed text area e in
-    let up : List (Option ℕ) = speltLevels (heldOf (h .head)) (drop headBytes text) in
-    let b : Below (2 ^ 64) (h .head) = head-spelt line1Fields text (h .head) sizes-word (h .spelt) .words (below-zeros (2 ^ 64) headWords (omega arith)) in
-    spelt-below (map some (h .head) ++ up) area (fits-append (known-fits b) (speltLevels-fits (heldOf (h .head)) (drop headBytes text))) (h .whole)
+  pub speltArea-below : speltArea w text ≡ some area → Below (2 ^ 64) area
+  speltArea-below e =
+      let h = headed w text area e in
+      let up : List (Option ℕ) = speltLevels (heldOf (h .head)) (drop (headBytes w) text) in
+      let b : Below (2 ^ 64) (h .head) = head-spelt (line1Fields w) text (h .head) (sizes-word w small) (h .spelt) .words (below-zeros (2 ^ 64) headWords (omega arith)) in
+      spelt-below (map some (h .head) ++ up) area (fits-append (known-fits b) (speltLevels-fits (heldOf (h .head)) (drop (headBytes w) text))) (h .whole)
+
+-- ---- the word of r, which the second field of line 1 spells and no other
+
+-- a word that no field tells stays
+abbrev Untold : ℕ → List Field → Type 0
+Untold i [] = Unit {0}
+Untold i (f ∷ fs) = (i ≡ f .word → ⊥) × Untold i fs
+
+fields-keep : (fs : List Field) (i : ℕ) (text ws vs : List ℕ) → Untold i fs → speltFields fs text ws ≡ some vs → getD vs i 0 ≡ getD ws i 0
+fields-keep [] i text ws vs t e = let k : ws ≡ vs = cc in rw k
+fields-keep (f ∷ fs) i text ws vs t e =
+    let n : ℕ = digitsOf f in
+    let s = spelt-parts (spelt 0 (take n text)) (λ (x : ℕ). speltFields fs (drop n text) (set ws (f .word) x)) vs e in
+    fields-keep fs i (drop n text) (set ws (f .word) (s .0)) vs (t .1) (s .2) ∙ getD-set-other ws (f .word) i (s .0) 0 (t .0)
+
+fields-rounds : (w : ℕ) (text vs : List ℕ) → speltFields (line1Fields w) text (replicate headWords 0) ≡ some vs → RoundsFit w vs
+fields-rounds w text vs e =
+    let zeros : List ℕ = replicate headWords 0 in
+    let n : ℕ = 2 * w in
+    let up : List Field = drop 2 (line1Fields w) in
+    let a = spelt-parts (spelt 0 (take 2 text)) (λ (x : ℕ). speltFields (drop 1 (line1Fields w)) (drop 2 text) (set zeros 0 x)) vs e in
+    let ws : List ℕ = set zeros 0 (a .0) in
+    let b = spelt-parts (spelt 0 (take n (drop 2 text))) (λ (x : ℕ). speltFields up (drop n (drop 2 text)) (set ws 5 x)) vs (a .2) in
+    let other : Untold 5 up = (λ e. omega (arith, e), (λ e. omega (arith, e), (λ e. omega (arith, e), (λ e. omega (arith, e), (λ e. omega (arith, e), tt))))) in
+    let is : getD vs 5 0 ≡ b .0 = fields-keep up 5 (drop n (drop 2 text)) (set ws 5 (b .0)) vs other (b .2) ∙ getD-set-same ws 5 (b .0) 0 (omega arith) in
+    rw (is, pow-16 n) (spelt-lt n (b .0) (take n (drop 2 text)) (rw length-take (omega arith)) (b .1))
+
+-- so r is below what its bytes hold
+pub rounds-below : (w : ℕ) → w ≤ roundsBytes → (text area : List ℕ) → speltArea w text ≡ some area → RoundsFit w area
+unfolding speltHead
+rounds-below w small text area e =
+    let h = headed w text area e in
+    let up : List ℕ = drop (line1Bytes (line1Fields w)) text in
+    let f = spelt-parts (speltFields (line1Fields w) text (replicate headWords 0)) (λ (ws : List ℕ). withSpelt (allSpelt (speltWords 8 up)) (λ (key : List ℕ). some (put 6 8 ws key))) (h .head) (h .spelt) in
+    let k = spelt-parts (allSpelt (speltWords 8 up)) (λ (key : List ℕ). some (put 6 8 (f .0) key)) (h .head) (f .2) in
+    let size : length (f .0) ≡ headWords = fields-spelt (line1Fields w) text (replicate headWords 0) (f .0) (sizes-word w small) (f .1) .size in
+    let is : getD area 5 0 ≡ getD (f .0) 5 0 =
+    sym (getD-take headWords area 5 0 (omega arith))
+    ∙ ap (λ (l : List ℕ). getD l 5 0) (headed-front w small text area h ∙ sym (Option·some-injective (put 6 8 (f .0) (k .0)) (h .head) (k .2)))
+    ∙ in-front (take 6 (f .0)) (k .0 ++ drop 8 (drop 6 (f .0))) 6 5 (length-take-le 6 (f .0) (omega arith)) (omega arith)
+    ∙ getD-take 6 (f .0) 5 0 (omega arith) in
+    rw is (fields-rounds w text (f .0) (f .1))

@@ -3,7 +3,7 @@ ghost use mathlib.Core.Path.{_≡_};
 ghost use Prim.Native.Nat.{_≤_};
 ghost use lib.ListN.{length};
 ghost use Rattle.calls.specs.Area.{headWords, Long, areaLevels};
-ghost use Rattle.text.specs.Text.{textOf};
+ghost use Rattle.text.specs.Text.{roundsBytes, textWith};
 ghost use Rattle.text.specs.Lines.{hasLineAt};
 use super::lines;
 use area::Area;
@@ -34,12 +34,12 @@ pub fn has_line(area: &[u64], level: u64) -> bool
     outputs % 4 != 0
 }
 
-// The bytes of an area's text.
-pub fn text_bytes(area: &[u64]) -> usize
-    requires { ⌜ Long (now area) ⌝ }
-    ensures { λ r. ⌜ r ≡ length (textOf (now (area .entry))) ⌝ }
+// The bytes of an area's text, by the width of r.
+pub fn text_bytes(area: &[u64], width: usize) -> usize
+    requires { ⌜ Long (now area) × (width ≤ roundsBytes) ⌝ }
+    ensures { λ r. ⌜ r ≡ length (textWith width (now (area .entry))) ⌝ }
 {
-    let mut n: usize = lines::HEAD;
+    let mut n: usize = lines::head_bytes(width);
     let mut k: u64 = 0;
     while k < Params::LEVELS {
         k += 1;

@@ -1,4 +1,5 @@
-// A suspended stream as text. Document 01, "Suspended text".
+// A suspended stream as text. Document 01, "Suspended text"; M-108: line 1 holds r in two bytes, and old lines, which have one, are
+// still read.
 ghost use mathlib.Core.Path.{_≡_};
 ghost use Rattle.text.specs.Text.{writeOf, readOf};
 use area::Area;
@@ -9,7 +10,7 @@ mod lines; // lines.rt: the lines of a text
 mod put; // put.rt: an area's text
 mod spell; // spell.rt: the area that a text spells
 
-// Writes the text of an area.
+// Writes the text of an area, in the new form.
 pub fn write(area: &[u64], text: &mut [u8]) -> Answer
     ensures { λ o. ⌜ record { number = o .number; count = o .count; text = now (text .exit) } ≡ writeOf (now (area .entry)) (now (text .entry)) ⌝ }
 {
@@ -19,15 +20,16 @@ pub fn write(area: &[u64], text: &mut [u8]) -> Answer
     if !area::is_sound(area) {
         return Answer::refused(7);
     }
-    let bytes = held::text_bytes(area);
+    let bytes = held::text_bytes(area, lines::ROUNDS_BYTES);
     if text.len() < bytes {
         return Answer::refused(9);
     }
-    put::put_text(&mut text[0..bytes], area);
+    put::put_text(&mut text[0..bytes], area, lines::ROUNDS_BYTES);
     Answer::accepted(bytes as u64)
 }
 
-// Reads a text into an area, whatever it held. Nothing is stored before the text is known to be one that a sound area writes.
+// Reads a text into an area, whatever it held. Nothing is stored before the text is known to be one that a sound area
+// writes, or wrote before M-108.
 pub fn read(area: &mut [u64], text: &[u8]) -> Answer
     ensures { λ o. ⌜ record { number = o .number; count = o .count; area = now (area .exit) } ≡ readOf (now (area .entry)) (now (text .entry)) ⌝ }
 {

@@ -4,14 +4,21 @@ ghost use mathlib.Core.List.{_++_};
 ghost use Prim.Native.Nat.{_≤_};
 ghost use lib.ListN.{length};
 ghost use Rattle.calls.specs.Area.{headWords, levelWords, Long, areaLevels};
-ghost use Rattle.text.specs.Text.{line1Fields, line1, line2, levelLine, line1Bytes, levelBytes, headBytes};
+ghost use Rattle.text.specs.Text.{roundsBytes, line1Fields, line1, line2, levelLine, line1Bytes, levelBytes, headBytes};
+ghost use Rattle.text.specs.FieldLaws.{fieldSizes};
+ghost use Rattle.text.specs.ReadForms.{formOf};
 use area::Area;
 use refusals::Params;
 
 // The byte that ends a line.
 const END: u8 = 10;
 
-// The fields of line 1 in their order: the area's word that each tells, and its digits.
+// The bytes of r in line 1, its width: in what writing gives, and in what it gave before M-108.
+pub const ROUNDS_BYTES: usize = 2;
+
+pub const OLD_ROUNDS_BYTES: usize = 1;
+
+// The fields of line 1 in their order: the area's word that each tells.
 pub const FIELDS: usize = 7;
 
 pub const FIELD_WORD: [usize; FIELDS] = [
@@ -24,42 +31,79 @@ pub const FIELD_WORD: [usize; FIELDS] = [
     Area::DONE,
 ];
 
-pub const FIELD_DIGITS: [usize; FIELDS] = [2, 2, 2, 2, 4, 16, 16];
-
-// The digits of each line: of line 1, those of its fields; of line 2, 128; of a level's number; and of that and the level's
+// The digits of each line: of line 1, those of its fields but r; of line 2, 128; of a level's number; and of that and the level's
 // words, 1,026.
-const LINE1_DIGITS: usize = 44;
+const OTHER_DIGITS: usize = 42;
 
 const WORD_DIGITS: usize = 16;
 
-const LINE2_DIGITS: usize = WORD_DIGITS * (Area::KEY_END - Area::KEY);
+pub const LINE2_DIGITS: usize = WORD_DIGITS * (Area::KEY_END - Area::KEY);
 
 pub const NUMBER_DIGITS: usize = 2;
 
 pub const LEVEL_DIGITS: usize = NUMBER_DIGITS + WORD_DIGITS * Area::LEVEL;
 
-// The bytes of line 1 with its end, of the first two lines without and with the end of the second, of a level's line, and of
-// the longest text.
-pub const LINE1: usize = LINE1_DIGITS + 1;
-
-pub const HEAD_END: usize = LINE1 + LINE2_DIGITS;
-
-pub const HEAD: usize = HEAD_END + 1;
+// The bytes of line 2 and of a level's line, with their ends; of the longest text; and, before the end, of an old line 1.
+const LINE2: usize = LINE2_DIGITS + 1;
 
 pub const LEVEL: usize = LEVEL_DIGITS + 1;
 
-pub const MOST: usize = HEAD + Params::LEVELS as usize * LEVEL;
+pub const MOST: usize = OTHER_DIGITS
+    + 2 * ROUNDS_BYTES
+    + 1
+    + LINE2
+    + Params::LEVELS as usize * LEVEL;
+
+const OLD_LINE1: usize = OTHER_DIGITS + 2 * OLD_ROUNDS_BYTES;
+
+// The digits of each field of line 1, by the width of r.
+pub fn field_digits(width: usize) -> [usize; FIELDS]
+    requires { ⌜ width ≤ roundsBytes ⌝ }
+    ensures { λ r. ⌜ r ≡ fieldSizes (line1Fields width) ⌝ }
+{
+    [2, 2 * width, 2, 2, 4, 16, 16]
+}
+
+// The bytes of line 1 with its end.
+pub fn line1_bytes(width: usize) -> usize
+    requires { ⌜ width ≤ roundsBytes ⌝ }
+    ensures { λ r. ⌜ r ≡ line1Bytes (line1Fields width) ⌝ }
+{
+    OTHER_DIGITS + 2 * width + 1
+}
+
+// The bytes of the first two lines with their ends.
+pub fn head_bytes(width: usize) -> usize
+    requires { ⌜ width ≤ roundsBytes ⌝ }
+    ensures { λ r. ⌜ r ≡ headBytes width ⌝ }
+{
+    line1_bytes(width) + LINE2
+}
+
+// The bytes of r in a text's line 1, if it is one that is read: one if the line ends where it did before M-108, otherwise two.
+pub fn width_of(text: &[u8]) -> usize
+    ensures { λ r. ⌜ r ≡ formOf (now (text .entry)) ⌝ }
+{
+    if text.len() <= OLD_LINE1 {
+        return ROUNDS_BYTES;
+    }
+    if text[OLD_LINE1] == END {
+        return OLD_ROUNDS_BYTES;
+    }
+    ROUNDS_BYTES
+}
 
 // Phase, r, L, key bytes, d, total and compressions.
-fn put_line1(part: &mut [u8], area: &[u64])
-    requires { ⌜ (length (now part) ≡ line1Bytes line1Fields) × (headWords ≤ length (now area)) ⌝ }
-    ensures { λ _. ⌜ now (part .exit) ≡ line1 line1Fields (now (area .entry)) ⌝ }
+fn put_line1(part: &mut [u8], area: &[u64], width: usize)
+    requires { ⌜ (width ≤ roundsBytes) × (length (now part) ≡ line1Bytes (line1Fields width)) × (headWords ≤ length (now area)) ⌝ }
+    ensures { λ _. ⌜ now (part .exit) ≡ line1 (line1Fields width) (now (area .entry)) ⌝ }
 {
+    let sizes = field_digits(width);
     let mut a: usize = 0;
     let mut i = 0;
     while i < FIELDS {
         let w = FIELD_WORD[i];
-        let e = a + FIELD_DIGITS[i];
+        let e = a + sizes[i];
         digits::put_digits(&mut part[a..e], area[w]);
         a = e;
         i += 1;
@@ -68,13 +112,15 @@ fn put_line1(part: &mut [u8], area: &[u64])
 }
 
 // The first two lines: the fields, and the key.
-pub fn put_head(part: &mut [u8], area: &[u64])
-    requires { ⌜ (length (now part) ≡ headBytes) × (headWords ≤ length (now area)) ⌝ }
-    ensures { λ _. ⌜ now (part .exit) ≡ line1 line1Fields (now (area .entry)) ++ line2 (now (area .entry)) ⌝ }
+pub fn put_head(part: &mut [u8], area: &[u64], width: usize)
+    requires { ⌜ (width ≤ roundsBytes) × (length (now part) ≡ headBytes width) × (headWords ≤ length (now area)) ⌝ }
+    ensures { λ _. ⌜ now (part .exit) ≡ line1 (line1Fields width) (now (area .entry)) ++ line2 (now (area .entry)) ⌝ }
 {
-    put_line1(&mut part[0..LINE1], area);
-    digits::put_words(&mut part[LINE1..HEAD_END], &area[Area::KEY..Area::KEY_END]);
-    part[HEAD_END] = END;
+    let a = line1_bytes(width);
+    let e = a + LINE2_DIGITS;
+    put_line1(&mut part[0..a], area, width);
+    digits::put_words(&mut part[a..e], &area[Area::KEY..Area::KEY_END]);
+    part[e] = END;
 }
 
 // A level's number and its words.

@@ -1,8 +1,9 @@
 // An area's text into a part of its length.
 ghost use mathlib.Core.Path.{_≡_};
+ghost use Prim.Native.Nat.{_≤_};
 ghost use lib.ListN.{length};
 ghost use Rattle.calls.specs.Area.{Long};
-ghost use Rattle.text.specs.Text.{textOf};
+ghost use Rattle.text.specs.Text.{roundsBytes, textWith};
 ghost use Rattle.text.specs.Lines.{linesAbove};
 use super::held;
 use super::lines;
@@ -25,11 +26,12 @@ fn put_levels(part: &mut [u8], area: &[u64])
     }
 }
 
-// The whole text.
-pub fn put_text(part: &mut [u8], area: &[u64])
-    requires { ⌜ Long (now area) × (length (now part) ≡ length (textOf (now area))) ⌝ }
-    ensures { λ _. ⌜ now (part .exit) ≡ textOf (now (area .entry)) ⌝ }
+// The whole text, by the width of r.
+pub fn put_text(part: &mut [u8], area: &[u64], width: usize)
+    requires { ⌜ Long (now area) × (width ≤ roundsBytes) × (length (now part) ≡ length (textWith width (now area))) ⌝ }
+    ensures { λ _. ⌜ now (part .exit) ≡ textWith width (now (area .entry)) ⌝ }
 {
-    lines::put_head(&mut part[0..lines::HEAD], area);
-    put_levels(&mut part[lines::HEAD..], area);
+    let head = lines::head_bytes(width);
+    lines::put_head(&mut part[0..head], area, width);
+    put_levels(&mut part[head..], area);
 }

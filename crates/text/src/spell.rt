@@ -7,7 +7,7 @@ ghost use Prim.Native.Nat.{_≤_};
 ghost use lib.ListN.{length, take, drop, replicate};
 ghost use Rattle.calls.specs.Area.{headWords, areaWords, Long, areaLevels};
 ghost use Rattle.digits.specs.Digits.{allSpelt};
-ghost use Rattle.text.specs.Text.{line1Fields, heldOf, textOf, levelBytes, headBytes, speltHead, speltLevels, speltArea, same, readable};
+ghost use Rattle.text.specs.Text.{roundsBytes, line1Fields, heldOf, textWith, levelBytes, headBytes, speltHead, speltLevels, same, readable, readArea};
 ghost use Rattle.text.specs.Lines.{zeroLevels, linesAbove, LevelSpelt, Spelt};
 use super::held;
 use super::lines;
@@ -17,15 +17,16 @@ use digits::Reading;
 use refusals::Params;
 
 // Words 0 to 15 from the first two lines, into words that are zero. Answers false at the first byte that is no digit.
-fn spell_head(head: &mut [u64], text: &[u8]) -> bool
-    requires { ⌜ (now head ≡ replicate headWords 0) × (headBytes ≤ length (now text)) ⌝ }
-    ensures { λ r. ⌜ cond r (some (now (head .exit))) none ≡ speltHead line1Fields (now (text .entry)) ⌝ }
+fn spell_head(head: &mut [u64], text: &[u8], width: usize) -> bool
+    requires { ⌜ (now head ≡ replicate headWords 0) × (width ≤ roundsBytes) × (headBytes width ≤ length (now text)) ⌝ }
+    ensures { λ r. ⌜ cond r (some (now (head .exit))) none ≡ speltHead (line1Fields width) (now (text .entry)) ⌝ }
 {
+    let sizes = lines::field_digits(width);
     let mut a: usize = 0;
     let mut i = 0;
     while i < lines::FIELDS {
         let w = lines::FIELD_WORD[i];
-        let e = a + lines::FIELD_DIGITS[i];
+        let e = a + sizes[i];
         match digits::number(&text[a..e]) {
             Reading::Number(x) => head[w] = x,
             Reading::NoDigit => return false,
@@ -33,10 +34,9 @@ fn spell_head(head: &mut [u64], text: &[u8]) -> bool
         a = e;
         i += 1;
     }
-    digits::spell_words(
-        &mut head[Area::KEY..Area::KEY_END],
-        &text[lines::LINE1..lines::HEAD_END],
-    )
+    let from = lines::line1_bytes(width);
+    let to = from + lines::LINE2_DIGITS;
+    digits::spell_words(&mut head[Area::KEY..Area::KEY_END], &text[from..to])
 }
 
 // A level from its line. Answers false at the first byte of its words that is no digit.
@@ -73,22 +73,23 @@ fn spell_levels(area: &mut [u64], text: &[u8]) -> bool
     true
 }
 
-// The area that a text spells, into words that are zero. Answers false if a digit is refused or the text is not as long as that
-// area's.
-fn spell_area(area: &mut [u64], text: &[u8]) -> bool
-    requires { ⌜ now area ≡ replicate areaWords 0 ⌝ }
-    ensures { λ r. ⌜ Spelt r (now (text .entry)) (now (area .exit)) ⌝ }
+// The area that a text with this width of r spells, into words that are zero. Answers false if a digit is refused or the text is
+// not as long as that area's.
+fn spell_area(area: &mut [u64], text: &[u8], width: usize) -> bool
+    requires { ⌜ (now area ≡ replicate areaWords 0) × (width ≤ roundsBytes) ⌝ }
+    ensures { λ r. ⌜ Spelt width r (now (text .entry)) (now (area .exit)) ⌝ }
 {
-    if text.len() < lines::HEAD {
+    let head = lines::head_bytes(width);
+    if text.len() < head {
         return false;
     }
-    if !spell_head(&mut area[0..Area::HEAD], text) {
+    if !spell_head(&mut area[0..Area::HEAD], text, width) {
         return false;
     }
-    if text.len() != held::text_bytes(area) {
+    if text.len() != held::text_bytes(area, width) {
         return false;
     }
-    spell_levels(area, &text[lines::HEAD..])
+    spell_levels(area, &text[head..])
 }
 
 // Whether two parts of one length hold the same bytes.
@@ -107,27 +108,28 @@ fn same_bytes(x: &[u8], y: &[u8]) -> bool
 }
 
 // Whether an area's text is the given one, which is as long: it is written again and compared.
-fn writes(area: &[u64], text: &[u8]) -> bool
-    requires { ⌜ Long (now area) × (length (now text) ≡ length (textOf (now area))) ⌝ }
-    ensures { λ r. ⌜ r ≡ same (textOf (now (area .entry))) (now (text .entry)) ⌝ }
+fn writes(area: &[u64], text: &[u8], width: usize) -> bool
+    requires { ⌜ Long (now area) × (width ≤ roundsBytes) × (length (now text) ≡ length (textWith width (now area))) ⌝ }
+    ensures { λ r. ⌜ r ≡ same (textWith width (now (area .entry))) (now (text .entry)) ⌝ }
 {
     let mut again = [0u8; lines::MOST];
     let n = text.len();
-    put::put_text(&mut again[0..n], area);
+    put::put_text(&mut again[0..n], area, width);
     same_bytes(&again[0..n], text)
 }
 
-// Whether a text is what writing some sound area gives. The words that are lent are zero before; if it is, they hold that area
-// afterwards; if not, what they hold is left open.
+// Whether a text is what writing some sound area gives, or gave before M-108. The words that are lent are zero before; if it is, they
+// hold that area afterwards; if not, what they hold is left open.
 pub fn is_readable(area: &mut [u64], text: &[u8]) -> bool
     requires { ⌜ now area ≡ replicate areaWords 0 ⌝ }
-    ensures { λ r. ⌜ (r ≡ readable (now (text .entry))) × (r ≡ true → speltArea (now (text .entry)) ≡ some (now (area .exit))) ⌝ }
+    ensures { λ r. ⌜ (r ≡ readable (now (text .entry))) × (r ≡ true → readArea (now (text .entry)) ≡ some (now (area .exit))) ⌝ }
 {
-    if !spell_area(area, text) {
+    let width = lines::width_of(text);
+    if !spell_area(area, text, width) {
         return false;
     }
     let fits = area::is_sound(area);
-    if !writes(area, text) {
+    if !writes(area, text, width) {
         return false;
     }
     fits

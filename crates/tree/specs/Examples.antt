@@ -7,8 +7,9 @@ use mathlib.Core.List.{List, [], _∷_, map}
 use Prim.Native.Nat.{ℕ, _-_, _^_}
 use lib.ListN.{length, replicate, getD}
 use Rattle.bits.specs.Bits.{bitsOf, numbers}
-use Rattle.compress.specs.Compress.{S, nextS, stepped, word, grown, compressed}
-use Rattle.tree.specs.Tree.{Params, Mark, keyWords, output, noChain, noNode, digest, order}
+use Rattle.constants.specs.Constants.{S, nextS}
+use Rattle.compress.specs.Compress.{stepped, word, grown, compressed}
+use Rattle.tree.specs.Tree.{Params, Mark, mostRounds, nodeV, keyWords, output, noChain, noNode, digest, order}
 use Rattle.tree.specs.Sizes.{treeNodes}
 
 -- a row: bits, d and L; nodes and digest; and each U or V that the row names, with the node's place in the order
@@ -65,6 +66,11 @@ pub first-example : digest (record { key = []; d = 256; limit = 64; rounds = 5 }
     ≡ numbers 8 32 (bitsOf 64 (0x8854c14dc284f840 ∷ 0xed71ad7ba542855c ∷ 0xe189633e48c797a5 ∷ 0x5121a746be48cec8 ∷ []))
 unfolding numbers keyWords output compressed grown word stepped S nextS
 first-example = refl
+
+-- M-108: "V has twelve bits for them": V of that example's node (r = 005), and with the most rounds
+pub most-rounds : map (λ (r : ℕ). nodeV (record { key = []; d = 256; limit = 64; rounds = r }) 1 4072) (5 ∷ mostRounds ∷ [])
+    ≡ 0x00054010fe800100 ∷ 0x0fff4010fe800100 ∷ []
+most-rounds = refl
 
 -- the formula at edges, up to the longest message: limit, bits and nodes
 abbrev pub edges : List (ℕ × ℕ × ℕ)

@@ -6,7 +6,8 @@ use mathlib.Core.List.{List, [], _∷_, map, flatten}
 use Prim.Native.Nat.{ℕ}
 use lib.ListN.{take, getD, replicate}
 use Rattle.bits.specs.Bits.{bitsOf, numbers}
-use Rattle.compress.specs.Compress.{S, nextS, stepped, word, grown, compressed}
+use Rattle.constants.specs.Constants.{S, nextS}
+use Rattle.compress.specs.Compress.{stepped, word, grown, compressed}
 use Rattle.tree.specs.Tree.{Params, Mark, keyWords, output, noChain, digest, order}
 
 -- U and V of the nodes, in their order

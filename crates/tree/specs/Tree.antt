@@ -24,7 +24,8 @@ outputBits = 1024
 abbrev pub mostLevels : ℕ
 mostLevels = 27
 
--- the ranges of document 01's table: the bytes of a key, the bits d of a digest, the height limit L and the rounds r at most
+-- the ranges of document 01's table: the bytes of a key, the bits d of a digest, the height limit L and the rounds r at most; r
+-- since M-108: "Number 4 is now for r over 4,095"
 abbrev pub mostKeyBytes : ℕ
 mostKeyBytes = 64
 
@@ -35,7 +36,7 @@ abbrev pub mostLimit : ℕ
 mostLimit = 64
 
 abbrev pub mostRounds : ℕ
-mostRounds = 255
+mostRounds = 4095
 
 -- the key's bytes, the digest size in bits d, the height limit L and the rounds r
 pub record Params : Type 0 where

@@ -8,11 +8,11 @@ use Rattle.closing.proofs.close_above.Statement.{statement}
 use Rattle.closing.proofs.close_above.Tie as tie
 
 abbrev Inv-loop : tie.InvT-loop
-Inv-loop area params key table levels outputs log₀ start n₀ i₀ out₀ at₀ k₀ log n i out at k =
+Inv-loop area params key constants levels outputs log₀ start n₀ i₀ out₀ at₀ k₀ log n i out at k =
     Closing (paramsFrom key params) (closedUp (paramsFrom key params) levels 2 outputs out₀ area) area log₀ start n k i out log at
 
 abbrev μ-loop : tie.MeasureT-loop
-μ-loop area params key table levels outputs log₀ start n₀ i₀ out₀ at₀ k₀ log n i out at k = areaLevels + 1 - k
+μ-loop area params key constants levels outputs log₀ start n₀ i₀ out₀ at₀ k₀ log n i out at k = areaLevels + 1 - k
 
 loop-holds : tie.Need-loop-holds Inv-loop μ-loop
 loop-holds c = close-start (c .before .before .before .before .pre)

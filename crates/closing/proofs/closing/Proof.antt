@@ -11,13 +11,13 @@ use Rattle.closing.proofs.closing.Tie as tie
 
 close-levels-requires : tie.Need-close-levels-requires
 close-levels-requires c κs =
-    let round-constants = c .before .before .before .before in
-    let params = round-constants .before in
+    let made = c .before .before .before .before in
+    let params = made .before in
     let known = params .before .before in
     let start = known .before in
     let a = start .args in
     let area = a .area .now in
-    let ready = open-ready (start .pre .0) (round-constants .round-constants .result) (words-below area (known .shared-slice-known .given)) (round-constants .round-constants .ensures) (omega (arith, round-constants .round-constants .ok)) in
+    let ready = open-ready (start .pre .0) (made .first-part .result) (words-below area (known .shared-slice-known .given)) (made .first-part .ensures) (omega (arith, made .first-part .ok)) in
     rw (params .params .ensures) record { ready = ready; long = start .pre .0 .long; room = rw (closed-read area) (start .pre .1) }
 
 returns : tie.Need-returns

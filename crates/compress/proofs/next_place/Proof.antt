@@ -9,15 +9,14 @@ use Rattle.compress.proofs.next_place.Statement.{statement}
 use Rattle.compress.proofs.next_place.Tie as tie
 
 returns : tie.Need-returns
-returns c = (search needs, omega arith, search needs, refl)
+returns c = ((search needs, search needs, search needs, search needs), omega arith, refl)
 
 returns-2 : tie.Need-returns-2
 returns-2 c =
     let a = c .before .before .before .before .before .before .args .a .now in
     let at = c .before .before .before .before .before .before .args .at in
     let full : at - 89 ≡ 256 = omega arith in (
-      search needs,
-      search needs,
+      (search needs, search needs, search needs, search needs),
       search needs,
       ap (take 89) (c .before .before .move-to-front .ensures) ∙ take-paste a 0 (drop 256 a) 89 zero-le (simp length-drop (omega arith)) ∙ rw full,
     )

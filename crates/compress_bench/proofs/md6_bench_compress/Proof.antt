@@ -7,16 +7,16 @@ use Rattle.compress_bench.proofs.md6_bench_compress.Statement.{statemen
 use Rattle.compress_bench.proofs.md6_bench_compress.Tie as tie
 
 abbrev Inv-loop : tie.InvT-loop
-Inv-loop window rounds times out t w₀ c₀ i₀ w c i = (i ≤ times) × (length c ≡ 16)
+Inv-loop window rounds times out first w₀ c₀ i₀ w c i = (i ≤ times) × (length c ≡ 16)
 
 abbrev μ-loop : tie.MeasureT-loop
-μ-loop window rounds times out t w₀ c₀ i₀ w c i = times - i
+μ-loop window rounds times out first w₀ c₀ i₀ w c i = times - i
 
 pub md6-bench-compress-spec : {M : Type 1} → statement M
 md6-bench-compress-spec =
     tie.close
     (tie.spec
-    Inv-loop μ-loop (λ c. search needs) (λ c. search needs) (λ c κs. search needs) (λ c. search needs)
-    (λ c. search needs) (λ c. search needs) (λ c κs. search needs) (λ c. search needs) (λ c κs. search needs)
+    Inv-loop μ-loop (λ c. search needs) (λ c. search needs) (λ c. search needs) (λ c κs. search needs)
+    (λ c. search needs) (λ c κs. search needs) (λ c. search needs) (λ c. search needs) (λ c κs. search needs)
     (λ c. search needs) (λ c. search needs) (λ c. search needs) (λ c. search needs) (λ c. search needs)
     (λ c. search needs) (λ c. search needs) (λ c κs. search needs) (λ c. search needs) (λ c. search needs))

@@ -5,10 +5,10 @@ use Rattle.compress_test.proofs.print_all.Statement.{statement}
 use Rattle.compress_test.proofs.print_all.Tie as tie
 
 abbrev Inv-loop : tie.InvT-loop
-Inv-loop node window table r₀ r = r ≤ 6
+Inv-loop node window first r₀ r = r ≤ 6
 
 abbrev μ-loop : tie.MeasureT-loop
-μ-loop node window table r₀ r = 6 - r
+μ-loop node window first r₀ r = 6 - r
 
 pub print-all-spec : {M : Type 1} → statement M
 print-all-spec =

@@ -17,15 +17,15 @@ use Rattle.hash.proofs.put_digest.Tie as tie
 
 root-requires : tie.Need-root-requires
 root-requires c κs =
-    let constants = c .before .before in
-    let k = constants .before in
+    let made = c .before .before in
+    let k = made .before in
     let known = k .before .before in
     let s = known .before .before in
     let a = s .args in
-    let table = constants .round-constants in
+    let first = made .first-part in
     let bytes = bytes-below (a .key .now) (known .shared-slice-known2 .given) in
     record {
-      ready = rw (k .key-words .ensures) (key-ready (a .key .now) (a .params) bytes (s .pre .1) (s .pre .0 .ranges) (table .result) (table .ensures) (omega (arith, table .ok)));
+      ready = rw (k .key-words .ensures) (key-ready (a .key .now) (a .params) bytes (s .pre .1) (s .pre .0 .ranges) (first .result) (first .ensures) (omega (arith, first .ok)));
       enough = s .pre .0 .enough;
     }
 

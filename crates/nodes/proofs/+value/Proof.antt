@@ -52,10 +52,10 @@ callees t = (
 )
 
 abbrev value-Inv-loop : value-lts.InvT-loop
-value-Inv-loop message span params k table level index z n block₀ j₀ block j = (j ≤ n) × (block ≡ childWords (λ i. spec.value (paramsFrom k params) (pieceBits (spanned message span)) (level - 1) i 0) 4 (4 * index) j) × (length block ≡ 64)
+value-Inv-loop message span params k constants level index z n block₀ j₀ block j = (j ≤ n) × (block ≡ childWords (λ i. spec.value (paramsFrom k params) (pieceBits (spanned message span)) (level - 1) i 0) 4 (4 * index) j) × (length block ≡ 64)
 
 abbrev value-μ-loop : value-lts.MeasureT-loop
-value-μ-loop message span params k table level index z n block₀ j₀ block j = n - j
+value-μ-loop message span params k constants level index z n block₀ j₀ block j = n - j
 
 value-leaf-requires : (t : ℕ) → value-lts.Need-leaf-requires (callees t) (value-at t) value.Post value-Inv-loop value-μ-loop
 value-leaf-requires t c κs = let s = c .before .before .before .before in (s .pre .1 .0, (rw (c .if1 .taken) at (s .pre .1 .1 .2), s .pre .1 .1 .3))

@@ -17,10 +17,10 @@ use Rattle.nodes.proofs.child_words.Statement.{statement}
 use Rattle.nodes.proofs.child_words.Tie as tie
 
 abbrev Inv-loop : tie.InvT-loop
-Inv-loop message span params k table index limit n rest₀ j₀ rest j = (j ≤ n) × (rest ≡ childWords (λ i. spec.value (paramsFrom k params) (pieceBits (spanned message span)) (params .limit) i 0) 3 (3 * index) j) × (length rest ≡ 48)
+Inv-loop message span params k constants index limit n rest₀ j₀ rest j = (j ≤ n) × (rest ≡ childWords (λ i. spec.value (paramsFrom k params) (pieceBits (spanned message span)) (params .limit) i 0) 3 (3 * index) j) × (length rest ≡ 48)
 
 abbrev μ-loop : tie.MeasureT-loop
-μ-loop message span params k table index limit n rest₀ j₀ rest j = n - j
+μ-loop message span params k constants index limit n rest₀ j₀ rest j = n - j
 
 nodes-at-requires : tie.Need-nodes-at-requires Inv-loop μ-loop
 nodes-at-requires c κs = c .before .before .before .pre .1 .0

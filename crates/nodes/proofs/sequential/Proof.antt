@@ -16,10 +16,10 @@ use Rattle.nodes.proofs.sequential.Statement.{statement}
 use Rattle.nodes.proofs.sequential.Tie as tie
 
 abbrev Inv-loop : tie.InvT-loop
-Inv-loop message span params k table nodes last₀ i₀ last i = (i ≤ nodes) × (last ≡ chain (paramsFrom k params) (params .limit) (pieceBits (spanned message span)) i) × (length last ≡ 16)
+Inv-loop message span params k constants nodes last₀ i₀ last i = (i ≤ nodes) × (last ≡ chain (paramsFrom k params) (params .limit) (pieceBits (spanned message span)) i) × (length last ≡ 16)
 
 abbrev μ-loop : tie.MeasureT-loop
-μ-loop message span params k table nodes last₀ i₀ last i = nodes - i
+μ-loop message span params k constants nodes last₀ i₀ last i = nodes - i
 
 loop-holds : tie.Need-loop-holds Inv-loop μ-loop
 loop-holds c = let a = c .before .before .before .before .args in (omega arith, sym (chain-zero (paramsFrom (a .k .now) (a .params)) (pieceBits (spanned (a .message .now) (a .span))) (a .params .limit)), refl)

@@ -1,7 +1,5 @@
 -- `piece::feed_nodes` meets its contract.
 use mathlib.Core.Path.{_∙_}
-use Prim.Native.Nat.{_≤_}
-use lib.ListN.{length}
 use Rattle.lists.specs.Slices.{words-below}
 use Rattle.bits.specs.PieceLaws.{spanned}
 use Rattle.climb.specs.OpenArea.{open-ready}
@@ -12,15 +10,13 @@ use Rattle.piece.proofs.feed_nodes.Tie as tie
 
 feed-bits-requires : tie.Need-feed-bits-requires
 feed-bits-requires c κs =
-    let round-constants = c .before .before .before .before in
-    let rc = round-constants in
-    let params = rc .before .before .before .before .before .before .before in
+    let made = c .before .before .before .before in
+    let params = made .before .before .before .before .before .before .before in
     let start = params .before .before .before .before .before in
     let a = start .args in
     let area = a .area .now in
-    let k = rc .before .before .copy .ensures ∙ key-copied area (start .pre .opened .long) in
-    let rows : 255 ≤ length (rc .round-constants .result) = omega arith in
-    let ready = open-ready (start .pre .opened) (rc .round-constants .result) (words-below area (params .before .before .before .before .slice-known .given)) (rc .round-constants .ensures) rows in
+    let k = made .before .before .copy .ensures ∙ key-copied area (start .pre .opened .long) in
+    let ready = open-ready (start .pre .opened) (made .first-part .result) (words-below area (params .before .before .before .before .slice-known .given)) (made .first-part .ensures) (omega arith) in
     rw (k, params .params .ensures)
     record { ready = ready; long = start .pre .opened .long; bits = start .pre .bits; total = start .pre .total; room = rw (fed-read area (spanned (a .piece .now) (a .span))) (start .pre .room) }
 
@@ -28,12 +24,12 @@ returns : tie.Need-returns
 returns c =
     let feed-bits = c .before .before .before .before in
     let fed = feed-bits in
-    let rc = fed .before .before .before .before .before in
-    let params = rc .before .before .before .before .before .before .before in
+    let made = fed .before .before .before .before .before in
+    let params = made .before .before .before .before .before .before .before in
     let start = params .before .before .before .before .before in
     let a = start .args in
     let area = a .area .now in
-    let k = rc .before .before .copy .ensures ∙ key-copied area (start .pre .opened .long) in
+    let k = made .before .before .copy .ensures ∙ key-copied area (start .pre .opened .long) in
     rw (k, params .params .ensures, fed-read area (spanned (a .piece .now) (a .span))) at (fed .feed-bits .ensures)
 
 pub feed-nodes-spec : {M : Type 1} → statement M

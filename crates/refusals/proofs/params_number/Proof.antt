@@ -2,7 +2,9 @@
 use mathlib.Core.Path.{refl, sym, _∙_}
 use borrow.Author.Needs.{needs}
 use borrow.Author.Tests.{lt-ltb, le-ltb}
+use native.Mathlib.Omega.{arith}
 use lib.ListN.{drop}
+use Rattle.tree.specs.Tree.{mostRounds}
 use Rattle.refusals.specs.Refusals.{sizeTests, rangeTests}
 use Rattle.refusals.specs.RefusalLaws.{first-part, passed}
 use Rattle.refusals.proofs.params_number.Statement.{statement}
@@ -27,7 +29,7 @@ returns-3 c =
     let size = limit .before .before .before in
     let a = size .before .args .params in
     let p = passed (sizeTests (a .d) (a .keylen)) refl (sym (size .size-number .ensures) ∙ limit .before .before .if1 .left) in
-    rw (p 0, p 1, p 2, le-ltb _ _ (limit .if2 .left), lt-ltb _ _ (c .if3 .taken))
+    rw (p 0, p 1, p 2, le-ltb _ _ (limit .if2 .left), lt-ltb mostRounds (a .rounds) (omega (arith, c .if3 .taken)))
 
 returns-4 : tie.Need-returns-4
 returns-4 c =

@@ -29,7 +29,7 @@ returns-3 c =
     let r = c .before .before .before .before .before .before .before .before .is-readable in
     let t = not-false (r .result) (c .before .before .before .before .before .before .if2 .left) in
     rw (c .accepted .ensures .0, c .accepted .ensures .1)
-    (read-done (a .area .now) (a .text .now) (r .last .0) _ (omega arith) (sym (r .ensures .0) ∙ t) (r .ensures .1 t) (c .before .before .before .copy .ensures))
+    (read-done (a .area .now) (a .text .now) (r .last .0) _ (omega arith) (sym (r .ensures .0) ∙ t) (r .ensures .1 t) (omega arith) (c .before .before .before .copy .ensures))
 
 pub read-spec : {M : Type 1} → statement M
 read-spec =

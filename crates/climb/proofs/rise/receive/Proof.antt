@@ -8,11 +8,11 @@ use Rattle.climb.proofs.rise.receive.Statement.{statement}
 use Rattle.climb.proofs.rise.receive.Tie as tie
 
 abbrev Inv-loop : tie.InvT-loop
-Inv-loop area₀ params key table levels outputs log₀ start n₀ i₀ out₀ at₀ k₀ area log n i out at k =
+Inv-loop area₀ params key constants levels outputs log₀ start n₀ i₀ out₀ at₀ k₀ area log n i out at k =
     Climb (paramsFrom key params) (received (paramsFrom key params) levels 2 outputs out₀ area₀) area₀ log₀ start n k i out area log at
 
 abbrev μ-loop : tie.MeasureT-loop
-μ-loop area₀ params key table levels outputs log₀ start n₀ i₀ out₀ at₀ k₀ area log n i out at k = areaLevels + 1 - k
+μ-loop area₀ params key constants levels outputs log₀ start n₀ i₀ out₀ at₀ k₀ area log n i out at k = areaLevels + 1 - k
 
 loop-holds : tie.Need-loop-holds Inv-loop μ-loop
 loop-holds c = climb-start (c .before .before .before .before .pre)

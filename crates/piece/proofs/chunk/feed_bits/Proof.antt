@@ -12,11 +12,11 @@ use Rattle.piece.proofs.chunk.feed_bits.Statement.{statement}
 use Rattle.piece.proofs.chunk.feed_bits.Tie as tie
 
 abbrev Inv-loop : tie.InvT-loop
-Inv-loop area₀ params key table total piece span log₀ done₀ at₀ area log done at =
+Inv-loop area₀ params key constants total piece span log₀ done₀ at₀ area log done at =
     Feeding (paramsFrom key params) total (pieceBits (spanned piece span)) area₀ log₀ area log at done
 
 abbrev μ-loop : tie.MeasureT-loop
-μ-loop area₀ params key table total piece span log₀ done₀ at₀ area log done at = span .bits - done
+μ-loop area₀ params key constants total piece span log₀ done₀ at₀ area log done at = span .bits - done
 
 loop-holds : tie.Need-loop-holds Inv-loop μ-loop
 loop-holds c =

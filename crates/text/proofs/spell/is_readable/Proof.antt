@@ -1,5 +1,13 @@
 -- `text::spell::is_readable` answers by the tests of Readable.
+use mathlib.Core.Bool.{Bool, true, false, cond}
+use mathlib.Core.List.{List}
+use Prim.Native.Nat.{ℕ, _≤_}
 use borrow.Author.Tests.{not-true, not-false}
+use lib.Dec.{eqb}
+use lib.ListN.{getD}
+use Rattle.text.specs.Text.{roundsBytes, oldRoundsBytes}
+use Rattle.text.specs.FormLaws.{oldEnd}
+use Rattle.text.specs.ReadForms.{formOf}
 use Rattle.text.specs.TextLaws.{length-speltArea}
 use Rattle.text.proofs.Readable.{not-spelt, other-text, decided}
 use native.Mathlib.Omega.{arith}
@@ -7,52 +15,72 @@ use borrow.Author.Needs.{needs}
 use Rattle.text.proofs.spell.is_readable.Statement.{statement}
 use Rattle.text.proofs.spell.is_readable.Tie as tie
 
+-- the width that the text tells is one of the two
+module _ (text : List ℕ) where
+  small : formOf text ≤ roundsBytes
+  unfolding formOf
+  small = by (eqb (getD text oldEnd 0) 10)
+    where
+      by : (b : Bool) → cond b oldRoundsBytes roundsBytes ≤ roundsBytes
+      by true = omega arith
+      by false = omega arith
+
+spell-area-requires : tie.Need-spell-area-requires
+spell-area-requires c κs =
+    let g = c .before .before .before .before in
+    (g .pre, omega (arith, c .before .width-of .ensures, small (g .args .text .now)))
+
 returns : tie.Need-returns
 returns c =
     let p = c .before .before .before in
-    let t = p .before .before .before .before .args .text .now in
+    let w = p .before .before .width-of in
+    let t = p .before .before .before .before .before .args .text .now in
     let s = p .spell-area in
-    not-spelt t (s .last .0) (s .result) (s .ensures) (not-true (s .result) (c .if1 .taken))
+    not-spelt (w .result) t (s .last .0) (s .result) (w .ensures) (s .ensures) (not-true (s .result) (c .if1 .taken))
 
 is-sound-requires : tie.Need-is-sound-requires
 is-sound-requires c κs =
     let p = c .before .before .before .before in
-    let t = p .before .before .before .before .args .text .now in
+    let w = p .before .before .width-of in
+    let t = p .before .before .before .before .before .args .text .now in
     let s = p .spell-area in
     let e = not-false (s .result) (c .before .if1 .left) in
-    omega (arith, length-speltArea t (s .last .0) (s .ensures .yes e .0))
+    omega (arith, length-speltArea (w .result) (omega (arith, w .ensures, small t)) t (s .last .0) (s .ensures .yes e .0))
 
 writes-requires : tie.Need-writes-requires
 writes-requires c κs =
     let p = c .before .before .before .before .before .before in
-    let t = p .before .before .before .before .args .text .now in
+    let w = p .before .before .width-of in
+    let t = p .before .before .before .before .before .args .text .now in
     let s = p .spell-area in
     let e = not-false (s .result) (c .before .before .before .if1 .left) in
     let y = s .ensures .yes e in
-    (omega (arith, length-speltArea t (s .last .0) (y .0)), y .1)
+    (omega (arith, length-speltArea (w .result) (omega (arith, w .ensures, small t)) t (s .last .0) (y .0)), omega (arith, w .ensures, small t), y .1)
 
 returns-2 : tie.Need-returns-2
 returns-2 c =
     let p = c .before .before .before .before .before .before .before .before in
-    let t = p .before .before .before .before .args .text .now in
+    let w = p .before .before .width-of in
+    let t = p .before .before .before .before .before .args .text .now in
     let s = p .spell-area in
     let e = not-false (s .result) (c .before .before .before .before .before .if1 .left) in
-    let w = c .before .writes in
-    other-text t (s .last .0) (s .result) (s .ensures) (w .result) e (w .ensures) (not-true (w .result) (c .if2 .taken))
+    let q = c .before .writes in
+    other-text (w .result) t (s .last .0) (s .result) (w .ensures) (s .ensures) (q .result) e (q .ensures) (not-true (q .result) (c .if2 .taken))
 
 returns-3 : tie.Need-returns-3
 returns-3 c =
     let p = c .before .before .before .before .before .before .before .before in
-    let t = p .before .before .before .before .args .text .now in
+    let w = p .before .before .width-of in
+    let t = p .before .before .before .before .before .args .text .now in
     let s = p .spell-area in
     let e = not-false (s .result) (c .before .before .before .before .before .if1 .left) in
-    let w = c .before .writes in
-    let q = c .before .before .before .is-sound in
-    decided t (s .last .0) (s .result) (s .ensures) (q .result) (w .result) e (q .ensures) (w .ensures) (not-false (w .result) (c .if2 .left))
+    let q = c .before .writes in
+    let k = c .before .before .before .is-sound in
+    decided (w .result) t (s .last .0) (s .result) (w .ensures) (s .ensures) (k .result) (q .result) e (k .ensures) (q .ensures) (not-false (q .result) (c .if2 .left))
 
 pub is-readable-spec : {M : Type 1} → statement M
 is-readable-spec =
     tie.close
     (tie.spec
-    (λ c κs. search needs) (λ c. search needs) returns is-sound-requires writes-requires (λ c. search needs)
+    (λ c κs. search needs) spell-area-requires (λ c. search needs) returns is-sound-requires writes-requires (λ c. search needs)
     returns-2 (λ c. search needs) returns-3)

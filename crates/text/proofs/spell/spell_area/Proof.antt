@@ -10,58 +10,68 @@ use Rattle.text.proofs.spell.spell_area.Statement.{statement}
 use Rattle.text.proofs.spell.spell_area.Tie as tie
 
 returns : tie.Need-returns
-returns c = short-text (c .before .before .before .args .text .now) (c .before .before .before .args .area .now) (c .if1 .taken)
+returns c =
+    let n = c .before .head-bytes in
+    let g = c .before .before .before .before in
+    short-text (g .args .width) (n .result) (g .pre .1) (n .ensures) (g .args .text .now) (g .args .area .now) (c .if1 .taken)
 
 part-spell-head-end : tie.Need-part-spell-head-end
-part-spell-head-end c = omega (arith, ap length (c .before .before .before .pre))
+part-spell-head-end c = omega (arith, ap length (c .before .before .before .before .pre .0))
 
 spell-head-requires : tie.Need-spell-head-requires
-spell-head-requires c κs = (ap (take headWords) (c .before .before .before .before .pre), omega arith)
+spell-head-requires c κs =
+    let g = c .before .before .before .before .before in
+    (ap (take headWords) (g .pre .0), g .pre .1, omega (arith, c .before .before .head-bytes .ensures))
 
 returns-2 : tie.Need-returns-2
 returns-2 c =
     let p = c .before .before .before in
-    let g = p .before .before .before .before .before in
+    let n = p .before .before .before .head-bytes in
+    let g = p .before .before .before .before .before .before in
     let h = p .spell-head in
-    head-refused (g .args .text .now) (h .last .0) (h .result) (g .pre) (h .ensures) (not-true (h .result) (c .if2 .taken))
+    head-refused (g .args .width) (n .result) (g .pre .1) (n .ensures) (g .args .text .now) (h .last .0) (h .result) (g .pre .0) (h .ensures) (not-true (h .result) (c .if2 .taken))
 
 text-bytes-requires : tie.Need-text-bytes-requires
 text-bytes-requires c κs =
     let p = c .before .before .before .before in
-    let g = p .before .before .before .before .before in
+    let n = p .before .before .before .head-bytes in
+    let g = p .before .before .before .before .before .before in
     let h = p .spell-head in
-    omega (arith, head-size (g .args .text .now) (h .last .0) (h .result) (g .pre) (h .ensures) (not-false (h .result) (c .before .if2 .left)))
+    (omega (arith, head-size (g .args .width) (n .result) (g .pre .1) (n .ensures) (g .args .text .now) (h .last .0) (h .result) (g .pre .0) (h .ensures) (not-false (h .result) (c .before .if2 .left))), g .pre .1)
 
 returns-3 : tie.Need-returns-3
 returns-3 c =
     let p = c .before .before .before .before .before .before in
-    let g = p .before .before .before .before .before in
+    let n = p .before .before .before .head-bytes in
+    let g = p .before .before .before .before .before .before in
     let h = p .spell-head in
-    let n = c .before .text-bytes in
-    wrong-length (g .args .text .now) (h .last .0) (h .result) (g .pre) (h .ensures) (not-false (h .result) (c .before .before .before .if2 .left)) (n .result) (n .ensures) (c .if3 .taken)
+    let t = c .before .text-bytes in
+    wrong-length (g .args .width) (n .result) (g .pre .1) (n .ensures) (g .args .text .now) (h .last .0) (h .result) (g .pre .0) (h .ensures) (not-false (h .result) (c .before .before .before .if2 .left)) (t .result) (t .ensures) (c .if3 .taken)
 
 spell-levels-requires : tie.Need-spell-levels-requires
 spell-levels-requires c κs =
     let p = c .before .before .before .before .before .before .before .before in
-    let g = p .before .before .before .before .before in
+    let n = p .before .before .before .head-bytes in
+    let g = p .before .before .before .before .before .before in
     let h = p .spell-head in
-    let n = c .before .before .before .text-bytes in
-    levels-ready (g .args .text .now) (h .last .0) (h .result) (g .pre) (h .ensures) (not-false (h .result) (c .before .before .before .before .before .if2 .left)) (n .result) (n .ensures) (c .before .before .if3 .left)
+    let t = c .before .before .before .text-bytes in
+    levels-ready (g .args .width) (n .result) (g .pre .1) (n .ensures) (g .args .text .now) (h .last .0) (h .result) (g .pre .0) (h .ensures) (not-false (h .result) (c .before .before .before .before .before .if2 .left)) (t .result) (t .ensures) (c .before .before .if3 .left)
 
 returns-4 : tie.Need-returns-4
 returns-4 c =
     let p = c .before .before .before .before .before .before .before .before .before .before .before in
-    let g = p .before .before .before .before .before in
+    let n = p .before .before .before .head-bytes in
+    let g = p .before .before .before .before .before .before in
     let h = p .spell-head in
     let y = not-false (h .result) (c .before .before .before .before .before .before .before .before .if2 .left) in
-    let n = c .before .before .before .before .before .before .text-bytes in
+    let t = c .before .before .before .before .before .before .text-bytes in
     let q = c .before .before .spell-levels in
-    spelt-whole (g .args .text .now) (h .last .0) (h .result) (g .pre) (h .ensures) y (q .last .0) (q .result) (n .result) (n .ensures) (c .before .before .before .before .before .if3 .left) (q .ensures)
+    spelt-whole (g .args .width) (n .result) (g .pre .1) (n .ensures) (g .args .text .now) (h .last .0) (h .result) (g .pre .0) (h .ensures) y (q .last .0) (q .result) (t .result) (t .ensures) (c .before .before .before .before .before .if3 .left) (q .ensures)
 
 pub spell-area-spec : {M : Type 1} → statement M
 spell-area-spec =
     tie.close
     (tie.spec
-    returns (λ c. search needs) (λ c. search needs) part-spell-head-end spell-head-requires
+    (λ c κs. search needs) returns (λ c. search needs) (λ c. search needs) part-spell-head-end spell-head-requires
     (λ c. search needs) returns-2 text-bytes-requires (λ c. search needs) returns-3 (λ c. search needs)
     (λ c. search needs) (λ c. search needs) spell-levels-requires (λ c. search needs) returns-4)

@@ -1,0 +1,1 @@
+// Suspended texts by computing: the examples stand in specs/.

@@ -1,0 +1,270 @@
+/* A host in C: the stack that each call of the archive takes.
+ *
+ *   stack [ROUNDS]
+ *
+ * A call runs on a stack of its own that was painted before, each word with another number; the deepest word that is no longer
+ * as it was painted tells how far the call went, with its parameters and return address. What an empty call touches is taken off.
+ * Only what is touched counts: a frame may be larger than what a call writes to it.
+ *
+ * The inputs are those that go deep: trees and chains of up to 7 levels, feeds and ends that make a node at each of 27, the longest
+ * text; with few rounds and with ROUNDS, which are 4,095 unless they are given (255 for an archive from before M-108, which also
+ * refuses the text of the other form). md6_hash goes down the tree level by level and needs more for each; what it would need for
+ * 27 levels, which no message in memory has, is worked out from that and said to be.
+ */
+#include <ucontext.h>
+
+#include "form.h"
+
+enum { STACK_WORDS = 1 << 17, MESSAGE_BYTES = 1 << 20, MEMORY_LEVELS = 7, LOG_WORDS = 1 << 13 };
+
+/* The most bytes of stack that each call may take, the figures of docs/C.md. Those of md6_hash are for one level; each level more
+ * may take A_LEVEL. */
+enum call { HASH, DEFAULT_ROUNDS, OPEN, FEED, END, TELL, WRITE, READ, CALLS };
+static const struct { const char *name; size_t most; } calls[CALLS] = {
+    [HASH] = { "md6_hash", 12288 },
+    [DEFAULT_ROUNDS] = { "md6_default_rounds", 512 },
+    [OPEN] = { "md6_open", 512 },
+    [FEED] = { "md6_feed", 9216 },
+    [END] = { "md6_end", 10752 },
+    [TELL] = { "md6_log_words", 512 },
+    [WRITE] = { "md6_write", 512 },
+    [READ] = { "md6_read", 42496 },
+};
+enum { A_LEVEL = 1792 };
+
+/* what is lent to the calls, and their answer */
+static uint8_t message[MESSAGE_BYTES + 1], digest[64], text[MD6_TEXT_BYTES];
+static uint64_t area[MD6_AREA_WORDS], kept[MD6_AREA_WORDS], log_words[LOG_WORDS], start, bits;
+static size_t text_bytes;
+static struct params p;
+static md6_answer answer;
+
+/* the rounds with which each input is tried */
+static uint64_t rounds[2] = { 5, MOST_ROUNDS };
+
+static void no_call(void)
+{
+}
+
+static void hash_call(void)
+{
+    answer.number = md6_hash(message, sizeof message, start, bits, p.key, p.key_bytes, p.d, p.limit, p.rounds, digest, sizeof digest);
+}
+
+static void default_rounds_call(void)
+{
+    answer = md6_default_rounds(p.d, p.key_bytes);
+}
+
+static void open_call(void)
+{
+    answer = md6_open(area, MD6_AREA_WORDS, p.key, p.key_bytes, p.d, p.limit, p.rounds);
+}
+
+static void feed_call(void)
+{
+    answer = md6_feed(area, MD6_AREA_WORDS, message, sizeof message, start, bits, log_words, LOG_WORDS);
+}
+
+static void end_call(void)
+{
+    answer = md6_end(area, MD6_AREA_WORDS, digest, sizeof digest, log_words, LOG_WORDS);
+}
+
+static void tell_call(void)
+{
+    answer = md6_log_words(area, MD6_AREA_WORDS, bits);
+}
+
+static void write_call(void)
+{
+    answer = md6_write(area, MD6_AREA_WORDS, text, sizeof text);
+}
+
+static void read_call(void)
+{
+    answer = md6_read(area, MD6_AREA_WORDS, text, text_bytes);
+}
+
+static uint64_t stack[STACK_WORDS];
+
+static uint64_t paint(size_t i)
+{
+    return (i + 1) * UINT64_C(0x9e3779b97f4a7c15);
+}
+
+/* the bytes that a call touches of a painted stack */
+static size_t touched(void (*call)(void))
+{
+    ucontext_t here, there;
+    size_t i;
+
+    for (i = 0; i < STACK_WORDS; i++)
+        stack[i] = paint(i);
+    expect(getcontext(&there) == 0, "a context");
+    there.uc_stack.ss_sp = stack;
+    there.uc_stack.ss_size = sizeof stack;
+    there.uc_link = &here;
+    makecontext(&there, call, 0);
+    expect(swapcontext(&here, &there) == 0, "a call on its own stack");
+    for (i = 0; i < STACK_WORDS && stack[i] == paint(i); i++)
+        ;
+    expect(i > STACK_WORDS / 2, "a stack that is long enough");
+    return 8 * (STACK_WORDS - i);
+}
+
+/* The bytes that a call takes of the stack, on the area that is kept. It runs twice: the first time the names of the C library may
+ * still have to be looked up, which takes stack of its own. */
+static size_t taken(void (*call)(void))
+{
+    size_t empty, bytes;
+
+    touched(no_call);
+    empty = touched(no_call);
+    memcpy(area, kept, sizeof area);
+    touched(call);
+    memcpy(area, kept, sizeof area);
+    bytes = touched(call);
+    return bytes > empty ? bytes - empty : 0;
+}
+
+/* what a call takes with few rounds and with the most; the larger of the two is answered */
+static size_t taken_by_rounds(void (*call)(void), uint64_t number, size_t bytes[2])
+{
+    int i;
+
+    for (i = 0; i < 2; i++) {
+        p.rounds = kept[5] = rounds[i];
+        bytes[i] = taken(call);
+        expect(answer.number == number, "the number of a call on its own stack");
+    }
+    return bytes[0] > bytes[1] ? bytes[0] : bytes[1];
+}
+
+static void show_row(enum call call, const char *input, const size_t bytes[2], size_t most)
+{
+    printf("%-20s%-44s%9zu%9zu%9zu\n", calls[call].name, input, bytes[0], bytes[1], most);
+    expect(bytes[0] <= most && bytes[1] <= most, "a call takes more of the stack than it may");
+}
+
+/* a call that gets this number */
+static void measure(enum call call, void (*run)(void), const char *input, uint64_t number)
+{
+    size_t bytes[2];
+
+    taken_by_rounds(run, number, bytes);
+    show_row(call, input, bytes, calls[call].most);
+}
+
+/* what md6_hash takes for a tree of so many levels, from bit 3 on */
+static size_t measure_hash(unsigned levels)
+{
+    size_t bytes[2], larger;
+    char input[64];
+
+    start = 3;
+    larger = taken_by_rounds(hash_call, 0, bytes);
+    snprintf(input, sizeof input, "%" PRIu64 " bits, L = %" PRIu64 ", %u level%s", bits, p.limit, levels, levels == 1 ? "" : "s");
+    show_row(HASH, input, bytes, calls[HASH].most + (levels - 1) * A_LEVEL);
+    return larger;
+}
+
+/* The smallest messages of 1 to 7 levels, of which none is sequential, and 1 MB with the last of some levels sequential. The largest
+ * step from a number of levels to the next is what a level takes. */
+static void hashes(void)
+{
+    size_t bytes, before = 0, step = 0, most = 0;
+    unsigned levels;
+
+    p.limit = 64;
+    for (levels = 1; levels <= MEMORY_LEVELS; levels++, before = bytes) {
+        bits = levels == 1 ? 4096 : (UINT64_C(1) << (8 + 2 * levels)) + 1;
+        bytes = measure_hash(levels);
+        if (levels > 1 && bytes - before > step)
+            step = bytes - before;
+        most = bytes > most ? bytes : most;
+    }
+    bits = 8 * (uint64_t)MESSAGE_BYTES;
+    for (p.limit = 0; p.limit < MEMORY_LEVELS; p.limit += p.limit < 2 ? 1 : 2) {
+        bytes = measure_hash((unsigned)p.limit + 1);
+        most = bytes > most ? bytes : most;
+    }
+    printf("%-64s%9s%9zu%9d\n", "md6_hash, for each level more", "", step, A_LEVEL);
+    printf("%-64s%9s%9zu%9zu\n", "md6_hash, 27 levels, computed from these", "", most + (LEVELS - MEMORY_LEVELS) * step,
+           calls[HASH].most + (LEVELS - 1) * A_LEVEL);
+    expect(step <= A_LEVEL, "a level of md6_hash takes more of the stack than it may");
+}
+
+/* feeds and ends: a bit that makes a node at each level that can have one, a long piece, an end at each of 27 levels */
+static void streams(void)
+{
+    p.limit = 64;
+    sound_area(kept, &p, UINT64_C(1) << 62);
+    start = 7;
+    bits = 1;
+    measure(FEED, feed_call, "a bit that makes 26 nodes", 0);
+    p.limit = 26;
+    sound_area(kept, &p, UINT64_C(3) << 62);
+    measure(FEED, feed_call, "a bit that makes 27 nodes, one sequential", 0);
+    bits = 300001;
+    measure(FEED, feed_call, "300,001 bits to the same area", 0);
+    p.limit = 0;
+    sound_area(kept, &p, 5000);
+    measure(FEED, feed_call, "300,001 bits, L = 0", 0);
+    bits = 8 * sizeof message;
+    measure(FEED, feed_call, "more bits than there are", 5);
+    measure(END, end_call, "L = 0", 0);
+    p.limit = 64;
+    sound_area(kept, &p, 0);
+    measure(END, end_call, "nothing was fed", 0);
+    sound_area(kept, &p, UINT64_MAX);
+    measure(END, end_call, "27 levels", 0);
+    p.limit = 26;
+    sound_area(kept, &p, UINT64_MAX);
+    measure(END, end_call, "27 levels, the last one sequential", 0);
+}
+
+/* the text of the area that is kept, in the new form */
+static void take_text(void)
+{
+    memcpy(area, kept, sizeof area);
+    write_call();
+    text_bytes = (size_t)answer.count;
+}
+
+/* the other calls, which compress nothing; the area is that of the longest text */
+static void others(void)
+{
+    measure(DEFAULT_ROUNDS, default_rounds_call, "a key", 0);
+    p.limit = 64;
+    measure(OPEN, open_call, "a key of 64 bytes", 0);
+    sound_area(kept, &p, UINT64_MAX);
+    bits = 0;
+    measure(TELL, tell_call, "27 levels, no bits", 0);
+    bits = UINT64_MAX;
+    measure(TELL, tell_call, "27 levels, too many bits", 6);
+    measure(WRITE, write_call, "the longest text", 0);
+    take_text();
+    measure(READ, read_call, "the longest text", 0);
+    text[text_bytes - 2] ^= 1;          /* a bit of level 27 that is not held */
+    measure(READ, read_call, "the longest text with a wrong last digit", 11);
+    kept[5] = OLD_ROUNDS;
+    take_text();
+    text_bytes = drop_high(text, text_bytes);
+    measure(READ, read_call, "the longest text in the old form", 0);
+}
+
+int main(int argc, char **argv)
+{
+    if (argc > 1)
+        rounds[1] = strtoull(argv[1], NULL, 0);
+    random_bytes(message, sizeof message);
+    p = (struct params){ .key_bytes = 64, .d = 512, .rounds = rounds[0] };
+    random_bytes(p.key, sizeof p.key);
+    printf("%-64s%5s%4" PRIu64 "%5s%4" PRIu64 "%9s\n", "bytes of stack", "r =", rounds[0], "r =", rounds[1], "at most");
+    hashes();
+    streams();
+    others();
+    printf("%" PRIu64 " wrong\n", bad);
+    return bad != 0;
+}
