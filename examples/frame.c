@@ -10,7 +10,7 @@
 
 #include "../include/md6.h"
 
-enum { D = 256, LIMIT = 64, HEADER_BITS = 3, PIECE_BYTES = 1 << 16 };
+enum { D = 256, LIMIT = 64, AREA_WORDS = MD6_AREA_WORDS_FOR(LIMIT), HEADER_BITS = 3, PIECE_BYTES = 1 << 16 };
 
 static uint64_t accepted(md6_answer o)
 {
@@ -26,14 +26,14 @@ static uint64_t accepted(md6_answer o)
 static void feed(uint64_t *area, const uint8_t *piece, size_t bytes, uint64_t start)
 {
     uint64_t bits = 8 * (uint64_t)bytes - start;
-    size_t words = (size_t)accepted(md6_log_words(area, MD6_AREA_WORDS, bits));
+    size_t words = (size_t)accepted(md6_log_words(area, AREA_WORDS, bits));
     uint64_t *log = malloc(words * sizeof *log);
 
     if (log == NULL && words > 0) {
         perror("log");
         exit(1);
     }
-    accepted(md6_feed(area, MD6_AREA_WORDS, piece, bytes, start, bits, log, words));
+    accepted(md6_feed(area, AREA_WORDS, piece, bytes, start, bits, log, words));
     free(log);
 }
 
@@ -64,7 +64,7 @@ static void feed_frame(uint64_t *area, const char *name)
 
 int main(int argc, char **argv)
 {
-    static uint64_t area[MD6_AREA_WORDS];
+    static uint64_t area[AREA_WORDS];
     uint64_t log[MD6_END_LOG_WORDS];
     uint8_t digest[D / 8];
     size_t i;
@@ -74,10 +74,10 @@ int main(int argc, char **argv)
         fprintf(stderr, "usage: frame FRAME..\n");
         return 2;
     }
-    accepted(md6_open(area, MD6_AREA_WORDS, NULL, 0, D, LIMIT, accepted(md6_default_rounds(D, 0))));
+    accepted(md6_open(area, AREA_WORDS, NULL, 0, D, LIMIT, accepted(md6_default_rounds(D, 0))));
     for (k = 1; k < argc; k++)
         feed_frame(area, argv[k]);
-    accepted(md6_end(area, MD6_AREA_WORDS, digest, sizeof digest, log, MD6_END_LOG_WORDS));
+    accepted(md6_end(area, AREA_WORDS, digest, sizeof digest, log, MD6_END_LOG_WORDS));
     for (i = 0; i < sizeof digest; i++)
         printf("%02x", (unsigned)digest[i]);
     printf("\n");

@@ -7,7 +7,6 @@ LIBRARY is the archive of md6_c as a shared library:
 import ctypes
 import sys
 
-AREA_WORDS = 1744
 END_LOG_WORDS = 54
 D, LIMIT = 256, 64
 
@@ -22,11 +21,12 @@ def load(path):
     u64, size = ctypes.c_uint64, ctypes.c_size_t
     words, octets = ctypes.POINTER(u64), ctypes.c_char_p
     md6.md6_default_rounds.argtypes = [u64, u64]
+    md6.md6_area_words.argtypes = [u64]
     md6.md6_open.argtypes = [words, size, octets, size, u64, u64, u64]
     md6.md6_log_words.argtypes = [words, size, u64]
     md6.md6_feed.argtypes = [words, size, octets, size, u64, u64, words, size]
     md6.md6_end.argtypes = [words, size, ctypes.POINTER(ctypes.c_uint8), size, words, size]
-    for call in (md6.md6_default_rounds, md6.md6_open, md6.md6_log_words, md6.md6_feed, md6.md6_end):
+    for call in (md6.md6_default_rounds, md6.md6_area_words, md6.md6_open, md6.md6_log_words, md6.md6_feed, md6.md6_end):
         call.restype = Answer
     return md6
 
@@ -38,16 +38,17 @@ def accepted(answer):
 
 
 def seal(md6, file):
-    area = (ctypes.c_uint64 * AREA_WORDS)()
+    area_words = accepted(md6.md6_area_words(LIMIT))
+    area = (ctypes.c_uint64 * area_words)()
     rounds = accepted(md6.md6_default_rounds(D, 0))
-    accepted(md6.md6_open(area, AREA_WORDS, b"", 0, D, LIMIT, rounds))
+    accepted(md6.md6_open(area, area_words, b"", 0, D, LIMIT, rounds))
     while piece := file.read(1 << 16):
-        told = accepted(md6.md6_log_words(area, AREA_WORDS, 8 * len(piece)))
+        told = accepted(md6.md6_log_words(area, area_words, 8 * len(piece)))
         log = (ctypes.c_uint64 * told)()
-        accepted(md6.md6_feed(area, AREA_WORDS, piece, len(piece), 0, 8 * len(piece), log, told))
+        accepted(md6.md6_feed(area, area_words, piece, len(piece), 0, 8 * len(piece), log, told))
     digest = (ctypes.c_uint8 * (D // 8))()
     log = (ctypes.c_uint64 * END_LOG_WORDS)()
-    accepted(md6.md6_end(area, AREA_WORDS, digest, len(digest), log, END_LOG_WORDS))
+    accepted(md6.md6_end(area, area_words, digest, len(digest), log, END_LOG_WORDS))
     return bytes(digest).hex()
 
 

@@ -6,7 +6,7 @@
 
 #include "../include/md6.h"
 
-enum { D = 256, LIMIT = 64 };
+enum { D = 256, LIMIT = 64, AREA_WORDS = MD6_AREA_WORDS_FOR(LIMIT) };
 
 static void need(int good, const char *what)
 {
@@ -28,13 +28,13 @@ static void show_nodes(const uint64_t *log, uint64_t count)
  * no words may be a null pointer */
 static void feed(uint64_t *area, const uint8_t *piece, size_t bytes, uint64_t start, uint64_t bits)
 {
-    md6_answer told = md6_log_words(area, MD6_AREA_WORDS, bits), o;
+    md6_answer told = md6_log_words(area, AREA_WORDS, bits), o;
     size_t words = (size_t)told.count;
     uint64_t *log = malloc(words * sizeof *log);
 
     need(told.number == 0, "log words");
     need(log != NULL || words == 0, "memory for a log");
-    o = md6_feed(area, MD6_AREA_WORDS, piece, bytes, start, bits, log, words);
+    o = md6_feed(area, AREA_WORDS, piece, bytes, start, bits, log, words);
     need(o.number == 0, "feed");
     show_nodes(log, o.count);
     free(log);
@@ -42,7 +42,7 @@ static void feed(uint64_t *area, const uint8_t *piece, size_t bytes, uint64_t st
 
 int main(void)
 {
-    static uint64_t here[MD6_AREA_WORDS], there[MD6_AREA_WORDS], log[MD6_END_LOG_WORDS];
+    static uint64_t here[AREA_WORDS], there[AREA_WORDS], log[MD6_END_LOG_WORDS];
     static uint8_t text[MD6_TEXT_BYTES], message[1500];
     uint8_t digest[D / 8], whole[D / 8];
     uint64_t rounds = md6_default_rounds(D, 0).count;
@@ -53,19 +53,19 @@ int main(void)
         message[i] = (uint8_t)i;
 
     /* 1,000 bytes, then 3 bits of the next byte: cuts may fall anywhere */
-    need(md6_open(here, MD6_AREA_WORDS, NULL, 0, D, LIMIT, rounds).number == 0, "open");
+    need(md6_open(here, AREA_WORDS, NULL, 0, D, LIMIT, rounds).number == 0, "open");
     feed(here, message, 1001, 0, 8 * 1000 + 3);
 
     /* the stream as text; from the read on it is in the other area */
-    o = md6_write(here, MD6_AREA_WORDS, text, sizeof text);
+    o = md6_write(here, AREA_WORDS, text, sizeof text);
     need(o.number == 0, "write");
-    need(md6_read(there, MD6_AREA_WORDS, text, (size_t)o.count).number == 0, "read");
+    need(md6_read(there, AREA_WORDS, text, (size_t)o.count).number == 0, "read");
 
     /* the rest, from bit 3 of that byte on, which is lent again */
     feed(there, message + 1000, 500, 3, 8 * 500 - 3);
 
     /* an end needs at most MD6_END_LOG_WORDS */
-    o = md6_end(there, MD6_AREA_WORDS, digest, sizeof digest, log, MD6_END_LOG_WORDS);
+    o = md6_end(there, AREA_WORDS, digest, sizeof digest, log, MD6_END_LOG_WORDS);
     need(o.number == 0, "end");
     show_nodes(log, o.count);
     for (i = 0; i < sizeof digest; i++)

@@ -9,7 +9,7 @@
 
 #include "../include/md6.h"
 
-enum { D = 128, LIMIT = 64, KEY_ROOM = 65, PIECE_BYTES = 1 << 16 };
+enum { D = 128, LIMIT = 64, AREA_WORDS = MD6_AREA_WORDS_FOR(LIMIT), KEY_ROOM = 65, PIECE_BYTES = 1 << 16 };
 
 /* a log that grows when a piece needs more words than it has; a piece of 64 KB never needs more than some hundreds, however long
  * the input is */
@@ -63,7 +63,7 @@ static void make_room(struct log *log, uint64_t words)
 
 int main(int argc, char **argv)
 {
-    static uint64_t area[MD6_AREA_WORDS];
+    static uint64_t area[AREA_WORDS];
     static uint8_t piece[PIECE_BYTES];
     struct log log = { NULL, 0 };
     uint8_t key[KEY_ROOM], tag[D / 8];
@@ -76,17 +76,17 @@ int main(int argc, char **argv)
     }
     key_bytes = read_key(argv[1], key);
     rounds = accepted(md6_default_rounds(D, key_bytes));
-    accepted(md6_open(area, MD6_AREA_WORDS, key, key_bytes, D, LIMIT, rounds));
+    accepted(md6_open(area, AREA_WORDS, key, key_bytes, D, LIMIT, rounds));
     while ((n = fread(piece, 1, sizeof piece, stdin)) > 0) {
-        make_room(&log, accepted(md6_log_words(area, MD6_AREA_WORDS, 8 * (uint64_t)n)));
-        accepted(md6_feed(area, MD6_AREA_WORDS, piece, n, 0, 8 * (uint64_t)n, log.words, log.room));
+        make_room(&log, accepted(md6_log_words(area, AREA_WORDS, 8 * (uint64_t)n)));
+        accepted(md6_feed(area, AREA_WORDS, piece, n, 0, 8 * (uint64_t)n, log.words, log.room));
     }
     if (ferror(stdin)) {
         perror("standard input");
         return 1;
     }
     make_room(&log, MD6_END_LOG_WORDS);
-    accepted(md6_end(area, MD6_AREA_WORDS, tag, sizeof tag, log.words, log.room));
+    accepted(md6_end(area, AREA_WORDS, tag, sizeof tag, log.words, log.room));
     free(log.words);
     for (i = 0; i < sizeof tag; i++)
         printf("%02x", (unsigned)tag[i]);

@@ -17,8 +17,12 @@
 extern "C" {
 #endif
 
-/* Sizes to lend: the words of a stream's area, the most words of log that an end needs, the most bytes of a suspended text. */
-#define MD6_AREA_WORDS 1744
+/* Sizes to lend: the words of a stream's area, by its height limit, and of the longest area, enough for every limit; the most words
+ * of log that an end needs; the most bytes of a suspended text. MD6_LEVELS is the most levels that a tree has. MD6_AREA_WORDS_FOR is
+ * a constant expression if its limit is one: 80 for 0, and MD6_AREA_WORDS from 26 on; it evaluates its limit twice. */
+#define MD6_LEVELS 27
+#define MD6_AREA_WORDS_FOR(limit) (16 + 64 * ((limit) < MD6_LEVELS ? (limit) + 1 : MD6_LEVELS))
+#define MD6_AREA_WORDS (16 + 64 * MD6_LEVELS)
 #define MD6_END_LOG_WORDS 54
 #define MD6_TEXT_BYTES 27905
 
@@ -51,13 +55,20 @@ uint64_t md6_hash(const uint8_t *message, size_t message_bytes, uint64_t start, 
  */
 md6_answer md6_default_rounds(uint64_t d, uint64_t key_bytes);
 
-/* Opens a stream in an area of at least MD6_AREA_WORDS words, whatever it held; no call reads or
- * writes the words past those. Refuses, the first that holds:
- *   7  the area has fewer words
+/* As count, the words of an area for a height limit: 16, and 64 times the smaller of `limit` + 1 and 27. Refuses:
+ *   3  `limit` is over 64
+ */
+md6_answer md6_area_words(uint64_t limit);
+
+/* Opens a stream in an area of at least the words that `limit` asks, which md6_area_words tells, whatever it held. No call reads
+ * or writes the words past those, however long the area is. Refuses, the first that holds:
  *   1  d is not 1 to 512
  *   2  the key has over 64 bytes
  *   3  `limit` is over 64
  *   4  `rounds` is over 4,095
+ *   7  the area has fewer words than `limit` asks
+ * The limit stands in the area's word 4, and the calls below but md6_read go by it: an area is short if it has no word 4, or fewer
+ * words than the limit there asks, and it is unsound if that limit is over 64.
  * Between calls nobody else may alter the area; an area that was altered is refused as unsound, or is another stream.
  */
 md6_answer md6_open(uint64_t *area, size_t area_words,
@@ -106,11 +117,12 @@ md6_answer md6_log_words(const uint64_t *area, size_t area_words, uint64_t bits)
 md6_answer md6_write(const uint64_t *area, size_t area_words,
                      uint8_t *text, size_t text_bytes);
 
-/* Reads a text into an area of at least MD6_AREA_WORDS words, whatever it held: from then on the stream is in that area. The
- * text is the whole of what is lent. Texts of the old form, written when the rounds went up to 255 and stood in one byte, are
- * read too: their first line has 44 digits, and they are written back two bytes longer. Refuses, the first that holds:
- *   7   the area has fewer words
+/* Reads a text into an area of at least the words that the text's height limit asks, whatever it held: from then on the stream is
+ * in that area. How long the area was that wrote the text does not matter. The text is the whole of what is lent. Texts of the old
+ * form, written when the rounds went up to 255 and stood in one byte, are read too: their first line has 44 digits, and they are
+ * written back two bytes longer. Refuses, the first that holds:
  *   11  the text is neither what writing some sound area gives now nor, with rounds up to 255, what it gave in the old form
+ *   7   the area has fewer words than the text's limit asks
  */
 md6_answer md6_read(uint64_t *area, size_t area_words,
                     const uint8_t *text, size_t text_bytes);

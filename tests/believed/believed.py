@@ -17,7 +17,7 @@ import shutil
 import sys
 import tempfile
 
-# The nine public calls, each with the source that has it; those of the exports are all that the file exports.
+# The ten public calls, each with the source that has it; those of the exports are all that the file exports.
 CALLS = [
     ("hash", "lib", "hash"),
     ("hash", "lib", "default_rounds"),
@@ -26,6 +26,7 @@ CALLS = [
     ("stream", "close", "end"),
     ("stream", "lib", "level"),
     ("stream", "lib", "log_words"),
+    ("stream", "lib", "area_words"),
     ("text", "lib", "write"),
     ("text", "lib", "read"),
 ]

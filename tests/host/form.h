@@ -86,7 +86,7 @@ static inline size_t text_of(const uint64_t *area, enum form form, uint8_t *text
     to = spell(to, total, 8);
     to = spell_words(to, area + 14, 1);
     to = spell_words(to, area + 6, K_WORDS);
-    for (level = 1; area[0] == 1 && level <= LEVELS; level++)
+    for (level = 1; area[0] == 1 && level <= levels_for(limit); level++)
         if (held_at(level, limit, total) > 0 || (level == limit + 1 && made_at(level, limit, total) > 0))
             to = spell_words(spell(to, level, 1), level_words((uint64_t *)area, level), 64);
     return (size_t)(to - text);
@@ -111,8 +111,9 @@ static inline void spelt_words(const uint8_t *digits, uint64_t *words, size_t co
         words[i] = spelt(digits + 16 * i, 8);
 }
 
-/* the words that the lines of a text spell, whatever else stands there */
-static inline void words_of_text(const uint8_t *text, size_t n, enum form form, uint64_t *area)
+/* the words that the lines of a text spell, whatever else stands there; those of the longest area, of which an area with this L has
+ * the first */
+static inline void words_of_text(const uint8_t *text, size_t n, enum form form, uint64_t area[MD6_AREA_WORDS])
 {
     const uint8_t *after_r = text + R_AT + 2 * form;
     size_t at;
@@ -137,7 +138,7 @@ static inline void words_of_text(const uint8_t *text, size_t n, enum form form, 
 /* M-108: "So a text is read exactly if it is new writing or was old writing". Answers the form in which a sound area was written
  * as this text, which is left in `area`, or 0 if there is none: the words that the lines spell are such an area, and writing it
  * gives the text to the byte. */
-static inline int area_of(const uint8_t *text, size_t n, uint64_t *area)
+static inline int area_of(const uint8_t *text, size_t n, uint64_t area[MD6_AREA_WORDS])
 {
     static uint8_t again[MD6_TEXT_BYTES];
     static const enum form forms[] = { NEW_FORM, OLD_FORM };

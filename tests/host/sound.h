@@ -1,9 +1,9 @@
-/* Sound areas, from document 01 alone: how many nodes a stream has made and what its levels hold, areas of any total, which no
- * message in memory would reach, and whether an area is sound. */
+/* Sound areas, from documents 01 and 02 alone: how many nodes a stream has made and what its levels hold, areas of any total, which
+ * no message in memory would reach, and whether an area is sound. */
 #ifndef SOUND_H
 #define SOUND_H
 
-#include "host.h"
+#include "area.h"
 
 /* The nodes of a level that an open stream of so many bits has made. A node of level k up to L covers 4,096 * 4^(k - 1) bits,
  * that is 2^(10 + 2 k); one of the sequential level L + 1 covers 3 * 2^(10 + 2 L). It is made as soon as a bit past those that
@@ -63,16 +63,16 @@ static inline void hold(uint64_t *words, uint64_t bits)
         words[bits / 64] &= UINT64_MAX << (64 - bits % 64);
 }
 
-/* an open area of that total which is sound: each level holds random bits, as many as came to it and are in no node yet, after
+/* makes of just the words that L asks an open area of that total which is sound: each level holds random bits, as many as came to it and are in no node yet, after
  * a random output if it is the sequential level and has made a node */
 static inline void sound_area(uint64_t *area, const struct params *p, uint64_t total)
 {
     uint64_t level;
 
-    expect(md6_open(area, MD6_AREA_WORDS, p->key, p->key_bytes, p->d, p->limit, p->rounds).number == 0, "open of a sound area");
+    expect(md6_open(area, words_for(p->limit), p->key, p->key_bytes, p->d, p->limit, p->rounds).number == 0, "open of a sound area");
     area[1] = total;
     area[14] = made(p->limit, total);
-    for (level = 1; level <= LEVELS && level <= p->limit + 1; level++) {
+    for (level = 1; level <= levels_for(p->limit); level++) {
         uint64_t *words = level_words(area, level);
 
         if (level == p->limit + 1) {
@@ -88,7 +88,7 @@ static inline void ended_area(uint64_t *area)
 {
     area[0] = 2;
     area[14] = made_by_end(area[4], area[1]);
-    memset(level_words(area, 1), 0, 8 * 64 * LEVELS);
+    memset(level_words(area, 1), 0, 8 * 64 * (size_t)levels_for(area[4]));
 }
 
 /* a total: small, at or beside 2^k or 3 * 2^k, near 2^64 - 1, or anywhere */
@@ -130,7 +130,8 @@ static inline int level_sound(const uint64_t *area, uint64_t level)
 }
 
 /* document 01: "An area is sound if word 0 is 1 or 2, its parameters are in range, unused key bytes are zero, word 14 is the count
- * that total, L and phase give, word 15 is 0, and so is every bit of a level that is neither held nor of a sequential output" */
+ * that total, L and phase give, word 15 is 0, and so is every bit of a level that is neither held nor of a sequential output". By
+ * M-109 it has the levels that L gives, and no other word is looked at. */
 static inline int is_sound(const uint64_t *area)
 {
     uint64_t level;
@@ -141,10 +142,20 @@ static inline int is_sound(const uint64_t *area)
         return 0;
     if (area[14] != (area[0] == 1 ? made : made_by_end)(area[4], area[1]))
         return 0;
-    for (level = 1; level <= LEVELS; level++)
+    for (level = 1; level <= levels_for(area[4]); level++)
         if (!level_sound(area, level))
             return 0;
     return 1;
+}
+
+/* The number that an area of so many words gives by itself to a feed, an end or a telling: 7 if it is short, which it also is
+ * without a word 4, or unsound, 10 if it has ended, or 0. M-109: "Soundness, every call on an area and the untouched tail go by
+ * this length." */
+static inline uint64_t area_number(const uint64_t *area, size_t words)
+{
+    if (words <= 4 || words < words_for(area[4]) || !is_sound(area))
+        return 7;
+    return area[0] == 2 ? 10 : 0;
 }
 
 #endif

@@ -7,7 +7,7 @@
  * Only what is touched counts: a frame may be larger than what a call writes to it.
  *
  * The inputs are those that go deep: trees and chains of up to 7 levels, feeds and ends that make a node at each of 27, the longest
- * text; with few rounds and with ROUNDS, which are 4,095 unless they are given (255 for an archive from before M-108, which also
+ * text, and short areas, which may not cost more; with few rounds and with ROUNDS, which are 4,095 unless they are given (255 for an archive from before M-108, which also
  * refuses the text of the other form). md6_hash goes down the tree level by level and needs more for each; what it would need for
  * 27 levels, which no message in memory has, is worked out from that and said to be.
  */
@@ -19,10 +19,11 @@ enum { STACK_WORDS = 1 << 17, MESSAGE_BYTES = 1 << 20, MEMORY_LEVELS = 7, LOG_WO
 
 /* The most bytes of stack that each call may take, the figures of docs/C.md. Those of md6_hash are for one level; each level more
  * may take A_LEVEL. */
-enum call { HASH, DEFAULT_ROUNDS, OPEN, FEED, END, TELL, WRITE, READ, CALLS };
+enum call { HASH, DEFAULT_ROUNDS, AREA_WORDS, OPEN, FEED, END, TELL, WRITE, READ, CALLS };
 static const struct { const char *name; size_t most; } calls[CALLS] = {
     [HASH] = { "md6_hash", 12288 },
     [DEFAULT_ROUNDS] = { "md6_default_rounds", 512 },
+    [AREA_WORDS] = { "md6_area_words", 512 },
     [OPEN] = { "md6_open", 512 },
     [FEED] = { "md6_feed", 9216 },
     [END] = { "md6_end", 10752 },
@@ -56,34 +57,40 @@ static void default_rounds_call(void)
     answer = md6_default_rounds(p.d, p.key_bytes);
 }
 
+static void area_words_call(void)
+{
+    answer = md6_area_words(p.limit);
+}
+
+/* an area is lent with just the words that L asks */
 static void open_call(void)
 {
-    answer = md6_open(area, MD6_AREA_WORDS, p.key, p.key_bytes, p.d, p.limit, p.rounds);
+    answer = md6_open(area, words_for(p.limit), p.key, p.key_bytes, p.d, p.limit, p.rounds);
 }
 
 static void feed_call(void)
 {
-    answer = md6_feed(area, MD6_AREA_WORDS, message, sizeof message, start, bits, log_words, LOG_WORDS);
+    answer = md6_feed(area, words_for(p.limit), message, sizeof message, start, bits, log_words, LOG_WORDS);
 }
 
 static void end_call(void)
 {
-    answer = md6_end(area, MD6_AREA_WORDS, digest, sizeof digest, log_words, LOG_WORDS);
+    answer = md6_end(area, words_for(p.limit), digest, sizeof digest, log_words, LOG_WORDS);
 }
 
 static void tell_call(void)
 {
-    answer = md6_log_words(area, MD6_AREA_WORDS, bits);
+    answer = md6_log_words(area, words_for(p.limit), bits);
 }
 
 static void write_call(void)
 {
-    answer = md6_write(area, MD6_AREA_WORDS, text, sizeof text);
+    answer = md6_write(area, words_for(p.limit), text, sizeof text);
 }
 
 static void read_call(void)
 {
-    answer = md6_read(area, MD6_AREA_WORDS, text, text_bytes);
+    answer = md6_read(area, words_for(p.limit), text, text_bytes);
 }
 
 static uint64_t stack[STACK_WORDS];
@@ -232,11 +239,32 @@ static void take_text(void)
     text_bytes = (size_t)answer.count;
 }
 
+/* the calls that compress nothing, on an area of 80 words: it holds some bits, or is a word short, or stands for a longer one */
+static void short_areas(void)
+{
+    p.limit = 0;
+    measure(AREA_WORDS, area_words_call, "L = 0", 0);
+    measure(OPEN, open_call, "a key of 64 bytes, L = 0", 0);
+    sound_area(kept, &p, 5000);
+    bits = 300001;
+    measure(TELL, tell_call, "L = 0", 0);
+    measure(WRITE, write_call, "L = 0", 0);
+    take_text();
+    measure(READ, read_call, "L = 0", 0);
+    kept[4] = 1;
+    measure(FEED, feed_call, "L = 1 in 80 words", 7);
+    measure(END, end_call, "L = 1 in 80 words", 7);
+    measure(WRITE, write_call, "L = 1 in 80 words", 7);
+    spell(text + L_AT, 1, 1);
+    measure(READ, read_call, "a text of L = 0 with L = 1 in it", 11);
+}
+
 /* the other calls, which compress nothing; the area is that of the longest text */
 static void others(void)
 {
     measure(DEFAULT_ROUNDS, default_rounds_call, "a key", 0);
     p.limit = 64;
+    measure(AREA_WORDS, area_words_call, "L = 64", 0);
     measure(OPEN, open_call, "a key of 64 bytes", 0);
     sound_area(kept, &p, UINT64_MAX);
     bits = 0;
@@ -246,6 +274,9 @@ static void others(void)
     measure(WRITE, write_call, "the longest text", 0);
     take_text();
     measure(READ, read_call, "the longest text", 0);
+    p.limit = 0;
+    measure(READ, read_call, "the longest text into 80 words", 7);
+    p.limit = 64;
     text[text_bytes - 2] ^= 1;          /* a bit of level 27 that is not held */
     measure(READ, read_call, "the longest text with a wrong last digit", 11);
     kept[5] = OLD_ROUNDS;
@@ -265,6 +296,7 @@ int main(int argc, char **argv)
     hashes();
     streams();
     others();
+    short_areas();
     printf("%" PRIu64 " wrong\n", bad);
     return bad != 0;
 }

@@ -10,10 +10,12 @@
  * the nodes, level by level. Pieces at every start bit are fed at every reach of a block, and must do what the same bits do when
  * they are moved to the front. The edges of number 5 are tried on areas of every kind, and random calls on damaged areas:
  * whatever is refused must change nothing. An area is opened at every edge of its parameters, and streams run at those of r.
+ *
+ * Areas have just the words that L asks, or others past them, which must stay, and stand beside a page that may not be touched.
  */
 #include "sound.h"
 
-enum { CUTTINGS = 2000, EDGE_CUTTINGS = 20, SOUND = 3000, TELLINGS = 10, DAMAGED = 2000, MESSAGE_BYTES = 9000, LOG_WORDS = 4096, TAIL = 8 };
+enum { CUTTINGS = 2000, EDGE_CUTTINGS = 20, SOUND = 3000, TELLINGS = 10, DAMAGED = 2000, MESSAGE_BYTES = 9000, LOG_WORDS = 4096 };
 
 /* what ran: feeds with just the told words, those of them before which one word fewer was refused, and those that began inside
  * the byte where the one before ended; sound areas; tellings on them that were accepted and that were refused by 6; tellings on
@@ -40,7 +42,7 @@ static struct params pick_params(void)
     random_bytes(p.key, sizeof p.key);
     p.key_bytes = (size_t)(below(2) == 0 ? 0 : below(65));
     p.d = 1 + below(512);
-    p.limit = below(2) == 0 ? below(5) : below(65);
+    p.limit = pick_limit();
     p.rounds = below(16) == 0 ? wide_rounds() : below(3) == 0 ? below(OLD_ROUNDS + 1) : below(8);
     return p;
 }
@@ -59,21 +61,15 @@ static size_t second_tree(const struct params *p, const uint8_t *message, uint64
     return at;
 }
 
-static uint64_t *lent_words(const struct guarded *g)
-{
-    return (uint64_t *)(void *)g->bytes;
-}
-
-/* The told log words. The area, which ends at a page that may not be touched, can only be read meanwhile: a write anywhere in
- * it, or a read past its end, stops the program. */
+/* The told log words. The area, which stands beside a page that may not be touched, can only be read meanwhile: a write anywhere
+ * in it, or a read past its end, stops the program. */
 static md6_answer tell(const struct guarded *area, uint64_t bits)
 {
-    size_t mapped = (size_t)(area->bytes - area->base) + area->length;
     md6_answer o;
 
-    expect(mprotect(area->base, mapped, PROT_READ) == 0, "an area that can only be read");
-    o = md6_log_words(lent_words(area), area->length / 8, bits);
-    expect(mprotect(area->base, mapped, PROT_READ | PROT_WRITE) == 0, "an area that can be written again");
+    expect(mprotect(area->base, area->room, PROT_READ) == 0, "an area that can only be read");
+    o = md6_log_words(lent_words(area), word_count(area), bits);
+    expect(mprotect(area->base, area->room, PROT_READ | PROT_WRITE) == 0, "an area that can be written again");
     expect(o.number == 0 || o.count == 0, "a refused telling has a count");
     return o;
 }
@@ -87,7 +83,7 @@ static md6_answer feed(const struct guarded *area, const struct piece *piece, ui
 {
     const struct span *span = &piece->span;
 
-    return md6_feed(lent_words(area), area->length / 8, piece->bytes, span->bytes, span->start, span->bits, log, words);
+    return md6_feed(lent_words(area), word_count(area), piece->bytes, span->bytes, span->start, span->bits, log, words);
 }
 
 /* whether an answer is the one that a feed of this piece must get; otherwise says what differs */
@@ -106,7 +102,7 @@ static int answer_right(const struct piece *piece, md6_answer o, uint64_t number
 /* a feed, with a log of so many words, that changes nothing: it is refused by this number, or is accepted and has no bits */
 static void quiet_feed(const struct guarded *area, const struct piece *piece, size_t words, uint64_t number)
 {
-    static uint64_t kept[MD6_AREA_WORDS + TAIL], kept_log[LOG_WORDS];
+    static uint64_t kept[MOST_WORDS], kept_log[LOG_WORDS];
     struct guarded log = guarded_new(8 * words, 1);
     md6_answer o;
 
@@ -237,24 +233,17 @@ static void one_cutting(struct params p)
 {
     static uint64_t joined[LOG_WORDS];
     struct message m = pick_message();
-    struct guarded area = guarded_new(8 * (MD6_AREA_WORDS + TAIL), 1);
-    uint64_t *a = lent_words(&area);
+    struct guarded area = area_new(p.limit, pick_words(p.limit));
     uint8_t digest[64];
-    size_t logged, i;
-    md6_answer o;
+    size_t logged;
+    md6_answer o = open_area(&area, &p);
 
-    random_bytes(area.bytes, area.length);
-    for (i = 0; i < TAIL; i++)
-        a[MD6_AREA_WORDS + i] = i;
-    o = md6_open(a, MD6_AREA_WORDS + TAIL, p.key, p.key_bytes, p.d, p.limit, p.rounds);
     expect(o.number == 0 && o.count == 0, "open");
     logged = feed_cut(&area, &m, joined);
-    o = md6_end(a, MD6_AREA_WORDS + TAIL, digest, (size_t)(p.d + 7) / 8, joined + logged, MD6_END_LOG_WORDS);
+    o = end_area(&area, digest, (size_t)(p.d + 7) / 8, joined + logged);
     expect(o.number == 0, "end");
     fed_right(&p, &m, digest, joined, logged + 2 * (size_t)o.count);
-    for (i = 0; i < TAIL; i++)
-        expect(a[MD6_AREA_WORDS + i] == i, "tail");
-    expect(guarded_intact(&area) && guarded_intact(&m.bytes), "wrote outside the area or the message");
+    expect(area_intact(&area, p.limit) && guarded_intact(&m.bytes), "wrote outside the area or the message, or to the area's tail");
     guarded_free(&area);
     guarded_free(&m.bytes);
 }
@@ -274,22 +263,27 @@ static void rounds_edges(void)
         }
 }
 
-/* an open of a dirty area of so many words: the first of 7, 1, 2, 3 and 4 that holds is given and nothing changes, or the area is
- * as document 01 has it, with nothing in its levels, and the words past it stay */
+/* document 02, M-109: "Open tests 1, 2, 3, 4 and then 7" */
+static uint64_t open_number(size_t words, const struct params *p, size_t key_bytes)
+{
+    return p->d < 1 || p->d > 512 ? 1 : key_bytes > 64 ? 2 : p->limit > 64 ? 3 : p->rounds > MOST_ROUNDS ? 4
+         : words < words_for(p->limit) ? 7 : 0;
+}
+
+/* an open of a dirty area of so many words: the first number that holds is given and nothing changes, or the area is as document 01
+ * has it, with nothing in its levels, and the words past those that L asks stay */
 static void one_open(size_t words, const struct params *p, size_t key_bytes)
 {
-    static uint64_t expected[MD6_AREA_WORDS + TAIL];
-    struct guarded area = guarded_new(8 * words, 1), key = guarded_new(key_bytes, 1);
-    uint64_t number = words < MD6_AREA_WORDS ? 7 : p->d < 1 || p->d > 512 ? 1 : key_bytes > 64 ? 2 : p->limit > 64 ? 3
-                    : p->rounds > MOST_ROUNDS ? 4 : 0;
+    static uint64_t expected[MOST_WORDS];
+    struct guarded area = area_new(p->limit, words), key = guarded_new(key_bytes, 1);
+    uint64_t number = open_number(words, p, key_bytes);
     md6_answer o;
     size_t i;
 
-    random_bytes(area.bytes, area.length);
     random_bytes(key.bytes, key.length);
     memcpy(expected, area.bytes, area.length);
     if (number == 0) {
-        memset(expected, 0, 8 * MD6_AREA_WORDS);
+        memset(expected, 0, 8 * words_for(p->limit));
         memcpy(expected, (uint64_t[]){ 1, 0, key_bytes, p->d, p->limit, p->rounds }, 8 * 6);
         for (i = 0; i < key_bytes; i++)
             expected[6 + i / 8] |= (uint64_t)key.bytes[i] << (56 - 8 * (i % 8));
@@ -305,24 +299,33 @@ static void one_open(size_t words, const struct params *p, size_t key_bytes)
     guarded_free(&key);
 }
 
+/* opens of areas with no word, with one word fewer than L asks, with just enough, with as many as the longest, and with more */
+static void open_lengths(const struct params *p, size_t key_bytes)
+{
+    const size_t words = words_for(p->limit), lengths[] = { 0, words - 1, words, MD6_AREA_WORDS, MOST_WORDS };
+    size_t i;
+
+    for (i = 0; i < sizeof lengths / sizeof *lengths; i++)
+        one_open(lengths[i], p, key_bytes);
+}
+
 /* every edge of a parameter with every edge of the others */
 static void open_edges(void)
 {
-    static const size_t areas[] = { 0, MD6_AREA_WORDS - 1, MD6_AREA_WORDS, MD6_AREA_WORDS + TAIL }, keys[] = { 0, 1, 64, 65 };
-    static const uint64_t sizes[] = { 0, 1, 512, 513 }, limits[] = { 0, 64, 65 };
+    static const size_t keys[] = { 0, 1, 64, 65 };
+    static const uint64_t sizes[] = { 0, 1, 512, 513 }, limits[] = { 0, 1, 25, 26, 64, 65, UINT64_MAX };
     static const uint64_t in_range[] = { 0, OLD_ROUNDS, OLD_ROUNDS + 1, MOST_ROUNDS };
     enum { RANGE = sizeof in_range / sizeof *in_range };
-    size_t a, k, d, l, r;
+    size_t k, d, l, r;
 
-    for (a = 0; a < 4; a++)
-        for (k = 0; k < 4; k++)
-            for (d = 0; d < 4; d++)
-                for (l = 0; l < 3; l++)
-                    for (r = 0; r < RANGE + OVER; r++) {
-                        struct params p = { .d = sizes[d], .limit = limits[l], .rounds = r < RANGE ? in_range[r] : over_rounds[r - RANGE] };
+    for (k = 0; k < 4; k++)
+        for (d = 0; d < 4; d++)
+            for (l = 0; l < sizeof limits / sizeof *limits; l++)
+                for (r = 0; r < RANGE + OVER; r++) {
+                    struct params p = { .d = sizes[d], .limit = limits[l], .rounds = r < RANGE ? in_range[r] : over_rounds[r - RANGE] };
 
-                        one_open(areas[a], &p, keys[k]);
-                    }
+                    open_lengths(&p, keys[k]);
+                }
 }
 
 /* document 01, "Reels by hand": bits, L and d; the message is all ones and r = 0 */
@@ -337,7 +340,7 @@ static void one_row(const struct row *row, uint64_t first, uint64_t step)
     static uint8_t ones[2100];
     static uint64_t expected[LOG_WORDS], joined[LOG_WORDS];
     struct params p = { .key_bytes = 0, .d = row->d, .limit = row->limit, .rounds = 0 };
-    struct guarded area = guarded_new(8 * MD6_AREA_WORDS, 1);
+    struct guarded area = area_new(p.limit, words_for(p.limit));
     struct piece piece = { ones, { sizeof ones, 0, 0 } };
     uint8_t digest[2], second[64];
     uint64_t at;
@@ -345,14 +348,14 @@ static void one_row(const struct row *row, uint64_t first, uint64_t step)
     md6_answer o;
 
     memset(ones, 0xff, sizeof ones);
-    expect(md6_open(lent_words(&area), MD6_AREA_WORDS, NULL, 0, p.d, p.limit, 0).number == 0, "open of a row");
+    expect(open_area(&area, &p).number == 0, "open of a row");
     for (at = 0; at < row->bits; at += piece.span.bits) {
         piece.span.bits = at == 0 ? first : step;
         if (piece.span.bits > row->bits - at)
             piece.span.bits = row->bits - at;
         logged += feed_told(&area, &piece, joined + logged, LOG_WORDS - MD6_END_LOG_WORDS - logged);
     }
-    o = md6_end(lent_words(&area), MD6_AREA_WORDS, digest, sizeof digest, joined + logged, MD6_END_LOG_WORDS);
+    o = end_area(&area, digest, sizeof digest, joined + logged);
     logged += 2 * (size_t)o.count;
     words = second_tree(&p, ones, row->bits, expected, second);
     expect(o.number == 0 && logged == words && memcmp(joined, expected, 8 * words) == 0, "log of a row");
@@ -404,7 +407,7 @@ static size_t one_sound(const struct params *p, uint64_t total, uint64_t bits)
 {
     static uint8_t bytes[2600];
     static uint64_t log[LOG_WORDS];
-    struct guarded area = guarded_new(8 * MD6_AREA_WORDS, 1);
+    struct guarded area = area_new(p->limit, pick_words(p->limit));
     struct piece piece = { bytes, { sizeof bytes, below(STARTS), bits } };
     size_t words;
     int i;
@@ -416,7 +419,7 @@ static size_t one_sound(const struct params *p, uint64_t total, uint64_t bits)
     words = feed_told(&area, &piece, log, LOG_WORDS);
     expect(words == 2 * (made(p->limit, total + bits) - made(p->limit, total)), "words of a feed to a sound area");
     one_telling(&area, p->limit, total + bits, pick_told(UINT64_MAX - total - bits));
-    expect(guarded_intact(&area), "wrote outside a sound area");
+    expect(area_intact(&area, p->limit), "wrote outside a sound area, or to its tail");
     guarded_free(&area);
     sound++;
     return words;
@@ -446,8 +449,6 @@ static void random_sound(void)
     struct params p = pick_params();
     uint64_t total = pick_total();
 
-    if (below(3) == 0)
-        p.limit = 25 + below(4);        /* the last limits that have a sequential level, and the first that have none */
     one_sound(&p, total, pick_piece(UINT64_MAX - total));
 }
 
@@ -476,18 +477,19 @@ static struct guarded copy_of(const struct guarded *area, size_t length)
 
 static void make_edge_areas(void)
 {
-    struct guarded whole = guarded_new(8 * MD6_AREA_WORDS, 1);
     struct params p = pick_params();
+    struct guarded whole;
     uint8_t digest[64];
     uint64_t log[MD6_END_LOG_WORDS];
     size_t i;
 
-    p.limit = 64;
+    p.limit += p.limit == 0;            /* so that a block of level 1 has 4,096 bits */
+    whole = area_new(p.limit, words_for(p.limit));
     for (i = 0; i < EDGE_AREAS; i++) {
         sound_area(lent_words(&whole), &p, edge_areas[i].total);
         edge_areas[i].area = copy_of(&whole, whole.length - (i == SHORT ? 8 : 0));
     }
-    expect(md6_end(lent_words(&edge_areas[ENDED].area), MD6_AREA_WORDS, digest, sizeof digest, log, MD6_END_LOG_WORDS).number == 0, "end of a sound area");
+    expect(end_area(&edge_areas[ENDED].area, digest, sizeof digest, log).number == 0, "end of a sound area");
     lent_words(&edge_areas[UNSOUND].area)[4] = 65;      /* the height limit */
     guarded_free(&whole);
 }
@@ -606,7 +608,7 @@ static void twins_same(const struct guarded *from, const struct twins *t, const 
  * that holds nothing is the one before it, full. The rounds are enough for every word of a block to show in its output. */
 static void one_reach(uint64_t limit, uint64_t held, const struct twins twins[STARTS * COUNTS], const struct desk desks[2])
 {
-    struct guarded from = guarded_new(8 * MD6_AREA_WORDS, 1);
+    struct guarded from = area_new(limit, words_for(limit));
     struct params p = pick_params();
     size_t i;
 
@@ -614,7 +616,7 @@ static void one_reach(uint64_t limit, uint64_t held, const struct twins twins[ST
     p.rounds = 12;
     sound_area(lent_words(&from), &p, held + (limit == 0 ? 3072 : 4096) * (below(2) == 0 ? 0 : below(20)));
     for (i = 0; i < STARTS * COUNTS; i++) {
-        md6_answer told = md6_log_words(lent_words(&from), MD6_AREA_WORDS, twins[i].bits);
+        md6_answer told = md6_log_words(lent_words(&from), word_count(&from), twins[i].bits);
 
         expect(told.number == 0 && told.count <= REACH_LOG, "telling at a reach");
         twins_same(&from, &twins[i], desks, told.count <= REACH_LOG ? (size_t)told.count : 0);
@@ -632,7 +634,7 @@ static void every_reach(uint64_t limit)
     size_t i;
 
     for (i = 0; i < 2; i++)
-        desks[i] = (struct desk){ guarded_new(8 * MD6_AREA_WORDS, 1), guarded_new(8 * REACH_LOG, 1) };
+        desks[i] = (struct desk){ area_new(limit, words_for(limit)), guarded_new(8 * REACH_LOG, 1) };
     for (i = 0; i < STARTS * COUNTS; i++)
         twins[i] = make_twins(i % STARTS, counts[i / STARTS]);
     for (held = 0; held <= (limit == 0 ? 3072 : 4096); held++)
@@ -648,60 +650,97 @@ static void every_reach(uint64_t limit)
     }
 }
 
-/* a telling on whatever words refuses by 7 and 10 as a feed of no bits does, and after them by 6 */
-static void told_as_fed(const uint64_t *words, size_t count)
+/* an area of a stream that was fed and now and then has ended, of which up to three words are altered, those past the ones that L
+ * asks among them; sometimes another limit stands in word 4 */
+static struct guarded damaged_area(void)
 {
-    struct guarded area = guarded_new(8 * count, 1);
-    md6_answer none, most;
-    uint64_t number;
+    static uint8_t piece[2048], digest[64];
+    static uint64_t log[LOG_WORDS];
+    struct params p = pick_params();
+    struct guarded area = area_new(p.limit, pick_words(p.limit));
+    uint64_t *words = lent_words(&area), start = below(STARTS);
+    size_t i, hits = (size_t)below(4);
 
-    memcpy(area.bytes, words, area.length);
-    none = tell(&area, 0);
-    most = tell(&area, UINT64_MAX);
-    number = md6_feed(lent_words(&area), count, NULL, 0, 0, 0, NULL, 0).number;
-    expect(none.number == number && none.count == 0, "telling for no bits");
-    expect(most.number == (number == 0 && words[1] > 0 ? 6 : number), "telling for the most bits");
-    expect(number == 0 || number == 7 || number == 10, "feed of no bits");
-    told_damaged[number <= 10 ? number : 0]++;
-    guarded_free(&area);
+    random_bytes(piece, sizeof piece);
+    expect(open_area(&area, &p).number == 0, "open before a damage");
+    feed(&area, &(struct piece){ piece, { sizeof piece, start, below(8 * sizeof piece - start) } }, log, LOG_WORDS);
+    if (below(4) == 0)
+        end_area(&area, digest, sizeof digest, log);
+    for (i = 0; i < hits; i++) {
+        size_t w = (size_t)(below(2) == 0 ? below(16) : below(word_count(&area)));
+        words[w] = below(2) == 0 ? words[w] ^ UINT64_C(1) << below(64) : next();
+    }
+    if (below(8) == 0)
+        words[4] = below(2) == 0 ? pick_limit() : next() >> below(64);
+    return area;
 }
 
-/* tellings and a call on an area that is damaged, or now and then is not: a refusal changes nothing */
+/* the first words of an area, down to none; the others are gone */
+static struct guarded cut_off(struct guarded *area)
+{
+    size_t words = word_count(area) - (size_t)(below(2) == 0 ? below(5) : below(word_count(area) + 1));
+    struct guarded cut = copy_of(area, 8 * words);
+
+    guarded_free(area);
+    return cut;
+}
+
+/* a telling on whatever words refuses by 7 and 10 as a feed of no bits does, and after them by 6 */
+static void told_as_fed(const struct guarded *area)
+{
+    uint64_t number = area_number(lent_words(area), word_count(area));
+    md6_answer none = tell(area, 0), most = tell(area, UINT64_MAX);
+
+    expect(none.number == number && none.count == 0, "telling for no bits");
+    expect(most.number == (number == 0 && lent_words(area)[1] > 0 ? 6 : number), "telling for the most bits");
+    quiet_feed(area, &(struct piece){ NULL, { 0, 0, 0 } }, 0, number);
+    told_damaged[number]++;
+}
+
+/* a random feed or end, of a log and an output of random lengths */
+static md6_answer random_call(const struct guarded *area, uint64_t *log, uint8_t digest[64])
+{
+    static uint8_t bytes[2048];
+    struct piece piece = { bytes, { sizeof bytes, below(4) == 0 ? next() >> below(64) : below(STARTS), next() } };
+    size_t log_words = (size_t)below(80);
+
+    if (below(2) == 0)
+        return md6_end(lent_words(area), word_count(area), digest, (size_t)below(65), log, log_words);
+    if (below(2) == 0)
+        piece.span.bits = below(8 * sizeof bytes + 20);
+    random_bytes(bytes, sizeof bytes);
+    return feed(area, &piece, log, log_words);
+}
+
+/* tellings and a call on an area that is damaged or short, or now and then is not: a refusal changes nothing, and nothing else
+ * changes a word past those that L asks */
 static void one_damage(void)
 {
-    static uint64_t area[MD6_AREA_WORDS + TAIL], kept[MD6_AREA_WORDS + TAIL], log[LOG_WORDS], kept_log[LOG_WORDS];
-    static uint8_t piece[2048], digest[64], kept_digest[64];
-    struct params p = pick_params();
-    uint64_t start = below(STARTS), n = below(8 * sizeof piece - start);
-    size_t words = MD6_AREA_WORDS + TAIL - (below(8) == 0 ? TAIL + 1 + (size_t)below(5) : 0);
-    size_t log_words = (size_t)below(80), i, hits = (size_t)below(4);
+    static uint64_t kept[MOST_WORDS], log[LOG_WORDS], kept_log[LOG_WORDS];
+    struct guarded area = damaged_area();
+    uint8_t digest[64], kept_digest[64];
+    uint64_t number;
+    size_t at = 0, logged;
     md6_answer o;
 
-    md6_open(area, MD6_AREA_WORDS, p.key, p.key_bytes, p.d, p.limit, p.rounds);
-    random_bytes(piece, sizeof piece);
-    md6_feed(area, MD6_AREA_WORDS, piece, sizeof piece, start, n, log, LOG_WORDS);
     if (below(4) == 0)
-        md6_end(area, MD6_AREA_WORDS, digest, sizeof digest, log, LOG_WORDS);
-    for (i = 0; i < hits; i++) {
-        size_t w = (size_t)(below(2) == 0 ? below(16) : below(MD6_AREA_WORDS));
-        area[w] = below(2) == 0 ? area[w] ^ UINT64_C(1) << below(64) : next();
-    }
-    told_as_fed(area, words);
+        area = cut_off(&area);
+    told_as_fed(&area);
     random_bytes((uint8_t *)log, sizeof log);
     random_bytes(digest, sizeof digest);
-    memcpy(kept, area, sizeof kept);
+    memcpy(kept, area.bytes, area.length);
     memcpy(kept_log, log, sizeof log);
     memcpy(kept_digest, digest, sizeof digest);
-    if (below(2) == 0) {
-        uint64_t bits = below(2) == 0 ? below(8 * sizeof piece + 20) : next();
-        o = md6_feed(area, words, piece, sizeof piece, below(4) == 0 ? next() >> below(64) : below(STARTS), bits, log, log_words);
-    } else
-        o = md6_end(area, words, digest, (size_t)below(65), log, log_words);
-    if (o.number != 0)
-        expect(o.count == 0 && memcmp(kept, area, sizeof kept) == 0 && memcmp(kept_log, log, sizeof log) == 0
-               && memcmp(kept_digest, digest, sizeof digest) == 0, "a refusal changed something");
-    else
-        expect(memcmp(kept_log + 2 * o.count, log + 2 * o.count, sizeof log - 16 * (size_t)o.count) == 0, "the log past the nodes changed");
+    number = area_number(kept, word_count(&area));
+    o = random_call(&area, log, digest);
+    expect(number == 0 || o.number == number, "the number that an area gives by itself");
+    if (o.number == 0)
+        at = words_for(kept[4]);
+    logged = 2 * (size_t)o.count;
+    expect(memcmp(kept + at, lent_words(&area) + at, area.length - 8 * at) == 0 && guarded_intact(&area), "words that must stay changed");
+    expect(memcmp(kept_log + logged, log + logged, sizeof log - 8 * logged) == 0, "the log past the nodes changed");
+    expect(o.number == 0 || (o.count == 0 && memcmp(kept_digest, digest, sizeof digest) == 0), "a refusal changed something");
+    guarded_free(&area);
 }
 
 int main(int argc, char **argv)

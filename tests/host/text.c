@@ -5,6 +5,10 @@
  * Every text that is written is compared with a model of both forms, form.h, and every text that is read or refused with what the
  * model says of it. Texts of the old form, which nothing writes any more, are made by leaving out the two digits of r's high byte.
  *
+ * Areas have just the words that L asks, or others past them, which must stay, and stand beside a page that may not be touched. A
+ * suspension goes from an area of any of these lengths into one of any other, so that texts of long areas are read into short ones
+ * and back. A text that is good is refused by a short area, and one that is not by areas of any length.
+ *
  * Suspensions at every edge, the edges of r, each damage of a text that can be named, in both forms, and mixtures of the two.
  * Random runs of 200 calls: feeds cut at random, lent where they stand in the message, from the byte on in which the one before
  * ended, or copied to any start bit; log words told, refused calls, suspensions into a dirty area, by a text of either form; the
@@ -22,15 +26,28 @@ enum { ROOM = MD6_TEXT_BYTES + 2 * LEVEL_LINE };
 /* what ran: texts read in runs and from sound areas, and damaged ones that are texts all the same, by form; damaged ones refused */
 static uint64_t read_forms[3], damaged_forms[3], damaged_refused;
 
-/* writes an area, with room to spare, and answers the text's bytes: it is the model's text in the new form, and no more */
-static size_t write_right(const uint64_t *area, uint8_t text[ROOM])
+/* suspensions, by whether the area that was left had more words than L asks, and twice whether the new one has */
+static uint64_t moved[4];
+
+static struct params pick_params(void)
+{
+    struct params p = { .key_bytes = (size_t)below(65), .d = 1 + below(512), .limit = pick_limit() };
+
+    p.rounds = wide_rounds();
+    random_bytes(p.key, sizeof p.key);
+    return p;
+}
+
+/* writes an area of so many words, with room to spare, and answers the text's bytes: it is the model's text in the new form, and no
+ * more */
+static size_t write_right(const uint64_t *area, size_t words, uint8_t text[ROOM])
 {
     static uint8_t model[MD6_TEXT_BYTES];
     size_t n = text_of(area, NEW_FORM, model), i;
     md6_answer o;
 
     memset(text, GUARD_BYTE, ROOM);
-    o = md6_write(area, MD6_AREA_WORDS, text, ROOM);
+    o = md6_write(area, words, text, ROOM);
     expect(o.number == 0 && o.count == n && memcmp(text, model, n) == 0, "a text that is written");
     for (i = n; i < ROOM; i++)
         expect(text[i] == GUARD_BYTE, "bytes past a text");
@@ -38,99 +55,123 @@ static size_t write_right(const uint64_t *area, uint8_t text[ROOM])
 }
 
 /* reads a text, which ends at a page that may not be touched, into an area */
-static md6_answer read_at_page(uint64_t *into, const uint8_t *text, size_t n)
+static md6_answer read_at_page(const struct guarded *into, const uint8_t *text, size_t n)
 {
     static struct guarded page;
 
     if (page.length == 0)
         page = guarded_new(ROOM, 1);
     memcpy(page.bytes + ROOM - n, text, n);
-    return md6_read(into, MD6_AREA_WORDS, page.bytes + ROOM - n, n);
+    return md6_read(lent_words(into), word_count(into), page.bytes + ROOM - n, n);
 }
 
-/* reads a text into a dirty area: that is then the one given, and writes the text of the new form */
-static void read_right(const uint8_t *text, size_t n, const uint64_t *area, const char *what)
+/* a text that is refused by this number, by a dirty area of so many words, and nothing changes */
+static void refused_by(uint64_t number, const uint8_t *text, size_t n, size_t words, const char *what)
 {
-    static uint64_t into[MD6_AREA_WORDS];
-    static uint8_t again[ROOM];
+    static uint64_t kept[MOST_WORDS];
+    struct guarded into = area_new(64, words);
     md6_answer o;
 
-    random_words(into, MD6_AREA_WORDS);
-    o = read_at_page(into, text, n);
-    expect(o.number == 0 && o.count == 0 && memcmp(into, area, sizeof into) == 0, what);
-    if (o.number == 0)
-        write_right(into, again);
+    memcpy(kept, into.bytes, into.length);
+    o = read_at_page(&into, text, n);
+    expect(o.number == number && o.count == 0 && memcmp(kept, into.bytes, into.length) == 0 && guarded_intact(&into), what);
+    guarded_free(&into);
 }
 
-/* a text that no sound area writes or wrote: refused by 11, and nothing changes */
+/* a text that no sound area writes or wrote: 11, which by M-109 comes before 7, however long the area is */
 static void refused(const uint8_t *text, size_t n, const char *what)
 {
-    static uint64_t into[MD6_AREA_WORDS], kept[MD6_AREA_WORDS];
-    md6_answer o;
-
-    random_words(into, MD6_AREA_WORDS);
-    memcpy(kept, into, sizeof into);
-    o = read_at_page(into, text, n);
-    expect(o.number == 11 && o.count == 0 && memcmp(kept, into, sizeof into) == 0, what);
+    refused_by(11, text, n, below(2) == 0 ? pick_words(pick_limit()) : (size_t)below(MOST_WORDS + 1), what);
 }
 
-/* Writes the stream and reads it into the other area, sometimes by the text that it would have had before M-108; the areas change
- * places. Only refused calls stand between the two: with an accepted one, be it a telling, which changes nothing, document 01 has
- * the read begin another stream. */
-static void suspend(uint64_t **area, uint64_t **other)
+/* reads a text into a dirty area that is long enough: its words are then those given and the others stay, and it writes the text of
+ * the new form; an area of a word fewer than L asks, or of any fewer, refuses the text */
+static void read_right(const uint8_t *text, size_t n, const uint64_t *area, const char *what)
+{
+    static uint8_t again[ROOM];
+    uint64_t limit = area[4];
+    size_t words = words_for(limit);
+    struct guarded into = area_new(limit, pick_words(limit));
+    md6_answer o = read_at_page(&into, text, n);
+
+    expect(o.number == 0 && o.count == 0 && memcmp(into.bytes, area, 8 * words) == 0 && area_intact(&into, limit), what);
+    if (o.number == 0)
+        write_right(lent_words(&into), word_count(&into), again);
+    guarded_free(&into);
+    refused_by(7, text, n, below(2) == 0 ? words - 1 : (size_t)below(words), "a good text and a short area");
+}
+
+/* calls that are refused, and so may stand within a suspension */
+static void refused_calls(const struct guarded *area)
+{
+    const uint64_t *a = lent_words(area);
+    uint64_t ended = a[0] == 2, log[2];
+    uint8_t byte = 0;
+
+    expect(md6_feed(lent_words(area), word_count(area), &byte, 1, 0, 9, log, 2).number == (ended ? 10 : 5), "feed of too many bits");
+    expect(md6_feed(lent_words(area), word_count(area), &byte, 1, 3, 6, log, 2).number == (ended ? 10 : 5), "feed of too many bits after the start");
+    expect(md6_feed(lent_words(area), word_count(area), &byte, 1, 8, 0, log, 2).number == (ended ? 10 : 5), "feed from bit 8 on");
+    if (ended || a[1] > 0)              /* otherwise it would be accepted */
+        expect(md6_log_words(a, word_count(area), UINT64_MAX).number == (ended ? 10 : 6), "a refused telling");
+}
+
+/* Writes the stream and reads it into another area, sometimes by the text that it would have had before M-108; the other area takes
+ * the place of the first, which may have been longer or shorter. Only refused calls stand between the two: with an accepted one, be
+ * it a telling, which changes nothing, document 01 has the read begin another stream. */
+static void suspend(struct guarded *area)
 {
     static uint8_t text[ROOM], again[ROOM];
-    uint64_t *a = *area, log[2];
-    uint8_t digest[64];
-    size_t n = write_right(a, text);
+    const uint64_t *a = lent_words(area);
+    uint64_t limit = a[4];
+    size_t n = write_right(a, word_count(area), text);
     enum form form = a[5] <= OLD_ROUNDS && below(2) == 0 ? OLD_FORM : NEW_FORM;
+    struct guarded other = area_new(limit, pick_words(limit));
     md6_answer r;
 
-    expect(md6_write(a, MD6_AREA_WORDS, again, n - 1).number == 9, "write to a short output");
-    expect(md6_feed(a, MD6_AREA_WORDS, digest, 1, 0, 9, log, 2).number == (a[0] == 2 ? 10 : 5), "feed of too many bits");
-    expect(md6_feed(a, MD6_AREA_WORDS, digest, 1, 3, 6, log, 2).number == (a[0] == 2 ? 10 : 5), "feed of too many bits after the start");
-    expect(md6_feed(a, MD6_AREA_WORDS, digest, 1, 8, 0, log, 2).number == (a[0] == 2 ? 10 : 5), "feed from bit 8 on");
-    if (a[0] == 2 || a[1] > 0)          /* otherwise it would be accepted */
-        expect(md6_log_words(a, MD6_AREA_WORDS, UINT64_MAX).number == (a[0] == 2 ? 10 : 6), "a refused telling");
+    expect(md6_write(a, word_count(area), again, n - 1).number == 9, "write to a short output");
+    refused_calls(area);
     if (form == OLD_FORM)
         n = drop_high(text, n);
-    random_words(*other, MD6_AREA_WORDS);
-    expect(md6_read(*other, MD6_AREA_WORDS, text, n - 1).number == 11, "read of a short text");
-    expect(md6_read(*other, MD6_AREA_WORDS - 1, text, n).number == 7, "read into a short area");
-    r = md6_read(*other, MD6_AREA_WORDS, text, n);
+    expect(md6_read(lent_words(&other), word_count(&other), text, n - 1).number == 11, "read of a short text");
+    expect(md6_read(lent_words(&other), words_for(limit) - 1, text, n).number == 7, "read into a short area");
+    expect(md6_read(lent_words(&other), words_for(limit) - 1, text, n - 1).number == 11, "read of a short text into a short area");
+    r = md6_read(lent_words(&other), word_count(&other), text, n);
     expect(r.number == 0 && r.count == 0, "read");
-    expect(memcmp(*other, a, 8 * MD6_AREA_WORDS) == 0, "the area read back");
+    expect(memcmp(lent_words(&other), a, 8 * words_for(limit)) == 0, "the area read back");
+    expect(area_intact(area, limit) && area_intact(&other, limit), "wrote outside the areas of a suspension, or to a tail");
     read_forms[form]++;
-    *area = *other;
-    *other = a;
+    moved[(word_count(area) > words_for(limit)) + 2 * (word_count(&other) > words_for(limit))]++;
+    guarded_free(area);
+    *area = other;
 }
 
 /* a telling for so many bits and the feed of them with just the told words: both are refused by 10 once the stream has ended,
  * and otherwise the words are two for each node made. Answers whether the bits were fed. */
-static int tell_and_feed(uint64_t *area, const uint8_t *piece, struct span span, int ended)
+static int tell_and_feed(const struct guarded *area, const uint8_t *piece, struct span span, int ended)
 {
     uint64_t log[LOG_WORDS];
-    md6_answer told = md6_log_words(area, MD6_AREA_WORDS, span.bits), o;
+    md6_answer told = md6_log_words(lent_words(area), word_count(area), span.bits), o;
 
     expect(told.number == (ended ? 10 : 0) && told.count <= LOG_WORDS, "telling before a feed");
-    o = md6_feed(area, MD6_AREA_WORDS, piece, span.bytes, span.start, span.bits, log, told.count <= LOG_WORDS ? (size_t)told.count : LOG_WORDS);
+    o = md6_feed(lent_words(area), word_count(area), piece, span.bytes, span.start, span.bits, log,
+                 told.count <= LOG_WORDS ? (size_t)told.count : LOG_WORDS);
     expect(o.number == told.number && 2 * o.count == told.count, "feed with just the told words");
     return o.number == 0;
 }
 
 /* a telling with no feed after it, for so many bits that half of the totals would pass 2^64 - 1 */
-static void tell_much(const uint64_t *area, uint64_t total, int ended)
+static void tell_much(const struct guarded *area, uint64_t total, int ended)
 {
     uint64_t over = below(2 * total + 1), bits = UINT64_MAX - over;
 
-    expect(md6_log_words(area, MD6_AREA_WORDS, bits).number == (ended ? 10 : over < total ? 6 : 0), "telling for many bits");
+    expect(md6_log_words(lent_words(area), word_count(area), bits).number == (ended ? 10 : over < total ? 6 : 0), "telling for many bits");
 }
 
 /* A run: a stream, now in `area`, and its message, whose bits begin at bit `first` of the bytes; `total` of them are fed. The
  * digest is there once the stream has ended. */
 struct run {
     struct params p;
-    uint64_t *area, *other;
+    struct guarded area;
     uint8_t message[MESSAGE_BYTES], digest[64];
     uint64_t first, total;
     int ended;
@@ -148,11 +189,11 @@ static void feed_some(struct run *r)
     if (at + bits > 8 * MESSAGE_BYTES)
         return;
     if (below(2) == 0)
-        fed = tell_and_feed(r->area, r->message + at / 8, just(at % 8, bits), r->ended);
+        fed = tell_and_feed(&r->area, r->message + at / 8, just(at % 8, bits), r->ended);
     else {
         random_bytes(piece, sizeof piece);
         copy_bits(piece, start, r->message, at, bits);
-        fed = tell_and_feed(r->area, piece, (struct span){ sizeof piece, start, bits }, r->ended);
+        fed = tell_and_feed(&r->area, piece, (struct span){ sizeof piece, start, bits }, r->ended);
     }
     r->total += fed ? bits : 0;
 }
@@ -161,7 +202,7 @@ static void end_run(struct run *r)
 {
     uint64_t log[MD6_END_LOG_WORDS];
 
-    expect(md6_end(r->area, MD6_AREA_WORDS, r->digest, (size_t)(r->p.d + 7) / 8, log, MD6_END_LOG_WORDS).number == (r->ended ? 10 : 0), "end");
+    expect(end_area(&r->area, r->digest, (size_t)(r->p.d + 7) / 8, log).number == (r->ended ? 10 : 0), "end");
     r->ended = 1;
 }
 
@@ -170,17 +211,17 @@ static void one_call(struct run *r, int late)
 {
     switch (below(9)) {
     case 0:
-        suspend(&r->area, &r->other);
+        suspend(&r->area);
         break;
     case 1:
-        expect(md6_open(r->area, MD6_AREA_WORDS, r->p.key, r->p.key_bytes, 0, r->p.limit, r->p.rounds).number == 1, "a refused open");
+        expect(md6_open(lent_words(&r->area), (size_t)below(word_count(&r->area) + 1), r->p.key, r->p.key_bytes, 0, r->p.limit, r->p.rounds).number == 1, "a refused open");
         break;
     case 2:
         if (late && below(8) == 0)
             end_run(r);
         break;
     case 3:
-        tell_much(r->area, r->total, r->ended);
+        tell_much(&r->area, r->total, r->ended);
         break;
     default:
         feed_some(r);
@@ -207,54 +248,56 @@ static void run_right(const struct run *r)
 
 static void one_run(void)
 {
-    static uint64_t areas[2][MD6_AREA_WORDS];
     static struct run r;
     int i;
 
-    r.p = (struct params){ .key_bytes = (size_t)below(65), .d = 1 + below(512), .limit = below(2) == 0 ? below(4) : below(65) };
-    r.p.rounds = below(8) == 0 ? wide_rounds() : below(6);
-    r.area = areas[0];
-    r.other = areas[1];
+    r.p = pick_params();
+    if (below(8) > 0)
+        r.p.rounds = below(6);
+    r.area = area_new(r.p.limit, pick_words(r.p.limit));
     r.first = below(2) == 0 ? 0 : below(STARTS);
     r.total = 0;
     r.ended = 0;
-    random_bytes(r.p.key, sizeof r.p.key);
     random_bytes(r.message, sizeof r.message);
-    expect(md6_open(r.area, MD6_AREA_WORDS, r.p.key, r.p.key_bytes, r.p.d, r.p.limit, r.p.rounds).number == 0, "open");
+    expect(open_area(&r.area, &r.p).number == 0, "open");
     for (i = 0; i < CALLS; i++)
         one_call(&r, i > CALLS / 2);
     if (!r.ended)
         end_run(&r);
-    suspend(&r.area, &r.other);
+    suspend(&r.area);
     end_run(&r);                        /* refused, and the digest stays */
     run_right(&r);
+    guarded_free(&r.area);
 }
 
 /* a stream of so many bits, suspended into a dirty area, fed on to 40,000 bits, from the byte on in which it stopped, and ended:
  * the digest is the whole message's */
 static void one_edge(uint64_t bits, uint64_t limit, uint64_t rounds)
 {
-    static uint64_t areas[2][MD6_AREA_WORDS];
     static uint8_t message[5000];
-    uint64_t *area = areas[0], *other = areas[1], log[LOG_WORDS];
+    struct params p = { .key_bytes = 5, .d = 256, .limit = limit, .rounds = rounds };
+    struct guarded area = area_new(limit, pick_words(limit));
     uint8_t digest[32], whole[32];
+    uint64_t log[MD6_END_LOG_WORDS];
 
     random_bytes(message, sizeof message);
-    expect(md6_open(area, MD6_AREA_WORDS, message, 5, 256, limit, rounds).number == 0, "open at an edge");
-    expect(tell_and_feed(area, message, (struct span){ sizeof message, 0, bits }, 0), "feed to an edge");
-    suspend(&area, &other);
-    expect(tell_and_feed(area, message + bits / 8, just(bits % 8, 8 * sizeof message - bits), 0), "feed past an edge");
-    suspend(&area, &other);
-    expect(md6_end(area, MD6_AREA_WORDS, digest, sizeof digest, log, LOG_WORDS).number == 0, "end past an edge");
-    suspend(&area, &other);             /* an ended stream has a text too */
-    expect(!tell_and_feed(area, message, just(0, 1), 1), "feed after the end");
+    memcpy(p.key, message, p.key_bytes);
+    expect(open_area(&area, &p).number == 0, "open at an edge");
+    expect(tell_and_feed(&area, message, (struct span){ sizeof message, 0, bits }, 0), "feed to an edge");
+    suspend(&area);
+    expect(tell_and_feed(&area, message + bits / 8, just(bits % 8, 8 * sizeof message - bits), 0), "feed past an edge");
+    suspend(&area);
+    expect(end_area(&area, digest, sizeof digest, log).number == 0, "end past an edge");
+    suspend(&area);                     /* an ended stream has a text too */
+    expect(!tell_and_feed(&area, message, just(0, 1), 1), "feed after the end");
     md6_hash(message, sizeof message, 0, 8 * sizeof message, message, 5, 256, limit, rounds, whole, sizeof whole);
     expect(memcmp(digest, whole, sizeof digest) == 0, "digest past an edge");
+    guarded_free(&area);
 }
 
 static void all_edges(void)
 {
-    static const uint64_t edges[] = { 0, 1, 4095, 4096, 4097, 12289, 16385 }, limits[] = { 0, 1, 2, 64 };
+    static const uint64_t edges[] = { 0, 1, 4095, 4096, 4097, 12289, 16385 }, limits[] = { 0, 1, 2, 25, 26, 27, 64 };
     static const uint64_t rounds[] = { 3, OLD_ROUNDS, OLD_ROUNDS + 1, MOST_ROUNDS };
     size_t i, k, j;
 
@@ -277,13 +320,13 @@ static void rounds_in_texts(const uint64_t *holding)
     memcpy(area, holding, sizeof area);
     for (i = 0; i < sizeof in_range / sizeof *in_range; i++) {
         area[5] = in_range[i];
-        n = write_right(area, text);
+        n = write_right(area, MD6_AREA_WORDS, text);
         read_right(text, n, area, "r in range");
         n = drop_high(text, n);
         area[5] %= 256;                 /* without its high byte it is a good old text, of another r if that was over 255 */
         read_right(text, n, area, "the old form of r modulo 256");
     }
-    n = write_right(area, text);
+    n = write_right(area, MD6_AREA_WORDS, text);
     for (i = 0; i < sizeof over / sizeof *over; i++) {
         spell(text + R_AT, over[i], NEW_FORM);
         refused(text, n, "r over 4,095");
@@ -438,9 +481,9 @@ static void named_texts(void)
 
     memset(ones, 0xff, sizeof ones);
     md6_open(area, MD6_AREA_WORDS, NULL, 0, 256, 64, 1);
-    expect(write_right(area, good) == HEAD_LINES, "the text of a stream that holds nothing");
+    expect(write_right(area, MD6_AREA_WORDS, good) == HEAD_LINES, "the text of a stream that holds nothing");
     md6_feed(area, MD6_AREA_WORDS, ones, sizeof ones, 0, 4100, log, LOG_WORDS);
-    n = write_right(area, good);
+    n = write_right(area, MD6_AREA_WORDS, good);
     expect(n == HEAD_LINES + 2 * LEVEL_LINE, "two level lines");
     read_right(good, n, area, "the text itself");
     named_damages(good, n);
@@ -448,26 +491,27 @@ static void named_texts(void)
     other_rounds(good, n, area);
     rounds_in_texts(area);
     expect(md6_end(area, MD6_AREA_WORDS, digest, sizeof digest, log, LOG_WORDS).number == 0, "end");
-    expect(write_right(area, good) == HEAD_LINES, "the text of an ended stream");
+    expect(write_right(area, MD6_AREA_WORDS, good) == HEAD_LINES, "the text of an ended stream");
     rounds_in_texts(area);
 }
 
 /* The texts of a sound area, open or ended: what is written is the model's text, into just so many bytes and not into one fewer, and
  * is read; so is the model's text of the old form, which is the new one without r's high byte. Answers the text's bytes. */
-static size_t area_right(const uint64_t *area)
+static size_t area_right(const struct guarded *area)
 {
     static uint64_t lower[MD6_AREA_WORDS];
     static uint8_t text[ROOM], old[ROOM];
-    size_t n = write_right(area, text), shorter = n - OLD_SHORTER;
+    const uint64_t *a = lent_words(area);
+    size_t n = write_right(a, word_count(area), text), shorter = n - OLD_SHORTER;
     struct guarded just_enough = guarded_new(n, 1);
 
-    expect(md6_write(area, MD6_AREA_WORDS, just_enough.bytes, n).count == n && memcmp(just_enough.bytes, text, n) == 0
+    expect(md6_write(a, word_count(area), just_enough.bytes, n).count == n && memcmp(just_enough.bytes, text, n) == 0
            && guarded_intact(&just_enough), "write to just enough bytes");
-    expect(md6_write(area, MD6_AREA_WORDS, just_enough.bytes + 1, n - 1).number == 9 && memcmp(just_enough.bytes, text, n) == 0,
+    expect(md6_write(a, word_count(area), just_enough.bytes + 1, n - 1).number == 9 && memcmp(just_enough.bytes, text, n) == 0,
            "write to a byte fewer");
     guarded_free(&just_enough);
-    read_right(text, n, area, "the text of a sound area");
-    memcpy(lower, area, sizeof lower);
+    read_right(text, n, a, "the text of a sound area");
+    memcpy(lower, a, 8 * words_for(a[4]));
     lower[5] %= 256;
     expect(text_of(lower, OLD_FORM, old) == shorter && drop_high(text, n) == shorter && memcmp(text, old, shorter) == 0,
            "the model's old form");
@@ -477,33 +521,61 @@ static size_t area_right(const uint64_t *area)
     return n;
 }
 
-static struct params pick_params(void)
+/* the texts of a sound area of that total, some of them ended; answers the bytes of the text */
+static size_t one_sound(const struct params *p, uint64_t total, int ended)
 {
-    struct params p = { .key_bytes = (size_t)below(65), .d = 1 + below(512), .limit = below(2) == 0 ? below(30) : below(65) };
+    struct guarded area = area_new(p->limit, pick_words(p->limit));
+    size_t n;
 
-    p.rounds = wide_rounds();
-    random_bytes(p.key, sizeof p.key);
-    return p;
+    sound_area(lent_words(&area), p, total);
+    if (ended)
+        ended_area(lent_words(&area));
+    expect(is_sound(lent_words(&area)), "an area that the model makes is sound by it");
+    n = area_right(&area);
+    expect(area_intact(&area, p->limit), "wrote outside a sound area, or to its tail");
+    guarded_free(&area);
+    return n;
 }
 
-/* sound areas of any total and limit, some of them ended; the longest text is that of 27 levels which all hold something */
+/* sound areas of any total and limit; the longest text is that of 27 levels which all hold something */
 static void sound_areas(void)
 {
-    static uint64_t area[MD6_AREA_WORDS];
     struct params p;
     int i;
 
     for (i = 0; i < AREAS; i++) {
         p = pick_params();
-        sound_area(area, &p, pick_total());
-        if (below(4) == 0)
-            ended_area(area);
-        expect(is_sound(area), "an area that the model makes is sound by it");
-        area_right(area);
+        one_sound(&p, pick_total(), below(4) == 0);
     }
     p = (struct params){ .d = 512, .limit = 64, .rounds = MOST_ROUNDS };
-    sound_area(area, &p, UINT64_MAX);
-    expect(area_right(area) == MD6_TEXT_BYTES, "the longest text");
+    expect(one_sound(&p, UINT64_MAX, 0) == MD6_TEXT_BYTES, "the longest text");
+}
+
+/* A line of zeros for the level above the last that L gives, at the end of a text of an area with that L. Before M-109 every area
+ * had words for it, and held nothing there; it has no line now as then. */
+static void line_above(uint64_t limit)
+{
+    static uint64_t area[MD6_AREA_WORDS];
+    static uint8_t text[ROOM];
+    struct params p = pick_params();
+    size_t n;
+
+    p.limit = limit;
+    sound_area(area, &p, pick_total());
+    n = write_right(area, words_for(limit), text);
+    memset(spell(text + n, limit + 2, 1), '0', LEVEL_LINE - 3);
+    text[n + LEVEL_LINE - 1] = 10;
+    refused(text, n + LEVEL_LINE, "a line above the last level");
+    n = drop_high(text, n + LEVEL_LINE);
+    refused(text, n, "a line above the last level, in the old form");
+}
+
+static void lines_above(void)
+{
+    uint64_t limit;
+
+    for (limit = 0; limit <= LEVELS; limit++)
+        line_above(limit);
 }
 
 /* a change of line 1 that leaves it with digits alone: some more or fewer, or r at an edge */
@@ -560,44 +632,48 @@ static size_t damage(uint8_t *text, size_t n, enum form form)
     return n;
 }
 
-/* a damaged text is read exactly if the model has an area for it, and then into that area, which writes the text back: as itself,
- * or with r's high byte if it is of the old form */
+/* A damaged text is read exactly if the model has an area for it, and then into that area, if there are words enough, which writes
+ * the text back: as itself, or with r's high byte if it is of the old form. M-109: "reading tests 11 and then 7". */
 static void damaged_right(uint8_t *text, size_t n)
 {
-    static uint64_t into[MD6_AREA_WORDS], kept[MD6_AREA_WORDS], model[MD6_AREA_WORDS];
+    static uint64_t model[MD6_AREA_WORDS];
     static uint8_t again[MD6_TEXT_BYTES];
     int form = area_of(text, n, model);
+    struct guarded into;
     md6_answer o, w;
 
-    random_words(into, MD6_AREA_WORDS);
-    memcpy(kept, into, sizeof into);
-    o = read_at_page(into, text, n);
     if (form == 0) {
-        expect(o.number == 11 && o.count == 0 && memcmp(kept, into, sizeof into) == 0, "a damaged text is read, or changed something");
+        refused(text, n, "a damaged text is read, or changed something");
         damaged_refused++;
         return;
     }
-    expect(o.number == 0 && o.count == 0 && memcmp(model, into, sizeof into) == 0, "the area of a text that is one all the same");
-    w = md6_write(into, MD6_AREA_WORDS, again, sizeof again);
+    if (below(4) == 0)
+        refused_by(7, text, n, (size_t)below(words_for(model[4])), "a damaged text that is one, and a short area");
+    into = area_new(model[4], pick_words(model[4]));
+    o = read_at_page(&into, text, n);
+    expect(o.number == 0 && o.count == 0 && memcmp(model, into.bytes, 8 * words_for(model[4])) == 0 && area_intact(&into, model[4]),
+           "the area of a text that is one all the same");
+    w = md6_write(lent_words(&into), word_count(&into), again, sizeof again);
     if (form == OLD_FORM)
         n = put_high(text, n);
     expect(w.number == 0 && w.count == n && memcmp(text, again, n) == 0, "a text that is read writes back as itself");
     damaged_forms[form]++;
+    guarded_free(&into);
 }
 
 static void one_damage(void)
 {
     static uint64_t area[MD6_AREA_WORDS];
     static uint8_t text[ROOM], piece[8192];
-    uint64_t log[LOG_WORDS], limit = below(2) == 0 ? below(4) : below(65);
+    uint64_t log[LOG_WORDS], limit = pick_limit();
     enum form form = below(2) == 0 ? OLD_FORM : NEW_FORM;
-    size_t n;
+    size_t n, words = words_for(limit);
 
-    md6_open(area, MD6_AREA_WORDS, piece, (size_t)below(65), 1 + below(512), limit, below(3));
-    md6_feed(area, MD6_AREA_WORDS, piece, sizeof piece, 0, below(8 * sizeof piece), log, LOG_WORDS);
+    md6_open(area, words, piece, (size_t)below(65), 1 + below(512), limit, below(3));
+    md6_feed(area, words, piece, sizeof piece, 0, below(8 * sizeof piece), log, LOG_WORDS);
     if (below(2) == 0)
         area[5] = wide_rounds();        /* another stream, for which nothing is compressed */
-    n = (size_t)md6_write(area, MD6_AREA_WORDS, text, ROOM).count;
+    n = (size_t)md6_write(area, words, text, ROOM).count;
     expect(n >= HEAD_LINES && n <= MD6_TEXT_BYTES, "write before a damage");
     if (n < HEAD_LINES)
         return;
@@ -617,11 +693,14 @@ int main(int argc, char **argv)
     for (i = 0; i < RUNS; i++)
         one_run();
     sound_areas();
+    lines_above();
     for (i = 0; i < DAMAGED; i++)
         one_damage();
     printf("texts read: %" PRIu64 " of the new form, %" PRIu64 " of the old\n", read_forms[NEW_FORM], read_forms[OLD_FORM]);
     printf("damaged texts: %" PRIu64 " refused; texts all the same are %" PRIu64 " of the new form, %" PRIu64 " of the old\n",
            damaged_refused, damaged_forms[NEW_FORM], damaged_forms[OLD_FORM]);
+    printf("suspensions: %" PRIu64 " from just the words that L asks into just these, %" PRIu64 " from more into these, %" PRIu64 " into more, %" PRIu64 " from more into more\n",
+           moved[0], moved[1], moved[2], moved[3]);
     expect(read_forms[OLD_FORM] > 0 && damaged_refused > 0 && damaged_forms[NEW_FORM] > 0 && damaged_forms[OLD_FORM] > 0,
            "a kind of text that never came about");
     printf("%" PRIu64 " wrong\n", bad);

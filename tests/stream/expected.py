@@ -4,9 +4,10 @@
 MD6REF is the second program (tests/second/md6ref.c), compiled: it prints a line for each node of the tree of the message fed
 so far, and the digest. Document 01, "Runs", says which of those nodes have been made before the end: those that do not reach
 the last bit, so all but the last of each level. Bits from a start bit on are cut out here, joined with those fed before and
-given to it as one message. Refusals are those of document 01's table, numbers 4 and 5 as document 02 has them, and change
+given to it as one message. Refusals are those of document 01's table, numbers 4, 5 and 7 as document 02 has them, and change
 nothing. Told log words are those of document 02, M-103: two for each node that the feed would make; what is past the second
-program is counted level by level, by document 01's "Tree".
+program is counted level by level, by document 01's "Tree". An area has the words that M-109 gives for its L, those lent past
+them are as they were after every call, and whatever they hold no call answers otherwise.
 """
 import functools
 import subprocess
@@ -45,6 +46,15 @@ def made(limit, total):
     if total <= 8 * len(ONES):
         assert count == len(made_before_end(tree(ONES, total, KEY, 8, limit, 0)[0]))
     return count
+
+
+def area_levels(limit):
+    """Document 02, M-109: "16 words plus 64 times the smaller of L + 1 and 27"."""
+    return min(limit + 1, 27)
+
+
+def area_words(limit):
+    return 16 + 64 * area_levels(limit)
 
 
 def telling(number, words=0):
@@ -95,6 +105,17 @@ class Stream:
 OPENED = [answer(0, 0, "changed")]
 
 
+def open_number(words, key_bytes, d, limit, rounds):
+    """Document 02, M-109: "Open tests 1, 2, 3, 4 and then 7"; M-108: "Number 4 is now for r over 4,095"."""
+    tests = [(1, not 1 <= d <= 512), (2, key_bytes > 64), (3, limit > 64), (4, rounds > 4095), (7, words < area_words(limit))]
+    return next((number for number, holds in tests if holds), 0)
+
+
+def opened(*arguments):
+    number = open_number(*arguments)
+    return refused(number) if number else OPENED
+
+
 def row(limit, d, *pieces):
     stream = Stream(b"", d, limit)
     lines = list(OPENED)
@@ -116,50 +137,110 @@ def cut_rows():
 
 
 def with_rounds(rounds):
-    """Document 02, M-108: "Number 4 is now for r over 4,095". An area that was not opened is unsound."""
-    if rounds > 4095:
-        return refused(4) + refused(7) + refused_end(7, 3)
+    """An area that was not opened is unsound."""
+    lines = opened(1750, 0, 24, 64, rounds)
+    if lines != OPENED:
+        return lines + refused(7) + refused_end(7, 3)
     stream = Stream(b"", 24, 64, rounds=rounds)
-    return OPENED + stream.feed(4097) + stream.end(3)
+    return lines + stream.feed(4097) + stream.end(3)
 
 
 def rounds_edges():
     return [line for rounds in (255, 256, 4095, 4096, 2 ** 32 + 5) for line in with_rounds(rounds)]
 
 
-def refused_opens():
-    return [line for number in (7, 1, 1, 1, 2, 3, 4) for line in refused(number)] + 3 * OPENED
+def opens():
+    rows = [(65, 0, 65, 4096), (65, 513, 65, 4096), (65, 2 ** 32 + 8, 65, 4096), (65, 512, 65, 4096), (0, 1, 65, 4096),
+            (0, 1, 64, 4096), (0, 1, 64, 4095), (0, 1, 64, 256), (0, 1, 64, 255)]
+    return [line for words in (0, 80, 1743, 1744) for r in rows for line in opened(words, *r)]
 
 
 def unsound(count, number=7, room=3, shown=0):
     return (telling(number) + refused(number) + refused_end(number, room) + [str(shown)]) * count
 
 
-def short_areas():
-    return unsound(2, 7, 0) + telling(7)
+def sound(limit, bits, message, rounds=0):
+    """A byte `a` is fed after so many bits; the message has both."""
+    stream = Stream(KEY, 8, limit, message, rounds)
+    stream.feed(bits)
+    return told(limit, bits, 8) + stream.feed(8) + stream.end(3) + ["64"]
+
+
+def altered(limit, bits, at):
+    """A bit is set that is neither held nor of a sequential output, unless it stands past the area."""
+    if at < area_words(limit):
+        return unsound(1)
+    return sound(limit, bits, in_bytes("1" * bits + cut(b"a", 0, 8)))
+
+
+def altered_ended(limit, at):
+    return unsound(1, 7, 0) if at < area_words(limit) else unsound(1, 10, 0, 64)
+
+
+def other_limit(words, first, bits, limit):
+    """Word 4 has another L than the first, past whose words nothing is zero; its levels are zeros if no bits were fed."""
+    if limit > 64 or bits or area_words(limit) > min(words, area_words(first)):
+        return unsound(1)
+    return sound(limit, 0, b"a")
+
+
+def other_limits():
+    rows = [(*r, limit) for limit in (65, 2 ** 64 - 1) for r in ((80, 0, 0), (1744, 0, 0), (1750, 64, 1))]
+    rows += [(80, 64, 0, 0), (143, 64, 0, 1), (144, 64, 0, 1), (1750, 0, 0, 1)]
+    return [line for r in rows for line in other_limit(*r)]
+
+
+def altered_levels():
+    rows = [(64, 1, 16), (64, 4095, 79), (64, 4096, 80), (64, 4097, 96), (0, 3072, 31), (0, 3073, 32), (0, 3073, 80),
+            (1, 4097, 95), (1, 12289, 96), (1, 12289, 144)]
+    return [line for r in rows for line in altered(*r)]
+
+
+def shown(limit):
+    levels = (0, 1, 2, 3, 4, 26, 27, 28, 29, 65, 66, 2 ** 63)
+    return ["64" if 1 <= level <= area_levels(limit) else "0" for level in levels]
+
+
+def stream_in(words, limit):
+    """M-109: "Showing a level that the area lacks gives the empty part." An area that was not opened shows none."""
+    lines = opened(words, 0, 24, limit, 9)
+    if lines != OPENED:
+        return lines + telling(7) + refused(7) + shown(-1) + refused_end(7, 3)
+    stream = Stream(b"", 24, limit, rounds=9)
+    return lines + told(limit, 0, 16385) + stream.feed(16385) + shown(limit) + stream.end(3)
+
+
+def shortened(words, limit):
+    """An area with no word 4, or with fewer words than the L there asks, is short; for open it goes by the L given."""
+    assert words < area_words(limit)
+    return 2 * (unsound(1, 7, 0) + opened(words, 0, 8, limit, 0))
+
+
+def told_words(limit):
+    """Document 02, M-109; number 3 is for L over 64."""
+    return ["3 0" if limit > 64 else f"0 {area_words(limit)}"]
+
+
+def by_limit(limit):
+    words = area_words(limit)
+    lines = told_words(limit)
+    for lent in (words, 1750, words - 1):
+        lines += stream_in(lent, limit)
+    lines += shortened(words - 1, limit) + altered(limit, 1, words - 1) + altered(limit, 1, words)
+    return lines + altered_ended(limit, words - 1) + altered_ended(limit, words)
+
+
+def all_lengths():
+    lines = [line for limit in (0, 1, 2, 25, 26, 27, 64) for line in by_limit(limit)]
+    lines += [line for limit in (65, 2 ** 32, 2 ** 64 - 1) for line in told_words(limit)]
+    return lines + shortened(80, 64) + [line for words in range(17) for line in shortened(words, 0)]
 
 
 def sound_areas():
-    """A held word or a chained output is set to zero after the feed: the message is then another one. Or r is. A byte `a` is fed
-    next."""
-    lines = []
-    for limit, bits, message, rounds in (
-        (64, 1, b"\x30\x80", 0),
-        (64, 4096, ONES[:504] + bytes(8) + b"a", 0),
-        (0, 3073, ONES[:376] + bytes(8) + b"\xb0\x80", 0),
-        (64, 1, b"\xb0\x80", 0),
-        (64, 1, b"\xb0\x80", 255),
-        (64, 1, b"\xb0\x80", 256),
-        (64, 1, b"\xb0\x80", 4095),
-    ):
-        stream = Stream(KEY, 8, limit, message, rounds)
-        stream.feed(bits)
-        lines += told(limit, bits, 8) + stream.feed(8) + stream.end(3) + ["64"]
-    return lines
-
-
-def ended_areas():
-    return unsound(4, 7, 0) + unsound(1, 10, 0, 64)
+    """A held word or a chained output is set to zero after the feed: the message is then another one. Or r is."""
+    rows = [(64, 1, b"\x30\x80"), (64, 4096, ONES[:504] + bytes(8) + b"a"), (0, 3073, ONES[:376] + bytes(8) + b"\xb0\x80"),
+            (64, 1, b"\xb0\x80", 255), (64, 1, b"\xb0\x80", 256), (64, 1, b"\xb0\x80", 4095)]
+    return [line for r in rows for line in sound(*r)]
 
 
 def short_logs():
@@ -275,8 +356,7 @@ def ordered_refusals():
     return [line for number in (8, 6, 5, 10, 7) for line in refused(number)]
 
 
-print("\n".join(whole_rows() + cut_rows() + rounds_edges() + refused_opens() + short_areas() + unsound(15) + unsound(11)
-                + sound_areas() + ended_areas() + short_logs() + told_edges() + told_longest() + most_nodes() + long_stream()
-                + starts() + [pieces(bits) for bits in (1, 3, 9, 19, 171, 513, 1026, 4104)]
-                + logged([(CUT, 0, 4093), (CUT[511:], 5, 5), (CUT[512:], 2, 6)]) + start_edges() + ordered_refusals()
-                + ["0", "64", "64", "0", "0"]))
+print("\n".join(whole_rows() + cut_rows() + rounds_edges() + opens() + all_lengths() + unsound(14) + other_limits()
+                + altered_levels() + sound_areas() + unsound(3, 7, 0) + short_logs() + told_edges() + told_longest() + most_nodes()
+                + long_stream() + starts() + [pieces(bits) for bits in (1, 3, 9, 19, 171, 513, 1026, 4104)]
+                + logged([(CUT, 0, 4093), (CUT[511:], 5, 5), (CUT[512:], 2, 6)]) + start_edges() + ordered_refusals()))

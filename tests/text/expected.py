@@ -3,7 +3,8 @@
 
 The streams are of ones (or zeros) with r = 0, so that the output of a full block is ones (or zeros) again: "Reels by hand"; a
 stream with another r has made no node. In line 1 r has two bytes as of M-108, and had one before: the width of its field.
-A text is read exactly if `sound` says at one of the two that it is what writing some sound area gives, or gave.
+A text is read exactly if `sound` says at one of the two that it is what writing some sound area gives, or gave. Its area has
+the words that document 02, M-109, gives for its L: "16 words plus 64 times the smaller of L + 1 and 27".
 """
 import re
 
@@ -11,6 +12,10 @@ KEY = b"key"
 LEVELS = 27
 MOST_ROUNDS = 4095
 NEW, OLD = 2, 1
+
+
+def area_words(limit):
+    return 16 + 64 * min(limit + 1, LEVELS)
 
 
 def state(total, limit, ended):
@@ -81,22 +86,45 @@ def sound(width, text):
 
 
 def suspended(name, *stream, r=0, **more):
-    """The text is written and read. Then what writing gave before M-108 is read (with an r over 255, that of its low byte), and the
-    area that it gives writes the new form again."""
+    """The text is written, and read into just enough words. Then what writing gave before M-108 is (with an r over 255, that of its
+    low byte), and the area that it gives writes the new form again, which is read into as many words as at first."""
     low = r % 256
     new = text_of(NEW, *stream, r=r, **more)
     old = text_of(OLD, *stream, r=low, **more)
     again = text_of(NEW, *stream, r=low, **more)
-    assert sound(NEW, new) and sound(OLD, old) and sound(NEW, again)
+    for text in (new, old, again):
+        assert read_number(text, area_words(stream[1])) == 0
+    same = "same" if r == low else "changed"
     print(f"{name} 0 {len(new)} 0 0 same\n{new.decode()}", end="")
-    print(f"old {name} 0 0 {'same' if r == low else 'changed'}\n{old.decode()}", end="")
-    print(f"again 0 {len(again)}\n{again.decode()}", end="")
+    print(f"old {name} 0 0 {same}\n{old.decode()}", end="")
+    print(f"again 0 {len(again)} 0 0 {same}\n{again.decode()}", end="")
+
+
+def read_number(text, words):
+    """M-109: "reading tests 11 and then 7", by the L of the text."""
+    width = next((width for width in (NEW, OLD) if sound(width, text)), 0)
+    if not width:
+        return 11
+    return 7 if words < area_words(int(text[2 + 2 * width:4 + 2 * width], 16)) else 0
+
+
+def read_into(words, name, text):
+    number = read_number(text, words)
+    print(name, number, 0, "same" if number else "changed")
 
 
 def read(name, text):
     """A text is read, and then the same without the two digits behind the phase: the old form, if the text was in the new one."""
-    for label, lent in ((name, text), (f"old {name}", text[:2] + text[4:])):
-        print(label, "0 0 changed" if sound(NEW, lent) or sound(OLD, lent) else "11 0 same")
+    read_into(1750, name, text)
+    read_into(1750, f"old {name}", text[:2] + text[4:])
+
+
+def too_few(words, limit):
+    assert words < area_words(limit)
+    text = text_of(NEW, 12289, limit)
+    print("write 7 0 a5")
+    read_into(words, "read", text)
+    read_into(words, "read-damaged", b" " + text[1:])
 
 
 suspended("empty", 0, 64)
@@ -106,7 +134,6 @@ suspended("full", 4096, 64)
 suspended("later", 4097, 64)
 suspended("sequential", 3073, 0)
 suspended("joined", 4097, 1)
-suspended("output", 12289, 1)
 suspended("ended", 4097, 64, ended=True)
 suspended("longest", 2 ** 64 - 1, 64, "0")
 for r in (255, 256, 4095):
@@ -166,11 +193,14 @@ for at in (0, 2, 6, 8, 10, 14, 30, 44, 47, 173, 176, 1203, 2227):
     read("two-left-out", BASE[:at] + BASE[at + 2:])
     read("one-twice", BASE[:at + 1] + BASE[at:])
     read("two-twice", BASE[:at + 2] + BASE[at:])
-print("short-area 7 0 same")
-print("short-area-bad-text 7 0 same")
-print("exact-area 0 0 same")
+for limit in (0, 1, 2, 25, 26, 27, 64):
+    suspended("limit", 12289, limit)
+    too_few(area_words(limit) - 1, limit)
+too_few(80, 64)
+for words in range(17):
+    too_few(words, 0)
+# word 4, r or word 15 is out of range
+for _ in range(8):
+    print("write 7 0 a5")
 print("output-short 9 0", "a5" * 175)
 print("output-long 0 176", text_of(NEW, 0, 64).hex() + "a5" * 2)
-print("area-short 7 0 a5")
-print("rounds-over 7 0 a5")
-print("area-unsound 7 0 a5")

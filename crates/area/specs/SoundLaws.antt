@@ -4,21 +4,25 @@ use mathlib.Core.Bool.{Bool, true, false, _||_, _&&_, and-assoc}
 use mathlib.Core.List.{List}
 use Prim.Native.Nat.{ℕ, zero, suc, _+_, _-_, _*_, _/_, _%_, _≤_, _<_}
 use native.Mathlib.Omega.{arith}
-use lib.Dec.{eqb}
+use lib.Dec.{eqb, ltb}
 use lib.ListN.{length, take, drop, getD}
 use lib.Seq.{drop-drop, take-add}
-use borrow.Author.Tests.{eq-eqb, ne-eqb}
+use borrow.Author.Tests.{ltb-false, eq-eqb, ne-eqb}
 use Rattle.lists.specs.And.{and-first, and-second}
 use Rattle.bits.specs.Bits.{bitsOf}
 use Rattle.bits.specs.BitsLaws.{bitsOf-append, bitsOf-take}
 use Rattle.tree.specs.Tree.{blockBits, sequentialBits, outputBits}
 use Rattle.refusals.specs.Refusals.{firstRefusal, rangeTests, paramTests}
 use Rattle.calls.specs.Moved.{length-key}
-use Rattle.calls.specs.Area.{Hold, cleanAll, allFalse, levelWords, levelsFrom, levelsOf, doneBlocks, heldBits, paramsOf, countFor, openCount, soundPhase, soundParams, soundKey, soundCount, soundLast, soundLevels, sound, areaLevels, blockWords, outputWords, levelStart, levelsUp}
+use Rattle.calls.specs.Area.{Hold, headWords, cleanAll, allFalse, levelWords, levelsFrom, levelsOf, doneBlocks, heldBits, paramsOf, countFor, openCount, soundPhase, soundParams, soundKey, soundCount, soundLast, soundLevels, sound, ownLevels, ownWords, Long, blockWords, outputWords, levelStart, levelsUp}
 use Rattle.area.specs.LevelTests.{clean-empty, clean-open, holds-ended, holds-open, emptyFrom, allEmpty, soundSequential, soundAbove, soundOpen}
 use Rattle.tree.specs.Sizes.{treeNodes}
-use Rattle.calls.specs.AreaLaws.{levelsUp-cons, levelsUp-none}
+use Rattle.calls.specs.AreaLaws.{levels-split, levelsUp-cons, levelsUp-none}
 use Rattle.area.specs.EmptyLaws.{allFalse-append}
+
+-- an area that the code finds not short
+pub not-short : (area : List ℕ) {b : Bool} → b ≡ ltb (length area) (ownWords area) → b ≡ false → Long area
+not-short area e f = ltb-false (length area) (ownWords area) (sym e ∙ f)
 
 -- ---- levels
 
@@ -39,6 +43,10 @@ empty-levels area (suc m) k h =
     let f : levelStart k + blockWords ≡ levelStart (suc k) = omega arith in
     rw (e, take-add blockWords (blockWords * m) D, bitsOf-append, allFalse-append, drop-drop blockWords (levelStart k) area, f, empty-levels area m (suc k) (omega arith))
 
+pub empty-all : (area : List ℕ) → allEmpty (levelsOf area) ≡ emptyFrom 0 (take (blockWords * ownLevels area) (drop headWords area))
+unfolding levelsOf
+empty-all area = empty-levels area (ownLevels area) 1 (omega arith)
+
 -- the output in front of a sequential level
 chain-empty : (ws : List ℕ) → allFalse (take outputBits (bitsOf 64 ws)) ≡ emptyFrom 0 (take outputWords ws)
 chain-empty ws = ap allFalse (bitsOf-take 64 outputWords ws)
@@ -50,32 +58,34 @@ pub sequential-none : (c held : ℕ) (ws : List ℕ) → c ≡ 0
     → soundSequential c held ws ≡ (emptyFrom 0 (take outputWords ws) && emptyFrom (outputBits + held) ws)
 sequential-none c held ws h = rw (eq-eqb c 0 h, chain-empty ws)
 
--- all levels of an open area
-pub open-none : (area : List ℕ) (limit T : ℕ) → limit < 1
-    → soundOpen limit T (levelsOf area)
-    ≡ (soundSequential (doneBlocks sequentialBits T) (heldBits sequentialBits T) (levelWords area 1) && allEmpty (levelsUp area 2))
-unfolding levelsOf
-open-none area zero T h = refl
-open-none area (suc n) T h = absurd (omega arith)
+and-true : (b : Bool) → (b && true) ≡ b
+and-true true = refl
+and-true false = refl
+
+-- all levels of an open area: level 1, and those above it, of which there are none if level 1 is sequential
+pub open-none : (area : List ℕ) (limit T : ℕ) → limit ≡ paramsOf area .limit → limit < 1
+    → soundOpen limit T (levelsOf area) ≡ soundSequential (doneBlocks sequentialBits T) (heldBits sequentialBits T) (levelWords area 1)
+open-none area zero T e h = rw (levels-split area, levelsUp-none area 2 (omega arith)) (and-true _)
+open-none area (suc n) T e h = absurd (omega arith)
 
 pub open-more : (area : List ℕ) (limit T : ℕ) → 1 ≤ limit
     → soundOpen limit T (levelsOf area) ≡ (emptyFrom (heldBits blockBits T) (levelWords area 1) && soundAbove (limit - 1) (doneBlocks blockBits T) (levelsUp area 2))
-unfolding levelsOf
 open-more area zero T h = absurd (omega arith)
-open-more area (suc n) T h = let f : suc n - 1 ≡ n = omega arith in rw f
+open-more area (suc n) T h = let f : suc n - 1 ≡ n = omega arith in rw (levels-split area, f)
 
 -- the levels of an area, one after the other
-pub above-more : (area : List ℕ) (n i k : ℕ) → 1 ≤ n → k ≤ areaLevels
+pub above-more : (area : List ℕ) (n i k : ℕ) → 1 ≤ n → k ≤ ownLevels area
     → soundAbove n i (levelsUp area k) ≡ (emptyFrom (outputBits * (i % 4)) (levelWords area k) && soundAbove (n - 1) (i / 4) (levelsUp area (k + 1)))
 above-more area zero i k h g = absurd (omega arith)
 above-more area (suc n) i k h g = let f : suc n - 1 ≡ n = omega arith in rw (levelsUp-cons area k g, f)
 
-pub above-last : (area : List ℕ) (n i k : ℕ) → n < 1 → k ≤ areaLevels
-    → soundAbove n i (levelsUp area k) ≡ (soundSequential (i / 3) (outputBits * (i % 3)) (levelWords area k) && allEmpty (levelsUp area (k + 1)))
-above-last area zero i k h g = rw (levelsUp-cons area k g)
+-- the sequential level is the last
+pub above-last : (area : List ℕ) (n i k : ℕ) → n < 1 → k ≡ ownLevels area
+    → soundAbove n i (levelsUp area k) ≡ soundSequential (i / 3) (outputBits * (i % 3)) (levelWords area k)
+above-last area zero i k h g = rw (levelsUp-cons area k (omega arith), levelsUp-none area (k + 1) (omega arith)) (and-true _)
 above-last area (suc n) i k h g = absurd (omega arith)
 
-pub above-none : (area : List ℕ) (n i k : ℕ) → areaLevels < k → soundAbove n i (levelsUp area k) ≡ true
+pub above-none : (area : List ℕ) (n i k : ℕ) → ownLevels area < k → soundAbove n i (levelsUp area k) ≡ true
 above-none area n i k h = rw (levelsUp-none area k h) refl
 
 -- ---- the words before the levels
@@ -104,30 +114,35 @@ head-params area p q = head-rest area p ∙ and-first (soundParams area) (soundK
 pub head-more : (area : List ℕ) → soundPhase area ≡ true → soundParams area ≡ true → soundHead area ≡ (soundKey area && (soundCount area && soundLast area))
 head-more area p q = head-rest area p ∙ and-second (soundParams area) (soundKey area && (soundCount area && soundLast area)) q
 
-pub sound-parts : (area : List ℕ) → sound area ≡ (soundHead area && soundLevels area)
-unfolding sound soundHead
-sound-parts area =
+-- the tests of the head, and one more
+pub parts-joined : (area : List ℕ) (levels : Bool)
+    → (soundPhase area && (soundParams area && (soundKey area && (soundCount area && (soundLast area && levels))))) ≡ (soundHead area && levels)
+unfolding soundHead
+parts-joined area f =
     let a = soundPhase area in
     let b = soundParams area in
     let c = soundKey area in
     let d = soundCount area in
     let e = soundLast area in
-    let f = soundLevels area in
     sym
     (and-assoc a (b && (c && (d && e))) f
     ∙ ap (_&&_ a) (and-assoc b (c && (d && e)) f ∙ ap (_&&_ b) (and-assoc c (d && e) f ∙ ap (_&&_ c) (and-assoc d e f))))
 
-pub levels-ended : (area : List ℕ) → getD area 0 0 ≡ 2 → soundLevels area ≡ allEmpty (levelsUp area 1)
+pub sound-parts : (area : List ℕ) → sound area ≡ (soundHead area && soundLevels area)
+unfolding sound
+sound-parts area = parts-joined area (soundLevels area)
+
+pub levels-ended : (area : List ℕ) → getD area 0 0 ≡ 2 → soundLevels area ≡ allEmpty (levelsOf area)
 unfolding levelsOf
 levels-ended area h =
-    ap (λ (hs : List Hold). cleanAll hs (levelsOf area)) (holds-ended areaLevels (getD area 0 0) (paramsOf area .limit) (getD area 1 0) h)
-    ∙ clean-empty area areaLevels 1
+    ap (λ (hs : List Hold). cleanAll hs (levelsOf area)) (holds-ended (ownLevels area) (getD area 0 0) (paramsOf area .limit) (getD area 1 0) h)
+    ∙ clean-empty area (ownLevels area) 1
 
 pub levels-open : (area : List ℕ) → (getD area 0 0 ≡ 2 → ⊥) → soundLevels area ≡ soundOpen (getD area 4 0) (getD area 1 0) (levelsOf area)
 unfolding paramsOf levelsOf
 levels-open area h =
-    ap (λ (hs : List Hold). cleanAll hs (levelsOf area)) (holds-open areaLevels (getD area 0 0) (paramsOf area .limit) (getD area 1 0) h)
-    ∙ clean-open area areaLevels (getD area 4 0) (getD area 1 0) 1
+    ap (λ (hs : List Hold). cleanAll hs (levelsOf area)) (holds-open (ownLevels area) (getD area 0 0) (paramsOf area .limit) (getD area 1 0) h)
+    ∙ clean-open area (ownLevels area) (getD area 4 0) (getD area 1 0) 1
 
 pub phase-open : (p : ℕ) → p ≡ 1 → (eqb p 1 || eqb p 2) ≡ true
 phase-open p e = rw (eq-eqb p 1 e)

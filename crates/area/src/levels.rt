@@ -1,10 +1,9 @@
 // Whether the levels of an area are sound: every bit that is neither held nor of a sequential output is zero.
-ghost use mathlib.Core.Bool.{_&&_};
 ghost use mathlib.Core.Path.{_≡_};
-ghost use Prim.Native.Nat.{_+_, _-_, _≤_};
-ghost use lib.ListN.{length};
+ghost use Prim.Native.Nat.{_+_, _≤_};
+ghost use lib.ListN.{length, getD};
 ghost use Rattle.tree.specs.Tree.{sequentialBits};
-ghost use Rattle.calls.specs.Area.{areaLevels, outputWords, Long, levelWords, levelsUp, levelsOf, soundLevels};
+ghost use Rattle.calls.specs.Area.{outputWords, Long, paramsOf, levelsUp, levelsOf, soundLevels};
 ghost use Rattle.area.specs.LevelTests.{allEmpty, soundSequential, soundAbove, soundOpen};
 use super::Area;
 use super::count;
@@ -28,40 +27,30 @@ fn sequential_sound(part: &[u64], done: u64, held: usize) -> bool
     empty_from(part, OUTPUT + held)
 }
 
-// Whether the levels from this one on hold nothing.
-fn levels_empty(area: &[u64], level: usize) -> bool
-    requires { ⌜ Long (now area) × (1 ≤ level) × (level ≤ areaLevels + 1) ⌝ }
-    ensures { λ r. ⌜ r ≡ allEmpty (levelsUp (now (area .entry)) level) ⌝ }
+// Whether the levels hold nothing.
+fn levels_empty(area: &[u64]) -> bool
+    requires { ⌜ Long (now area) ⌝ }
+    ensures { λ r. ⌜ r ≡ allEmpty (levelsOf (now (area .entry))) ⌝ }
 {
-    let a = Area::HEAD + Area::LEVEL * (level - 1);
-    empty_from(&area[a..Area::WORDS], 0)
-}
-
-// Whether the sequential level is sound, and those above it hold nothing.
-fn last_sound(area: &[u64], level: usize, done: u64, held: usize) -> bool
-    requires { ⌜ Long (now area) × (1 ≤ level) × (level ≤ areaLevels) × (held ≤ sequentialBits) ⌝ }
-    ensures { λ r. ⌜ r ≡ (soundSequential done held (levelWords (now (area .entry)) level) && allEmpty (levelsUp (now (area .entry)) (level + 1))) ⌝ }
-{
-    if !sequential_sound(Area::level(area, level), done, held) {
-        return false;
-    }
-    levels_empty(area, level + 1)
+    let e = Area::words(area[Area::LIMIT]);
+    empty_from(&area[Area::HEAD..e], 0)
 }
 
 // Whether the levels above level 1 are sound, when so many outputs came to level 2 and so many levels from it up may be
-// parallel.
+// parallel. The sequential level, if the area has it, is its last.
 fn above_sound(area: &[u64], levels: u64, outputs: u64) -> bool
-    requires { ⌜ Long (now area) ⌝ }
+    requires { ⌜ Long (now area) × (levels + 1 ≡ paramsOf (now area) .limit) ⌝ }
     ensures { λ r. ⌜ r ≡ soundAbove levels outputs (levelsUp (now (area .entry)) 2) ⌝ }
 {
     let mut n = levels;
     let mut i = outputs;
     let mut k: usize = 2;
     while k <= Area::LEVELS {
+        let part = Area::level(area, k);
         if n < 1 {
-            return last_sound(area, k, i / 3, OUTPUT * ((i % 3) as usize));
+            return sequential_sound(part, i / 3, OUTPUT * ((i % 3) as usize));
         }
-        if !empty_from(Area::level(area, k), OUTPUT * ((i % 4) as usize)) {
+        if !empty_from(part, OUTPUT * ((i % 4) as usize)) {
             return false;
         }
         n = n - 1;
@@ -72,17 +61,20 @@ fn above_sound(area: &[u64], levels: u64, outputs: u64) -> bool
 }
 
 // Whether the levels of an open area are sound.
-fn open_sound(area: &[u64], limit: u64, total: u64) -> bool
+fn open_sound(area: &[u64]) -> bool
     requires { ⌜ Long (now area) ⌝ }
-    ensures { λ r. ⌜ r ≡ soundOpen limit total (levelsOf (now (area .entry))) ⌝ }
+    ensures { λ r. ⌜ r ≡ soundOpen (getD (now (area .entry)) 4 0) (getD (now (area .entry)) 1 0) (levelsOf (now (area .entry))) ⌝ }
 {
+    let limit = area[Area::LIMIT];
+    let total = area[Area::TOTAL];
+    let first = &area[Area::HEAD..Area::FIRST_END];
     if limit < 1 {
         let done = count::done_blocks(Block::SEQUENTIAL_BITS, total);
         let held = count::held_bits(Block::SEQUENTIAL_BITS, total);
-        return last_sound(area, 1, done, held as usize);
+        return sequential_sound(first, done, held as usize);
     }
     let held = count::held_bits(Block::BITS, total);
-    if !empty_from(&area[Area::HEAD..Area::FIRST_END], held as usize) {
+    if !empty_from(first, held as usize) {
         return false;
     }
     let done = count::done_blocks(Block::BITS, total);
@@ -95,7 +87,7 @@ pub fn levels_sound(area: &[u64]) -> bool
     ensures { λ r. ⌜ r ≡ soundLevels (now (area .entry)) ⌝ }
 {
     if area[Area::PHASE] == 2 {
-        return levels_empty(area, 1);
+        return levels_empty(area);
     }
-    open_sound(area, area[Area::LIMIT], area[Area::TOTAL])
+    open_sound(area)
 }

@@ -3,10 +3,10 @@
 ghost use mathlib.Core.Path.{_≡_};
 ghost use mathlib.Core.Bool.{_||_, _&&_};
 ghost use Prim.Native.Nat.{_+_, _*_, _≤_};
-ghost use lib.Dec.{eqb};
-ghost use lib.ListN.{getD};
+ghost use lib.Dec.{eqb, ltb};
+ghost use lib.ListN.{length, getD};
 ghost use Rattle.tree.specs.Tree.{mostKeyBytes, mostLimit};
-ghost use Rattle.calls.specs.Area.{areaWords, areaLevels, levelStart, countFor, soundKey, soundCount, soundLast, sound, Long};
+ghost use Rattle.calls.specs.Area.{areaLevels, areaWords, ownLevels, ownWords, levelStart, countFor, soundKey, soundCount, soundLast, sound, Long};
 ghost use Rattle.area.specs.SoundLaws.{LevelPart, soundHead};
 use node::Block;
 use refusals::Params;
@@ -15,7 +15,7 @@ pub mod count; // count.rt: how many blocks are compressed, and how many nodes w
 mod empty; // empty.rt: whether no bit of words is set
 mod levels; // levels.rt: whether the levels are sound
 
-// The area of a stream: words that the caller lends.
+// The area of a stream: words that the caller lends. The field is how many the longest has.
 pub struct Area {
     pub words: usize,
 }
@@ -55,16 +55,33 @@ impl Area {
     // The first word past level 1.
     pub const FIRST_END: usize = Area::HEAD + Area::LEVEL;
 
-    // The levels of an area, and its words.
+    // The levels of the longest area, and its words.
     pub const LEVELS: usize = Params::LEVELS as usize;
 
-    pub const WORDS: usize = Area::HEAD + Area::LEVELS * Area::LEVEL;
+    pub const WORDS: usize = Area::HEAD + Area::LEVEL * Area::LEVELS;
 
-    // The size of an area.
+    // The longest area.
     pub fn new() -> Self
-        ensures { λ r. ⌜ r .words ≡ areaWords ⌝ }
+        ensures { λ r. ⌜ r .words ≡ areaWords mostLimit ⌝ }
     {
         Self { words: Area::WORDS }
+    }
+
+    // The levels of an area, by the height limit: L + 1, and at most those of the longest. By a test, as L + 1 may pass 2^64.
+    pub fn levels(limit: u64) -> usize
+        ensures { λ r. ⌜ r ≡ areaLevels limit ⌝ }
+    {
+        if limit < Params::LEVELS {
+            return limit as usize + 1;
+        }
+        Area::LEVELS
+    }
+
+    // The words of an area, by the height limit.
+    pub fn words(limit: u64) -> usize
+        ensures { λ r. ⌜ r ≡ areaWords limit ⌝ }
+    {
+        Area::HEAD + Area::LEVEL * Area::levels(limit)
     }
 
     // The parameters that an area has.
@@ -82,7 +99,7 @@ impl Area {
 
     // A level's own part of an area.
     pub fn level(area: &[u64], level: usize) -> &[u64]
-        requires { ⌜ Long (now area) × (1 ≤ level) × (level ≤ areaLevels) ⌝ }
+        requires { ⌜ Long (now area) × (1 ≤ level) × (level ≤ ownLevels (now area)) ⌝ }
         ensures { λ r. ⌜ LevelPart (now (area .entry)) level (now r) ⌝ }
         ensures { λ r. ⌜ (r .ptr .0 ≡ area .entry .ptr .0) × (r .ptr .1 ≡ levelStart level * 8 + area .entry .ptr .1) ⌝ }
     {
@@ -90,6 +107,16 @@ impl Area {
         let e = a + Area::LEVEL;
         &area[a..e]
     }
+}
+
+// Whether an area is short: it has no word 4, or fewer words than the height limit there asks.
+pub fn is_short(area: &[u64]) -> bool
+    ensures { λ r. ⌜ r ≡ ltb (length (now (area .entry))) (ownWords (now (area .entry))) ⌝ }
+{
+    if area.len() <= Area::LIMIT {
+        return true;
+    }
+    area.len() < Area::words(area[Area::LIMIT])
 }
 
 // Whether a phase is 1 or 2: open or ended.

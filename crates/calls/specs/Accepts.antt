@@ -1,17 +1,18 @@
 -- Laws: which calls are accepted on an area that stands for a message, and how many nodes a feed and an end make of any area.
 use mathlib.Core.Path.{_≡_, refl, ap, _∙_}
-use mathlib.Core.Bool.{Bool, true}
+use mathlib.Core.Bool.{Bool, true, false, _&&_, and-false}
+use mathlib.Core.Logic.{_⊎_, inl, inr}
 use mathlib.Core.List.{List, [], _++_, _∷_}
 use Prim.Native.Nat.{ℕ, _+_, _^_, _≤_, _<_}
 use native.Mathlib.Nat.{zero-add}
 use native.Mathlib.Omega.{arith}
-use borrow.Author.Tests.{le-ltb, le-leb}
+use borrow.Author.Tests.{le-ltb, le-leb, lt-leb}
 use lib.Dec.{leb}
 use lib.ListN.{length, length-append}
 use Rattle.tree.specs.Tree.{Params, order}
 use Rattle.refusals.specs.Refusals.{firstRefusal}
 use Rattle.tree.specs.Sizes.{treeNodes}
-use Rattle.calls.specs.Area.{areaWords, totalOf, paramsOf, levelWords, levelsOf, emptyLevels, openCount, sound, areaLevels, Long}
+use Rattle.calls.specs.Area.{areaLevels, ownLevels, ownWords, totalOf, paramsOf, levelWords, levelsOf, emptyLevels, openCount, sound, Long}
 use Rattle.calls.specs.Calls.{feedBits, fedBits, feedNumber, closedBy, endNumber, logWordsNumber, shown, levelOf, openTests, totalTest, feedTests, endTests}
 use Rattle.calls.specs.CallLaws.{OpenArea, open-tests}
 use Rattle.calls.specs.Marks.{allNodes, settled}
@@ -26,15 +27,15 @@ use Rattle.calls.specs.Stands.{state-settled, state-all, Stands, Closed,
 -- ---- the count of word 14 is a number of nodes
 
 module _ (P : Params) (M : List Bool) (short : length M < 2 ^ 64) where
-  fed : Machine.State P (P .limit) M (feedBits P 0 M (emptyLevels areaLevels) .levels) (feedBits P 0 M (emptyLevels areaLevels) .nodes)
-  fed = Machine.state-fed P [] M (emptyLevels areaLevels) [] (omega arith) (Machine.state-open P (P .limit))
+  fed : Machine.State P (P .limit) M (feedBits P 0 M (emptyLevels (areaLevels (P .limit))) .levels) (feedBits P 0 M (emptyLevels (areaLevels (P .limit))) .nodes)
+  fed = Machine.state-fed P [] M (emptyLevels (areaLevels (P .limit))) [] (omega arith) (Machine.state-open P (P .limit))
 
   -- open: the nodes that do not reach the last bit
   pub openCount-nodes : openCount (P .limit) (length M) ≡ length (settled (order P M))
   openCount-nodes =
-      let c = Counts.feedBits-count P 0 M (emptyLevels areaLevels) (state-size P (P .limit) [] (emptyLevels areaLevels) [] (Machine.state-open P (P .limit))) (omega arith) in
+      let c = Counts.feedBits-count P 0 M (emptyLevels (areaLevels (P .limit))) (state-size P (P .limit) [] (emptyLevels (areaLevels (P .limit))) [] (Machine.state-open P (P .limit))) (omega arith) in
       let z : openCount (P .limit) (0 + length M) ≡ openCount (P .limit) (length M) = ap (openCount (P .limit)) (zero-add (length M)) in
-      let s = ap length (state-settled P M (feedBits P 0 M (emptyLevels areaLevels) .levels) (feedBits P 0 M (emptyLevels areaLevels) .nodes) short fed) in
+      let s = ap length (state-settled P M (feedBits P 0 M (emptyLevels (areaLevels (P .limit))) .levels) (feedBits P 0 M (emptyLevels (areaLevels (P .limit))) .nodes) short fed) in
       omega (arith, c, z, s, Counts.openCount-none (P .limit))
 
 -- ---- an area that stands for a message
@@ -77,7 +78,7 @@ module _ {P : Params} {M : List Bool} {area : List ℕ} (s : Stands P M area) wh
 module _ {P : Params} {M : List Bool} {area : List ℕ} (s : Closed P M area) where
   -- 10, whatever would be tested later
   ended-tests : (later : List (Bool × ℕ)) → firstRefusal (openTests area ++ later) ≡ 10
-  ended-tests later = rw (le-ltb (length area) areaWords (s .head .long), closed-sound s, s .phase) refl
+  ended-tests later = rw (le-ltb (length area) (ownWords area) (s .head .long), closed-sound s, s .phase) refl
 
   pub feed-ended : (piece : Piece) (log : List ℕ) → feedNumber area piece log ≡ 10
   unfolding feedNumber
@@ -93,18 +94,32 @@ module _ {P : Params} {M : List Bool} {area : List ℕ} (s : Closed P M area) wh
 
 -- ---- a level shown
 
-shown-all : (area : List ℕ) (level : ℕ) → leb areaWords (length area) ≡ true → sound area ≡ true → leb 1 level ≡ true →
-    leb level areaLevels ≡ true → shown area level ≡ true
+shown-all : (area : List ℕ) (level : ℕ) → leb (ownWords area) (length area) ≡ true → sound area ≡ true → leb 1 level ≡ true →
+    leb level (ownLevels area) ≡ true → shown area level ≡ true
 unfolding shown
 shown-all area level a b c d = and-intro a (and-intro b (and-intro c d))
 
-pub level-shown : (area : List ℕ) (level : ℕ) → Long area → sound area ≡ true → 1 ≤ level → level ≤ areaLevels →
+pub level-shown : (area : List ℕ) (level : ℕ) → Long area → sound area ≡ true → 1 ≤ level → level ≤ ownLevels area →
     levelOf area level ≡ levelWords area level
 unfolding levelOf
 level-shown area level h e l m = rw (yes-shown, levelOf) refl
   where
     yes-shown : shown area level ≡ true
-    yes-shown = shown-all area level (le-leb areaWords (length area) h) e (le-leb 1 level l) (le-leb level areaLevels m)
+    yes-shown = shown-all area level (le-leb (ownWords area) (length area) h) e (le-leb 1 level l) (le-leb level (ownLevels area) m)
+
+-- M-109: "Showing a level that the area lacks gives the empty part", of every area
+last-fails : (a b c d : Bool) → (c ≡ false) ⊎ (d ≡ false) → (a && (b && (c && d))) ≡ false
+last-fails a b c d (inl e) = rw (e, and-false b, and-false a) refl
+last-fails a b c d (inr e) = rw (e, and-false c, and-false b, and-false a) refl
+
+not-shown : (area : List ℕ) (level : ℕ) → (leb 1 level ≡ false) ⊎ (leb level (ownLevels area) ≡ false) → shown area level ≡ false
+unfolding shown
+not-shown area level = last-fails (leb (ownWords area) (length area)) (sound area) (leb 1 level) (leb level (ownLevels area))
+
+pub level-none : (area : List ℕ) (level : ℕ) → level < 1 ⊎ ownLevels area < level → levelOf area level ≡ []
+unfolding levelOf
+level-none area level (inl low) = rw (not-shown area level (inl (lt-leb 1 level low)), levelOf) refl
+level-none area level (inr high) = rw (not-shown area level (inr (lt-leb level (ownLevels area) high)), levelOf) refl
 
 -- ---- how many nodes a feed and an end make, for any area
 

@@ -1,8 +1,8 @@
--- Definitions: the stream's area. Document 01, "The stream's area": where each word stands, what a level holds, and soundness.
--- An area is a list of words.
+-- Definitions: the stream's area. Document 01, "The stream's area", and document 02, M-109: how many words it has, where each stands,
+-- what a level holds, and soundness. An area is a list of words.
 use mathlib.Core.Bool.{Bool, true, false, not, _||_, _&&_}
 use mathlib.Core.List.{List, [], _∷_, _++_, flatten}
-use Prim.Native.Nat.{ℕ, zero, suc, _+_, _-_, _*_, _/_, _%_, _≤_}
+use Prim.Native.Nat.{ℕ, zero, suc, _+_, _-_, _*_, _/_, _%_, _≤_, min}
 use lib.Dec.{eqb, ltb}
 use lib.ListN.{length, take, drop, getD, replicate}
 use Rattle.bits.specs.Bits.{bitsOf, numbers}
@@ -20,17 +20,12 @@ blockWords = 64
 abbrev pub outputWords : ℕ
 outputWords = 16
 
--- the levels of an area: one for each that a tree can have
-abbrev pub areaLevels : ℕ
-areaLevels = mostLevels
+-- M-109: "The area is now 16 words plus 64 times the smaller of L + 1 and 27": the levels of an area, and its words, by L
+abbrev pub areaLevels : ℕ → ℕ
+areaLevels limit = min (limit + 1) mostLevels
 
--- "An area is at least 1,744 lent 64-bit words": 16 and 27 times 64
-abbrev pub areaWords : ℕ
-areaWords = headWords + areaLevels * blockWords
-
--- an area that is not short
-abbrev pub Long : List ℕ → Type 0
-Long area = areaWords ≤ length area
+abbrev pub areaWords : ℕ → ℕ
+areaWords limit = headWords + blockWords * areaLevels limit
 
 -- ---- the layout
 
@@ -60,6 +55,18 @@ paramsOf area = record {
   rounds = getD area 5 0;
 }
 
+-- "Soundness, every call on an area and the untouched tail go by this length": the levels and the words that an area's own L, its
+-- word 4, gives
+abbrev pub ownLevels : List ℕ → ℕ
+ownLevels area = areaLevels (paramsOf area .limit)
+
+abbrev pub ownWords : List ℕ → ℕ
+ownWords area = areaWords (paramsOf area .limit)
+
+-- an area that is not short. One with no word 4 is: its L counts as 0, which asks for 80 words
+abbrev pub Long : List ℕ → Type 0
+Long area = ownWords area ≤ length area
+
 -- "Level k has 64 words from 16 + 64(k - 1)"
 abbrev pub levelStart : ℕ → ℕ
 levelStart k = headWords + blockWords * (k - 1)
@@ -73,14 +80,14 @@ levelsFrom area zero k = []
 levelsFrom area (suc n) k = levelWords area k ∷ levelsFrom area n (suc k)
 
 abbrev pub levelsUp : List ℕ → ℕ → List (List ℕ)
-levelsUp area k = levelsFrom area (areaLevels + 1 - k) k
+levelsUp area k = levelsFrom area (ownLevels area + 1 - k) k
 
 unfoldable pub levelsOf : List ℕ → List (List ℕ)
-levelsOf area = levelsFrom area areaLevels 1
+levelsOf area = levelsFrom area (ownLevels area) 1
 
--- an area with other levels; "words from 1,744 on are never touched"
+-- an area with other levels; the words past its own are "the untouched tail"
 unfoldable pub withLevels : List ℕ → List (List ℕ) → List ℕ
-withLevels area levels = take headWords area ++ (flatten levels ++ drop areaWords area)
+withLevels area levels = take headWords area ++ (flatten levels ++ drop (ownWords area) area)
 
 unfoldable pub emptyLevel : List ℕ
 emptyLevel = replicate blockWords 0
@@ -119,7 +126,8 @@ heldParallel i = i % 4
 abbrev pub heldSequential : ℕ → ℕ
 heldSequential i = i % 3
 
--- k levels from one up to which i outputs came; n of them may be parallel, and the one above those is sequential
+-- k levels from one up to which i outputs came; n of them may be parallel, and the one above those is sequential. The levels of an
+-- area end with that one, and any that were asked for above it would hold nothing
 abbrev pub holdsAbove : ℕ → ℕ → ℕ → List Hold
 holdsAbove zero n i = []
 holdsAbove (suc k) zero i = sequentialHold (i / 3) (outputBits * heldSequential i) ∷ replicate k (parallelHold 0)
@@ -167,7 +175,7 @@ cleanAll (h ∷ hs) [] = true
 cleanAll (h ∷ hs) (ws ∷ levels) = clean h ws && cleanAll hs levels
 
 abbrev pub soundLevels : List ℕ → Bool
-soundLevels area = cleanAll (holdsFor areaLevels (phaseOf area) (paramsOf area .limit) (totalOf area)) (levelsOf area)
+soundLevels area = cleanAll (holdsFor (ownLevels area) (phaseOf area) (paramsOf area .limit) (totalOf area)) (levelsOf area)
 
 -- "word 0 is 1 or 2"
 abbrev pub soundPhase : List ℕ → Bool

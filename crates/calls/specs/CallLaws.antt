@@ -11,8 +11,8 @@ use Rattle.bits.specs.Piece.{Piece, pieceBits}
 use Rattle.bits.specs.PieceLaws.{Fits, bits-there}
 use Rattle.tree.specs.Tree.{Params, Node, digestBytes}
 use Rattle.refusals.specs.Refusals.{Told, firstRefusal, paramTests}
-use Rattle.refusals.specs.RefusalLaws.{testAt, passed-by, passed, answer-number, answer-refused}
-use Rattle.calls.specs.Area.{areaWords, phaseOf, totalOf, paramsOf, sound}
+use Rattle.refusals.specs.RefusalLaws.{testAt, passed-by, passed, second-part, answer-number, answer-refused}
+use Rattle.calls.specs.Area.{areaWords, ownWords, Long, phaseOf, totalOf, paramsOf, sound}
 use Rattle.calls.specs.Calls.{Made, nodeLog, logged, openNumber, openedArea, openOf, fedBits, feedNumber, fedArea, feedOf, closedBy, endNumber, endedArea, digestOut, endOf, shortTest, openTests, Opened, Fed, totalTest, feedTests, Finished, endTests, logWordsNumber, logWordsOf}
 
 -- ---- the log
@@ -32,7 +32,7 @@ logged-front nodes log = take-at (nodeLog nodes) (drop (2 * length nodes) log) (
 -- ---- an area that is long enough, sound and open
 
 pub record OpenArea (area : List ℕ) : Type 0 where
-  pub long : areaWords ≤ length area
+  pub long : Long area
   pub sound : sound area ≡ true
   pub phase : phaseOf area ≡ 2 → ⊥
 
@@ -41,7 +41,7 @@ pub open-area : (area : List ℕ) → ((k : ℕ) → testAt (openTests area) k �
 open-area area p = record { long = ltb-false _ _ (p 0); sound = not-false _ (p 1); phase = eqb-false _ _ (p 2) }
 
 pub open-tests : {area : List ℕ} → OpenArea area → (later : List (Bool × ℕ)) → firstRefusal (openTests area ++ later) ≡ firstRefusal later
-open-tests {area} o later = rw (le-ltb (length area) areaWords (o .long), o .sound, ne-eqb (phaseOf area) 2 (o .phase))
+open-tests {area} o later = rw (le-ltb (length area) (ownWords area) (o .long), o .sound, ne-eqb (phaseOf area) 2 (o .phase))
 
 -- a total that passes its test
 pub total-passed : (total n : ℕ) → totalTest total n .0 ≡ false → total + n < 2 ^ 64
@@ -62,9 +62,11 @@ unfolding openOf
 open-refused area P k = answer-refused k (openNumber area P) _ (λ k. record { number = k; count = 0; area = area })
 
 -- what an accepted open tells
-pub open-passed : (area : List ℕ) (P : Params) → openNumber area P ≡ 0 → (areaWords ≤ length area) × (firstRefusal (paramTests P) ≡ 0)
+pub open-passed : (area : List ℕ) (P : Params) → openNumber area P ≡ 0 → (areaWords (P .limit) ≤ length area) × (firstRefusal (paramTests P) ≡ 0)
 unfolding openNumber
-open-passed area P e = let p = passed-by 0 (shortTest area ∷ []) (paramTests P) refl e in (ltb-false _ _ (p .0 0), p .1)
+open-passed area P e =
+    let p = passed-by 0 (paramTests P) (shortTest area (P .limit) ∷ []) refl e in
+    (ltb-false _ _ (passed (shortTest area (P .limit) ∷ []) refl (p .1) 0), second-part (paramTests P) [] (p .0))
 
 -- ---- feed
 

@@ -1,5 +1,5 @@
 -- Definitions: what each call on an area answers: number, count and all that was lent, on exit. Document 01, "The stream's area" and the
--- table of numbers; document 02, M-103 and M-104.
+-- table of numbers; document 02, M-103, M-104 and M-109.
 use mathlib.Core.Bool.{Bool, true, false, not, _&&_}
 use mathlib.Core.List.{List, [], _∷_, _++_, flatten}
 use Prim.Native.Nat.{ℕ, zero, suc, _+_, _-_, _*_, _/_, _%_, _^_}
@@ -9,8 +9,8 @@ use Rattle.lists.specs.Part.{put}
 use Rattle.bits.specs.Bits.{bits, spell}
 use Rattle.bits.specs.Piece.{Piece, pieceBits, bitsTest}
 use Rattle.tree.specs.Tree.{Params, Node, blockBits, sequentialBits, outputBits, words, keyWords, node, output, lastOr, noNode, digestBytes, rootDigest}
-use Rattle.refusals.specs.Refusals.{firstRefusal, answerOf, Told, paramTests, outputTest}
-use Rattle.calls.specs.Area.{blockWords, outputWords, areaLevels, areaWords, phaseOf, totalOf, compressionsOf, paramsOf, levelWords, levelsOf, withLevels, emptyLevel, emptyLevels, doneBlocks, heldBits, heldParallel, heldSequential, sound}
+use Rattle.refusals.specs.Refusals.{firstRefusal, answerOf, Told, limitTest, paramTests, outputTest}
+use Rattle.calls.specs.Area.{blockWords, outputWords, areaLevels, areaWords, ownLevels, ownWords, phaseOf, totalOf, compressionsOf, paramsOf, levelWords, levelsOf, withLevels, emptyLevel, emptyLevels, doneBlocks, heldBits, heldParallel, heldSequential, sound}
 
 -- ---- one bit more
 
@@ -113,12 +113,13 @@ closing P (suc n) T (ws ∷ up) =
 
 -- ---- tests
 
--- "7, 0: area short or (except for open and read) unsound"
-abbrev pub shortTest : List ℕ → Bool × ℕ
-shortTest area = (ltb (length area) areaWords, 7)
+-- "7, 0: area short or (except for open and read) unsound": fewer words than a limit asks, which is that of the arguments for open,
+-- of the text for read, and of word 4 for all others
+abbrev pub shortTest : List ℕ → ℕ → Bool × ℕ
+shortTest area limit = (ltb (length area) (areaWords limit), 7)
 
 abbrev pub areaTests : List ℕ → List (Bool × ℕ)
-areaTests area = shortTest area ∷ (not (sound area), 7) ∷ []
+areaTests area = shortTest area (paramsOf area .limit) ∷ (not (sound area), 7) ∷ []
 
 -- "10, 0: area has ended": an area that passes is long enough, sound and open
 abbrev pub openTests : List ℕ → List (Bool × ℕ)
@@ -150,14 +151,15 @@ pub record Opened : Type 0 where
   pub count : ℕ
   pub area : List ℕ
 
--- "Open 7, 1, 2, 3, 4"
+-- M-109: "Open tests 1, 2, 3, 4 and then 7"
 unfoldable pub openNumber : List ℕ → Params → ℕ
-openNumber area P = firstRefusal (shortTest area ∷ paramTests P)
+openNumber area P = firstRefusal (paramTests P ++ (shortTest area (P .limit) ∷ []))
 
 -- an open area with no bits, whatever it held
 unfoldable pub openedArea : List ℕ → Params → List ℕ
 openedArea area P =
-    1 ∷ 0 ∷ length (P .key) ∷ P .d ∷ P .limit ∷ P .rounds ∷ (keyWords (P .key) ++ (0 ∷ 0 ∷ (flatten (emptyLevels areaLevels) ++ drop areaWords area)))
+    1 ∷ 0 ∷ length (P .key) ∷ P .d ∷ P .limit ∷ P .rounds
+    ∷ (keyWords (P .key) ++ (0 ∷ 0 ∷ (flatten (emptyLevels (areaLevels (P .limit))) ++ drop (areaWords (P .limit)) area)))
 
 unfoldable pub openOf : List ℕ → Params → Opened
 openOf area P =
@@ -216,7 +218,7 @@ endNumber area out log = firstRefusal (openTests area ++ endTests (paramsOf area
 
 -- "end changes words 0, 14 and the levels, no others"
 unfoldable pub endedArea : List ℕ → List Node → List ℕ
-endedArea area nodes = withLevels (set (set area 0 2) 14 (compressionsOf area + length nodes)) (emptyLevels areaLevels)
+endedArea area nodes = withLevels (set (set area 0 2) 14 (compressionsOf area + length nodes)) (emptyLevels (ownLevels area))
 
 -- "Output bytes past the digest or text stay."
 unfoldable pub digestOut : List ℕ → List Node → List ℕ → List ℕ
@@ -232,9 +234,9 @@ endOf area out log =
 -- ---- show a level
 
 -- "gives back that level's part of the caller's area, or an empty part if the area is short or unsound or the level outside
--- 1 to 27"
+-- 1 to 27"; M-109: "Showing a level that the area lacks gives the empty part."
 unfoldable pub shown : List ℕ → ℕ → Bool
-shown area level = leb areaWords (length area) && (sound area && (leb 1 level && leb level areaLevels))
+shown area level = leb (ownWords area) (length area) && (sound area && (leb 1 level && leb level (ownLevels area)))
 
 unfoldable pub levelOf : List ℕ → ℕ → List ℕ
 levelOf area level = elim (shown area level) [ true ↦ levelWords area level | false ↦ [] ]
@@ -251,4 +253,13 @@ unfoldable pub logWordsOf : List ℕ → ℕ → Told
 logWordsOf area n =
     answerOf (logWordsNumber area n)
     record { number = 0; count = 2 * length (fedBits area (replicate n false) .nodes) }
+    (λ k. record { number = k; count = 0 })
+
+-- ---- area words (L)
+
+-- M-109: the words of an area for an L; "3, 0: L over 64"
+unfoldable pub areaWordsOf : ℕ → Told
+areaWordsOf limit =
+    answerOf (firstRefusal (limitTest limit ∷ []))
+    record { number = 0; count = areaWords limit }
     (λ k. record { number = k; count = 0 })

@@ -2,7 +2,7 @@
 use mathlib.Core.Path.{_≡_, refl, sym, ap, _∙_, subst}
 use mathlib.Core.Bool.{Bool, true, false}
 use mathlib.Core.List.{List, [], _∷_, _++_, map, append-assoc, append-nil, flatten}
-use Prim.Native.Nat.{ℕ, zero, suc, _-_, _*_, _/_, _%_, _^_, _<_}
+use Prim.Native.Nat.{ℕ, zero, suc, _-_, _*_, _/_, _%_, _^_, _≤_, _<_}
 use native.Mathlib.Nat.{pow-succ'}
 use native.Mathlib.Omega.{arith}
 use borrow.Author.Tests.{eq-eqb, ne-eqb}
@@ -255,18 +255,18 @@ module _ (P : Params) where
       climbed = rw (groups x (v .sp)) (parents-over 4 (v .G) g (Receive.parRow P level (v .G)) (parLast level (v .G) 0 g) (v .sp .full)
           (Receive.length-parRow P level (v .G)) (rw (snoc-length (v .r) x) (v .sp .few)))
 
-  -- k levels are enough for fewer than 4 to the k nodes and a last one
+  -- k levels are enough if the sequential one is among them, or for fewer than 4 to the k nodes and a last one
   pub end-tree : (n level : ℕ) (X : List Subtree) (st : List (List ℕ)) (lg : List Mark) (x : Subtree) → Receive.Inv P n level X st lg →
       x .top .reaches ≡ true →
-      length (Receive.outOf P x) ≡ outputBits → 0 < length X → length X < 4 ^ length st → EndTree n level X st lg x
-  end-tree n level X [] lg x v q o h b = absurd (omega arith)
+      length (Receive.outOf P x) ≡ outputBits → 0 < length X → (length st ≤ n → length X < 4 ^ length st) → EndTree n level X st lg x
+  end-tree n level X [] lg x v q o h b = absurd (omega (arith, b (omega arith)))
   end-tree zero level X (ws ∷ up) lg x v q o h b = end-seq level X ws up lg x v q o
   end-tree (suc n) level X (ws ∷ up) lg x v q o h b =
       length-cases (v .G) (end-one n level X ws up lg x v q o) (λ some. end-many n level X ws up lg x v q o some
       (rw size at (end-tree n (suc level) Y up (v .lg′) (lastTop level (v .G) (v .r ++ (x ∷ []))) (v .up) (reaches-snoc (v .r) x (v .sp .quiet) ∙ q)
       (length-output-node P (P .rounds) level (length (v .G)) 0 (blockBits - length (Receive.outs P (v .r ++ (x ∷ [])))) (blockOf (Receive.outs P (v .r ++ (x ∷ []))))
       (length-blockOf (Receive.outs P (v .r ++ (x ∷ [])))))
-      (rw size some) (omega (arith, size, Receive.par-at P v, pow-succ' 4 (length up), b)))))
+      (rw size some) (λ k. omega (arith, size, Receive.par-at P v, pow-succ' 4 (length up), b (omega arith))))))
     where
       Y : List Subtree
       Y = over (v .G) (Receive.parRow P level (v .G))

@@ -11,7 +11,7 @@ use lib.Dec.{eqb}
 use lib.ListN.{length, length-append}
 use Rattle.tree.specs.Tree.{Params, Node, blockBits, outputBits, mostLevels, node, blocks, sequentialBits}
 use Rattle.tree.specs.Sizes.{nodesFrom, treeNodes}
-use Rattle.calls.specs.Area.{doneBlocks, heldBits, openAbove, openCount}
+use Rattle.calls.specs.Area.{areaLevels, doneBlocks, heldBits, openAbove, openCount}
 use Rattle.calls.specs.Calls.{Made, outWords, joinParallel, receive, feedBit, feedBits, closeAbove, closing}
 use Rattle.calls.specs.Receive
 use Rattle.calls.specs.Close
@@ -30,9 +30,9 @@ openCount-none (suc n) = omega (arith, openAbove-none n)
 module _ (P : Params) where
   -- ---- a feed
 
-  receive-count : (n level i : ℕ) (x : List ℕ) (st : List (List ℕ)) → i + 2 ≤ 4 ^ length st →
+  receive-count : (n level i : ℕ) (x : List ℕ) (st : List (List ℕ)) → (length st ≤ n → i + 2 ≤ 4 ^ length st) →
       length (receive P n level i x st .nodes) + openAbove n i ≡ openAbove n (suc i)
-  receive-count n level i x [] b = absurd (omega arith)
+  receive-count n level i x [] b = absurd (omega (arith, b (omega arith)))
   receive-count zero level i x (ws ∷ up) b = go (eqb (i % 3) 2) refl
     where
       go : (t : Bool) → eqb (i % 3) 2 ≡ t → length (receive P 0 level i x (ws ∷ up) .nodes) + i / 3 ≡ suc i / 3
@@ -50,10 +50,10 @@ module _ (P : Params) where
       same e = omega arith
 
       go : (t : Bool) → eqb (i % 4) 3 ≡ t →
-          (i / 4 + 2 ≤ 4 ^ length up → length (receive P n (suc level) (i / 4) (outWords P m) up .nodes) + openAbove n (i / 4) ≡ openAbove n (suc (i / 4))) →
+          ((length up ≤ n → i / 4 + 2 ≤ 4 ^ length up) → length (receive P n (suc level) (i / 4) (outWords P m) up .nodes) + openAbove n (i / 4) ≡ openAbove n (suc (i / 4))) →
           length (receive P (suc n) level i x (ws ∷ up) .nodes) + (i / 4 + openAbove n (i / 4)) ≡ suc i / 4 + openAbove n (suc i / 4)
       go true e u = rw (Receive.par-yes P n level i x ws up e, next (eqb-true (i % 4) 3 e))
-          (omega (arith, u (omega (arith, eqb-true (i % 4) 3 e, pow-succ' 4 (length up), b))))
+          (omega (arith, u (λ h. omega (arith, eqb-true (i % 4) 3 e, pow-succ' 4 (length up), b (omega arith)))))
       go false e u = rw (Receive.par-no P n level i x ws up e, same (eqb-false (i % 4) 3 e)) (omega arith)
 
   pub feedBit-size : (limit T : ℕ) (b : Bool) (st : List (List ℕ)) → 0 < length st → length (feedBit P limit T b st .levels) ≡ length st
@@ -69,7 +69,7 @@ module _ (P : Params) where
       go true e = rw (Machine.feed-par-yes P n T b ws up e) (ap suc (Machine.receive-size P n 2 (doneBlocks blockBits T) (outWords P (node P 1 (doneBlocks blockBits T) 0 0 ws)) up))
       go false e = rw (Machine.feed-par-no P n T b ws up e) refl
 
-  feedBit-count : (limit T : ℕ) (b : Bool) (st : List (List ℕ)) → length st ≡ mostLevels → suc T < 2 ^ 64 →
+  feedBit-count : (limit T : ℕ) (b : Bool) (st : List (List ℕ)) → length st ≡ areaLevels limit → suc T < 2 ^ 64 →
       length (feedBit P limit T b st .nodes) + openCount limit T ≡ openCount limit (suc T)
   feedBit-count limit T b [] h g = absurd (omega arith)
   feedBit-count zero T b (ws ∷ up) h g = go (eqb (heldBits sequentialBits T) sequentialBits) refl
@@ -82,14 +82,11 @@ module _ (P : Params) where
       i : ℕ
       i = doneBlocks blockBits T
 
-      size : length up ≡ mostLevels - 1
-      size = omega arith
-
       go : (t : Bool) → eqb (heldBits blockBits T) blockBits ≡ t →
           length (feedBit P (suc n) T b (ws ∷ up) .nodes) + ((T - 1) / blockBits + openAbove n ((T - 1) / blockBits)) ≡ (suc T - 1) / blockBits + openAbove n ((suc T - 1) / blockBits)
       go true e =
           let f : heldBits blockBits T ≡ blockBits = eqb-true (heldBits blockBits T) blockBits e in
-          let u = receive-count n 2 i (outWords P (node P 1 i 0 0 ws)) up (rw size (omega (arith, f, g))) in
+          let u = receive-count n 2 i (outWords P (node P 1 i 0 0 ws)) up (λ k. rw (Machine.all-above n (length up) (omega arith) k) (omega (arith, f, g))) in
           rw (Machine.feed-par-yes P n T b ws up e, done-full blockBits (omega arith) T f) (omega (arith, u))
       go false e = rw (Machine.feed-par-no P n T b ws up e, done-less blockBits (omega arith) T (eqb-false (heldBits blockBits T) blockBits e)) (omega arith)
 
@@ -100,7 +97,7 @@ module _ (P : Params) where
       rw (Machine.feedBits-more P T b bs st) (feedBits-size (suc T) bs (feedBit P (P .limit) T b st .levels) (omega arith) ∙ e)
 
   -- the nodes that bits make
-  pub feedBits-count : (T : ℕ) (bs : List Bool) (st : List (List ℕ)) → length st ≡ mostLevels → T + length bs < 2 ^ 64 →
+  pub feedBits-count : (T : ℕ) (bs : List Bool) (st : List (List ℕ)) → length st ≡ areaLevels (P .limit) → T + length bs < 2 ^ 64 →
       length (feedBits P T bs st .nodes) + openCount (P .limit) T ≡ openCount (P .limit) (T + length bs)
   feedBits-count T [] st h g =
       let e : T + 0 ≡ T = omega arith in
@@ -129,9 +126,9 @@ module _ (P : Params) where
   from-one zero = refl
   from-one (suc n) = refl
 
-  closeAbove-count : (n level i : ℕ) (x : List ℕ) (st : List (List ℕ)) → 0 < i → i < 4 ^ length st →
+  closeAbove-count : (n level i : ℕ) (x : List ℕ) (st : List (List ℕ)) → 0 < i → (length st ≤ n → i < 4 ^ length st) →
       suc i + (length (closeAbove P n level i x st) + openAbove n i) ≡ nodesFrom n (suc i)
-  closeAbove-count n level i x [] h b = absurd (omega arith)
+  closeAbove-count n level i x [] h b = absurd (omega (arith, b (omega arith)))
   closeAbove-count zero level i x (ws ∷ up) h b = rw (Close.close-seq P level i x ws up, from-last i h) (omega arith)
   closeAbove-count (suc n) level i x (ws ∷ up) h b = go (eqb (i / 4) 0) refl (λ y. closeAbove-count n (suc level) (i / 4) y up)
     where
@@ -139,17 +136,17 @@ module _ (P : Params) where
       m = node P level (i / 4) 0 (outputBits * (3 - i % 4)) (joinParallel i x ws)
 
       go : (t : Bool) → eqb (i / 4) 0 ≡ t →
-          ((y : List ℕ) → 0 < i / 4 → i / 4 < 4 ^ length up →
+          ((y : List ℕ) → 0 < i / 4 → (length up ≤ n → i / 4 < 4 ^ length up) →
           suc (i / 4) + (length (closeAbove P n (suc level) (i / 4) y up) + openAbove n (i / 4)) ≡ nodesFrom n (suc (i / 4))) →
           suc i + (length (closeAbove P (suc n) level i x (ws ∷ up)) + (i / 4 + openAbove n (i / 4))) ≡ nodesFrom (suc n) (suc i)
       go true e u =
           rw (Close.close-one P n level i x ws up e, from-more n i h, eqb-true (i / 4) 0 e, from-one n, openAbove-none n) refl
       go false e u =
           rw (Close.close-many P n level i x ws up e, from-more n i h)
-          (omega (arith, u (outWords P m) (omega (arith, eqb-false (i / 4) 0 e)) (omega (arith, pow-succ' 4 (length up), b))))
+          (omega (arith, u (outWords P m) (omega (arith, eqb-false (i / 4) 0 e)) (λ k. omega (arith, pow-succ' 4 (length up), b (omega arith)))))
 
   -- the nodes that an end makes, and those made before, are the whole tree's
-  pub closing-count : (limit T : ℕ) (st : List (List ℕ)) → length st ≡ mostLevels → T < 2 ^ 64 →
+  pub closing-count : (limit T : ℕ) (st : List (List ℕ)) → length st ≡ areaLevels limit → T < 2 ^ 64 →
       length (closing P limit T st) + openCount limit T ≡ treeNodes limit T
   closing-count limit T [] h g = absurd (omega arith)
   closing-count zero T (ws ∷ up) h g =
@@ -160,9 +157,6 @@ module _ (P : Params) where
       b : blocks blockBits T ≡ suc ((T - 1) / blockBits)
       b = omega arith
 
-      size : length up ≡ mostLevels - 1
-      size = omega arith
-
       m : Node
       m = node P 1 (doneBlocks blockBits T) 0 (blockBits - heldBits blockBits T) ws
 
@@ -171,7 +165,7 @@ module _ (P : Params) where
       go true e = rw (Machine.closing-one P n T ws up e, b, eqb-true (doneBlocks blockBits T) 0 e, from-one n, openAbove-none n) refl
       go false e =
           rw (Machine.closing-many P n T ws up e, b)
-          (omega (arith, closeAbove-count n 2 (doneBlocks blockBits T) (outWords P m) up (omega (arith, eqb-false (doneBlocks blockBits T) 0 e)) (rw size (omega (arith, g)))))
+          (omega (arith, closeAbove-count n 2 (doneBlocks blockBits T) (outWords P m) up (omega (arith, eqb-false (doneBlocks blockBits T) 0 e)) (λ k. rw (Machine.all-above n (length up) (omega arith) k) (omega (arith, g)))))
 
   -- an end makes at most one node a level
   closeAbove-bound : (n level i : ℕ) (x : List ℕ) (st : List (List ℕ)) → length (closeAbove P n level i x st) ≤ length st

@@ -12,7 +12,7 @@ use Rattle.bits.specs.Bits.{bitsOf, filled}
 use Rattle.bits.specs.BitsLaws.{length-bitsOf, bitsOf-inj}
 use Rattle.bits.specs.FilledLaws.{length-filled, filled-below, bitsOf-filled}
 use Rattle.tree.specs.Tree.{Params, outputBits, sequentialBits, blockBits}
-use Rattle.calls.specs.Area.{headWords, totalOf, compressionsOf, paramsOf, levelsFrom, levelsOf, withLevels, heldBits, blockWords, levelStart, areaLevels}
+use Rattle.calls.specs.Area.{headWords, totalOf, compressionsOf, paramsOf, levelsFrom, levelsOf, withLevels, heldBits, blockWords, levelStart, ownLevels}
 use Rattle.calls.specs.Calls.{Made, withBit, feedBit, feedBits, fedBits, fedArea}
 use Rattle.calls.specs.Block.{length-withBit, bitsOf-withBit, withBit-below}
 use Rattle.calls.specs.Machine
@@ -122,8 +122,8 @@ flatten-from area (suc n) k h =
 pub withLevels-same : (area : List ℕ) → withLevels area (levelsOf area) ≡ area
 unfolding withLevels levelsOf
 withLevels-same area =
-    let n : ℕ = blockWords * areaLevels in
-    rw (flatten-from area areaLevels 1 (omega arith))
+    let n : ℕ = blockWords * ownLevels area in
+    rw (flatten-from area (ownLevels area) 1 (omega arith))
     (ap (λ (l : List ℕ). take headWords area ++ (take n (drop headWords area) ++ l)) (sym (drop-drop n headWords area))
     ∙ rw (take-append-drop n (drop headWords area)) (take-append-drop headWords area))
 

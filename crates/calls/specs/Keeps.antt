@@ -12,7 +12,7 @@ use Rattle.lists.specs.BelowLaws.{below-at, below-take, below-drop}
 use Rattle.bits.specs.Piece.{Piece, pieceBits}
 use Rattle.bits.specs.PieceLaws.{length-pieceBits}
 use Rattle.tree.specs.Sizes.{treeNodes}
-use Rattle.calls.specs.Area.{phaseOf, totalOf, keyBytesOf, kOf, compressionsOf, paramsOf, levelsFrom, levelsOf, withLevels, emptyLevel, emptyLevels, holdsFor, openCount, countFor, cleanAll, soundParams, soundKey, soundCount, sound, areaLevels, Long}
+use Rattle.calls.specs.Area.{phaseOf, totalOf, keyBytesOf, kOf, compressionsOf, paramsOf, levelsFrom, levelsOf, withLevels, emptyLevel, emptyLevels, holdsFor, openCount, countFor, cleanAll, soundParams, soundKey, soundCount, sound, ownLevels, Long}
 use Rattle.calls.specs.Calls.{Made, feedBits, fedBits, feedNumber, fedArea, feedOf, closedBy, endNumber, endedArea, endOf}
 use Rattle.calls.specs.Counts
 use Rattle.calls.specs.AreaLaws.{length-levelsOf, Changed}
@@ -30,7 +30,7 @@ levels-words area (suc n) k b = cons (below-take 64 (below-drop (16 + 64 * (k - 
 
 pub levelsOf-words : (area : List ℕ) → Below (2 ^ 64) area → Words (levelsOf area)
 unfolding levelsOf
-levelsOf-words area b = levels-words area areaLevels 1 b
+levelsOf-words area b = levels-words area (ownLevels area) 1 b
 
 -- an area that is sound and has not ended is open
 open-phase : (area : List ℕ) → sound area ≡ true → (phaseOf area ≡ 2 → ⊥) → phaseOf area ≡ 1
@@ -45,7 +45,7 @@ sound-held : (area : List ℕ) → Long area → Below (2 ^ 64) area → sound a
     HeldOpen (paramsOf area .limit) (totalOf area) (levelsOf area)
 sound-held area long b s p =
     open-held (paramsOf area .limit) (totalOf area) (levelsOf area) (levelsOf-words area b) (levelsOf-widths area long)
-    (rw (length-levelsOf area) (subst (λ (k : ℕ). cleanAll (holdsFor areaLevels k (paramsOf area .limit) (totalOf area)) (levelsOf area) ≡ true) p (sound-tests area s .levels)))
+    (rw (length-levelsOf area) (subst (λ (k : ℕ). cleanAll (holdsFor (ownLevels area) k (paramsOf area .limit) (totalOf area)) (levelsOf area) ≡ true) p (sound-tests area s .levels)))
 
 -- tests that look at what neither a feed nor an end changes
 same-params-test : (x y : List ℕ) → paramsOf y ≡ paramsOf x → soundParams x ≡ true → soundParams y ≡ true
@@ -90,7 +90,7 @@ feed-keeps area piece log b e = rw (feed-accepted area piece log z) (tests-sound
     held : HeldOpen (paramsOf area .limit) (totalOf area + piece .count) (made .levels)
     held = rw len at (held-feedBits (paramsOf area) (totalOf area) Y (levelsOf area) (rw (length-levelsOf area) (omega arith)) (sound-held area (q .opened .long) b (q .opened .sound) p))
 
-    size : length (made .levels) ≡ areaLevels
+    size : length (made .levels) ≡ ownLevels area
     size = Counts.feedBits-size (paramsOf area) (totalOf area) Y (levelsOf area) (rw (length-levelsOf area) (omega arith)) ∙ length-levelsOf area
 
     to : List ℕ
@@ -117,7 +117,7 @@ end-keeps area out log b e = rw (end-accepted area out log z) (tests-sound to re
   key = same-key-test area to (c .key) (c .same 2 (omega arith) (omega arith) (omega arith)) (t .key);
   count = rw (c .set, c .params, c .same 1 (omega arith) (omega arith) (omega arith), c .count) (eq-eqb (compressionsOf area + length (closedBy area)) (treeNodes (paramsOf area .limit) (totalOf area)) counted);
   last = rw (c .same 15 (omega arith) (omega arith) (omega arith)) (t .last);
-  levels = rw (c .set, c .levels) (clean-empty areaLevels);
+  levels = rw (c .set, c .params, c .levels) (clean-empty (ownLevels area));
 })
   where
     z : endNumber area out log ≡ 0
@@ -133,9 +133,9 @@ end-keeps area out log b e = rw (end-accepted area out log z) (tests-sound to re
     p = open-phase area (q .opened .sound) (q .opened .phase)
 
     to : List ℕ
-    to = withLevels (set (set area 0 2) 14 (compressionsOf area + length (closedBy area))) (replicate areaLevels emptyLevel)
+    to = withLevels (set (set area 0 2) 14 (compressionsOf area + length (closedBy area))) (replicate (ownLevels area) emptyLevel)
 
-    c : Changed area 0 2 (compressionsOf area + length (closedBy area)) (replicate areaLevels emptyLevel) to
+    c : Changed area 0 2 (compressionsOf area + length (closedBy area)) (replicate (ownLevels area) emptyLevel) to
     c = end-changed area out log z
 
     before : compressionsOf area ≡ openCount (paramsOf area .limit) (totalOf area)

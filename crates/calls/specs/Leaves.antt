@@ -46,7 +46,7 @@ opened-sound area P e =
       key = rw (opened-key area P, w .1) (key-clean (P .key) (in-range (length (P .key)) (P .d) (P .limit) (P .rounds) e .keyHigh));
       count = rw (opened-14 area P, opened-0 area P, w .0, w .2) (eq-eqb 0 (openCount (P .limit) 0) (sym (Counts.openCount-none (P .limit))));
       last = rw (opened-15 area P) refl;
-      levels = rw (opened-0 area P, opened-levels area P, w .0, w .2) (state-sound P (P .limit) [] (emptyLevels areaLevels) [] (Machine.state-open P (P .limit)));
+      levels = rw (opened-0 area P, opened-levels area P, w .0, w .2) (state-sound P (P .limit) [] (emptyLevels (areaLevels (P .limit))) [] (Machine.state-open P (P .limit)));
     }
 
 pub open-leaves-sound : (area : List ℕ) (P : Params) → openOf area P .number ≡ 0 → LeavesSound area (openOf area P .area)
@@ -54,7 +54,7 @@ open-leaves-sound area P e =
     let z : openNumber area P ≡ 0 = sym (open-number area P) ∙ e in
     let p = open-passed area P z in
     let s : length (openOf area P .area) ≡ length area = rw (open-accepted area P z) (opened-size area P (p .0)) in
-    record { size = s; long = rw s (p .0); is-sound = rw (open-accepted area P z) (opened-sound area P (p .1)) }
+    record { size = s; long = rw (s, open-accepted area P z, opened-words area P .2) (p .0); is-sound = rw (open-accepted area P z) (opened-sound area P (p .1)) }
 
 -- ---- feed and end: of any area of 64-bit words
 
@@ -63,10 +63,10 @@ pub feed-leaves-sound : (area : List ℕ) (piece : Piece) (log : List ℕ) → B
 feed-leaves-sound area piece log b e =
     let z : feedNumber area piece log ≡ 0 = sym (feed-number area piece log) ∙ e in
     let s : length (feedOf area piece log .area) ≡ length area = rw (feed-accepted area piece log z) (feed-changed area piece log z .size) in
-    record { size = s; long = rw s (feed-passed area piece log z .opened .long); is-sound = feed-keeps area piece log b e }
+    record { size = s; long = rw (s, feed-accepted area piece log z, feed-changed area piece log z .params) (feed-passed area piece log z .opened .long); is-sound = feed-keeps area piece log b e }
 
 pub end-leaves-sound : (area out log : List ℕ) → Below (2 ^ 64) area → endOf area out log .number ≡ 0 → LeavesSound area (endOf area out log .area)
 end-leaves-sound area out log b e =
     let z : endNumber area out log ≡ 0 = sym (end-number area out log) ∙ e in
     let s : length (endOf area out log .area) ≡ length area = rw (end-accepted area out log z) (end-changed area out log z .size) in
-    record { size = s; long = rw s (end-passed area out log z .opened .long); is-sound = end-keeps area out log b e }
+    record { size = s; long = rw (s, end-accepted area out log z, end-changed area out log z .params) (end-passed area out log z .opened .long); is-sound = end-keeps area out log b e }

@@ -1,4 +1,5 @@
 pub mod Accepts
+pub mod Alike
 pub mod Area
 pub mod AreaLaws
 pub mod Block
@@ -16,6 +17,7 @@ pub mod LogWords
 pub mod Machine
 pub mod Marks
 pub mod Meets
+pub mod MoreLevels
 pub mod Moved
 pub mod Receive
 pub mod Rows

@@ -16,7 +16,7 @@ use Rattle.bits.specs.PieceLaws.{length-pieceBits, bits-there}
 use Rattle.tree.specs.Tree.{Params, Node, blockBits, sequentialBits, node, digestBytes}
 use Rattle.refusals.specs.Refusals.{firstRefusal, outputTest}
 use Rattle.refusals.specs.RefusalLaws.{testAt, passed, passed-by, second-part}
-use Rattle.calls.specs.Area.{totalOf, paramsOf, levelsOf, doneBlocks, heldBits}
+use Rattle.calls.specs.Area.{areaLevels, totalOf, paramsOf, levelsOf, doneBlocks, heldBits}
 use Rattle.calls.specs.Calls.{Made, outWords, joinParallel, receive, feedBit, feedBits, fedBits, openTests, totalTest, logTest, feedNumber, feedOf, closedBy, endNumber, endOf, logWordsNumber, logWordsOf}
 use Rattle.calls.specs.CallLaws.{total-passed, feed-number, feed-accepted, end-number, logWords-accepted}
 use Rattle.calls.specs.AreaLaws.{length-levelsOf}
@@ -98,6 +98,7 @@ unfolding fedBits
 feed-shape a b Y Z t l y =
     let m = length-levelsOf a in
     let n = length-levelsOf b in
+    let o : areaLevels (paramsOf a .limit) ≡ areaLevels (paramsOf b .limit) = ap areaLevels l in
     ap (λ (T : ℕ). us (feedBits (paramsOf a) T Y (levelsOf a) .nodes)) t
     ∙ feedBits-shape (paramsOf a) (paramsOf b) l (totalOf b) Y Z (levelsOf a) (levelsOf b) y (omega arith) (omega arith)
 

@@ -2,15 +2,15 @@
 use mathlib.Core.Path.{_≡_, refl, sym, ap, _∙_, subst}
 use mathlib.Core.Bool.{Bool, true, false}
 use mathlib.Core.List.{List, [], _∷_, _++_, append-assoc, append-nil}
-use Prim.Native.Nat.{ℕ, zero, suc, _+_, _-_, _/_, _%_, _^_, _<_}
+use Prim.Native.Nat.{ℕ, zero, suc, _+_, _-_, _/_, _%_, _^_, _≤_, _<_}
 use native.Mathlib.Omega.{arith}
 use borrow.Author.Tests.{eqb-true, eqb-false, eq-eqb, ne-eqb}
 use lib.Dec.{eqb}
-use lib.ListN.{length, replicate, length-append}
+use lib.ListN.{length, replicate, length-append, length-replicate}
 use lib.Seq.{append-snoc}
 use Rattle.lists.specs.Append.{cons-eq}
 use Rattle.lists.specs.Flatten.{map-append}
-use Rattle.tree.specs.Tree.{Params, Node, Mark, Subtree, blockBits, sequentialBits, outputBits, words, node, output, noChain, levels, lastOr, noNode, rootOf, root, leaves, listing, climb, subtrees, lastIndex}
+use Rattle.tree.specs.Tree.{Params, Node, Mark, Subtree, blockBits, sequentialBits, outputBits, words, node, output, noChain, levels, lastOr, noNode, rootOf, root, leaves, mostLevels, listing, climb, subtrees, lastIndex}
 use Rattle.tree.specs.TreeLaws.{length-output-node, length-seqBlock, levels-one, levels-more, levels-some, rootOf-cons}
 use Rattle.bits.specs.BitsLaws.{length-numbers}
 use Rattle.calls.specs.Area.{emptyLevel, emptyLevels, doneBlocks, heldBits, areaLevels}
@@ -53,6 +53,16 @@ unfolding mathlib.Core.List.flatten
 listing-quietLeaves [] = refl
 listing-quietLeaves (n ∷ ns) = cons-eq refl (listing-quietLeaves ns)
 
+-- ---- how many levels there are
+
+-- an area whose levels do not reach the sequential one has all 27, so 26 above level 1
+pub all-above : (n k : ℕ) → k ≡ areaLevels (suc n) - 1 → k ≤ n → k ≡ mostLevels - 1
+all-above n k e h = omega arith
+
+-- there is a level 1
+pub one-more : (limit : ℕ) → areaLevels limit ≡ suc (areaLevels limit - 1)
+one-more limit = omega arith
+
 module _ (P : Params) where
   abbrev pub parNodes : List (List Bool) → List Node
   parNodes B = Rows.row P (Rows.parNode P 1) 0 [] B
@@ -67,7 +77,7 @@ module _ (P : Params) where
     pub up : List (List ℕ)
     pub cut : Cut sequentialBits M B l
     pub is : st ≡ blockOf (Rows.chain P 1 B ++ l) ∷ up
-    pub size : length up ≡ areaLevels - 1
+    pub size : length up ≡ areaLevels 0 - 1
     pub empty : up ≡ replicate (length up) emptyLevel
     pub logged : log ≡ seqNodes B
 
@@ -77,7 +87,7 @@ module _ (P : Params) where
     pub up : List (List ℕ)
     pub cut : Cut blockBits M B l
     pub is : st ≡ blockOf l ∷ up
-    pub size : length up ≡ areaLevels - 1
+    pub size : length up ≡ areaLevels (suc n) - 1
     pub inv : Receive.Inv P n 2 (quietLeaves (parNodes B)) up (marked false log)
 
   abbrev pub State : ℕ → List Bool → List (List ℕ) → List Node → Type 0
@@ -89,19 +99,27 @@ module _ (P : Params) where
   nothing k h = record { size = h; whole = refl; full = tt; fits = omega arith; some = λ e. refl }
 
   -- an opened stream
-  pub state-open : (limit : ℕ) → State limit [] (emptyLevels areaLevels) []
+  pub state-open : (limit : ℕ) → State limit [] (emptyLevels (areaLevels limit)) []
   unfolding emptyLevels
   state-open zero = record {
     B = [];
     l = [];
-    up = replicate (areaLevels - 1) emptyLevel;
+    up = [];
     cut = nothing sequentialBits (omega arith);
     is = rw (Rows.chain-none P 1, append-nil noChain, blockOf-noChain) refl;
     size = refl;
     empty = refl;
     logged = refl;
   }
-  state-open (suc n) = record { B = []; l = []; up = replicate (areaLevels - 1) emptyLevel; cut = nothing blockBits (omega arith); is = rw blockOf-none refl; size = refl; inv = Receive.inv-open P n 2 (areaLevels - 1) }
+  state-open (suc n) = record {
+    B = [];
+    l = [];
+    up = replicate (areaLevels (suc n) - 1) emptyLevel;
+    cut = nothing blockBits (omega arith);
+    is = rw blockOf-none (ap (λ (k : ℕ). replicate k emptyLevel) (one-more (suc n)));
+    size = length-replicate (areaLevels (suc n) - 1) emptyLevel;
+    inv = Receive.inv-open P n 2 (areaLevels (suc n) - 1);
+  }
 
   -- ---- the steps of a bit
 
@@ -230,7 +248,7 @@ module _ (P : Params) where
       came : length (v .l) ≡ blockBits → Receive.Inv P n 2 (X ++ (leaf false m ∷ [])) (above .levels) (marked false log ++ ((leaf false m) .nodes ++ marked false (above .nodes)))
       came full = rw (length-parNodes (v .B)) at
           (Receive.receive-inv P n 2 X (v .up) (marked false log) (leaf false m) (v .inv) refl o
-          (rw (v .size, length-parNodes (v .B)) (omega (arith, cut-length (v .cut), full, hM))))
+          (λ k. rw (all-above n (length (v .up)) (v .size) k, length-parNodes (v .B)) (omega (arith, cut-length (v .cut), full, hM))))
 
       go : (t : Bool) → eqb (heldBits blockBits (length M)) blockBits ≡ t →
           ParState n (M ++ (b ∷ [])) (feedBit P (suc n) (length M) b (ws ∷ v .up) .levels) (log ++ feedBit P (suc n) (length M) b (ws ∷ v .up) .nodes)
@@ -389,7 +407,7 @@ module _ (P : Params) where
           (Close.end-tree P n 2 X (v .up) (marked false log) (leaf true m) (v .inv) refl
           (length-output-node P (P .rounds) 1 (length (v .B)) 0 (blockBits - length (v .l)) (blockOf (v .l)) (length-blockOf (v .l)))
           (rw (length-parNodes (v .B)) some)
-          (rw (v .size, length-parNodes (v .B)) (omega (arith, cut-length (v .cut), hM))))
+          (λ k. rw (all-above n (length (v .up)) (v .size) k, length-parNodes (v .B)) (omega (arith, cut-length (v .cut), hM))))
 
   pub state-done : (limit : ℕ) (M : List Bool) (st : List (List ℕ)) (log : List Node) → length M < 2 ^ 64 → State limit M st log →
       Done limit M log (closing P limit (length M) st)

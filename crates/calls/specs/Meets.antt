@@ -8,7 +8,7 @@ use lib.ListN.{length, take, drop, length-append, length-map}
 use Rattle.lists.specs.Below.{Below}
 use Rattle.bits.specs.Piece.{Piece, pieceBits}
 use Rattle.tree.specs.Tree.{Params, Mark, order, digest, digestBytes}
-use Rattle.calls.specs.Area.{areaWords}
+use Rattle.calls.specs.Area.{ownWords}
 use Rattle.calls.specs.Calls.{Made, Fed, Finished, nodeLog, openNumber, openOf, fedBits, feedNumber, fedArea, feedOf, closedBy, endNumber, endedArea, digestOut, endOf}
 use Rattle.calls.specs.Marks.{allNodes, settled}
 use Rattle.calls.specs.CallLaws.{nodeLog-append, logged-front, open-number, open-accepted, feed-number, feed-accepted, end-number, end-accepted}
@@ -21,7 +21,7 @@ pub record FedOnce (P : Params) (M Y : List Bool) (area : List ℕ) (f : Fed) : 
   pub log : nodeLog (settled (order P (M ++ Y))) ≡ nodeLog (settled (order P M)) ++ take (2 * f .count) (f .log)
   pub count : length (settled (order P (M ++ Y))) ≡ length (settled (order P M)) + f .count
   pub size : length (f .area) ≡ length area
-  pub tail : drop areaWords (f .area) ≡ drop areaWords area
+  pub tail : drop (ownWords area) (f .area) ≡ drop (ownWords area) area
 
 pub feed-one : (P : Params) (M : List Bool) (area : List ℕ) (piece : Piece) (log : List ℕ) → Stands P M area → feedOf area piece log .number ≡ 0 →
     FedOnce P M (pieceBits piece) area (feedOf area piece log)
@@ -50,7 +50,7 @@ pub record EndedOnce (P : Params) (M : List Bool) (area out : List ℕ) (e : Fin
   pub count : length (order P M) ≡ length (settled (order P M)) + e .count
   pub digest : e .digest ≡ digest P M ++ drop (digestBytes (P .d)) out
   pub size : length (e .area) ≡ length area
-  pub tail : drop areaWords (e .area) ≡ drop areaWords area
+  pub tail : drop (ownWords area) (e .area) ≡ drop (ownWords area) area
 
 pub end-one : (P : Params) (M : List Bool) (area out log : List ℕ) → Stands P M area → endOf area out log .number ≡ 0 →
     EndedOnce P M area out (endOf area out log)

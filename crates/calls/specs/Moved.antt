@@ -1,12 +1,12 @@
--- Laws: what an area stands for goes by its first 1,744 words, which are words of 64 bits.
+-- Laws: what an area stands for goes by the words that its L gives, which are words of 64 bits.
 use mathlib.Core.Path.{_≡_, refl, sym, ap, _∙_}
 use mathlib.Core.Bool.{Bool, true, false, _||_}
 use mathlib.Core.List.{List, [], _∷_, _++_, flatten}
-use Prim.Native.Nat.{ℕ, zero, suc, _+_, _-_, _/_, _^_, _≤_, _<_}
+use Prim.Native.Nat.{ℕ, zero, suc, _+_, _-_, _*_, _/_, _^_, _≤_, _<_}
 use native.Mathlib.Omega.{arith}
 use borrow.Author.Tests.{ltb-true, ltb-false, eqb-true}
 use lib.Dec.{eqb, ltb}
-use lib.ListN.{length, take, drop, getD, replicate, length-drop}
+use lib.ListN.{length, take, drop, getD, replicate, length-take, length-drop}
 use lib.Seq.{take-take, getD-take, getD-drop, length-take-le, take-add}
 use Rattle.lists.specs.Append.{cons-eq}
 use Rattle.lists.specs.Below.{Below, none}
@@ -19,17 +19,18 @@ use Rattle.tree.specs.Tree.{mostLevels, Params, Valid, Node, Mark, Subtree, key
 use Rattle.tree.specs.TreeLaws.{keyWords-below, length-keyWords}
 use Rattle.refusals.specs.Refusals.{firstRefusal, paramTests}
 use Rattle.tree.specs.Count.{treeNodes-bound}
-use Rattle.calls.specs.Area.{headWords, areaWords, phaseOf, totalOf, keyBytesOf, kOf, compressionsOf, paramsOf, levelsFrom, levelsOf, emptyLevel, emptyLevels, openAbove, openCount, countFor, soundPhase, soundParams, soundKey, soundCount, soundLast, soundLevels, holdsFor, cleanAll, sound, areaLevels, levelStart, blockWords, Long}
+use Rattle.calls.specs.Area.{headWords, phaseOf, totalOf, keyBytesOf, kOf, compressionsOf, paramsOf, levelsFrom, levelsOf, emptyLevel, emptyLevels, openAbove, openCount, countFor, soundPhase, soundParams, soundKey, soundCount, soundLast, soundLevels, holdsFor, cleanAll, sound, areaLevels, ownLevels, ownWords, levelStart, blockWords, Long}
 use Rattle.calls.specs.Marks.{settled}
 use Rattle.calls.specs.Block.{blockOf-below}
 use Rattle.calls.specs.Rows.{over}
 use Rattle.calls.specs.Receive
 use Rattle.calls.specs.Machine
 use Rattle.calls.specs.Counts
-use Rattle.calls.specs.AreaLaws.{same-word, same-key, same-params, key-words}
+use Rattle.calls.specs.AreaLaws.{same-word, same-key, same-head, key-words}
 use Rattle.refusals.specs.RefusalLaws.{params-valid}
 use Rattle.calls.specs.FeedLaws.{flatten-from}
 use Rattle.calls.specs.Stands.{Head, Stands, Closed}
+use Rattle.calls.specs.Terms.{SameFront}
 
 -- ---- the tests of soundness
 
@@ -74,37 +75,48 @@ sound-key area h b e =
     key-words (kOf area) (keyBytesOf area) (below-take 8 (below-drop 6 b)) (length-take-le 8 (drop 6 area) (rw (length-drop 6 area) (omega arith)))
     (omega (arith, v .keyBytes, length-key area)) (sound-tests area e .key)
 
--- ---- the first 1,744 words
+-- ---- the words that L gives
 
-levels-front : (area : List ℕ) (n k : ℕ) → 0 < k → n + k ≤ areaLevels + 1 → levelsFrom (take areaWords area) n k ≡ levelsFrom area n k
-levels-front area zero k p h = refl
-levels-front area (suc n) k p h =
-    cons-eq (take-drop-take areaWords (levelStart k) blockWords area (omega arith)) (levels-front area n (suc k) (omega arith) (omega arith))
+levels-front : (area : List ℕ) (m n k : ℕ) → 0 < k → n + k ≤ m + 1 → levelsFrom (take (headWords + blockWords * m) area) n k ≡ levelsFrom area n k
+levels-front area m zero k p h = refl
+levels-front area m (suc n) k p h =
+    cons-eq (take-drop-take (headWords + blockWords * m) (levelStart k) blockWords area (omega arith)) (levels-front area m n (suc k) (omega arith) (omega arith))
 
-levelsOf-front : (area : List ℕ) → levelsOf (take areaWords area) ≡ levelsOf area
-unfolding levelsOf
-levelsOf-front area = levels-front area areaLevels 1 (omega arith) (omega arith)
+-- two areas that are alike in those of the first, of which the first has all
+pub front-long : (x y : List ℕ) → Long x → SameFront (paramsOf x .limit) x y → ownWords x ≤ length y
+front-long x y h e = omega (arith, sym (length-take-le (ownWords x) x h) ∙ ap length e ∙ length-take (ownWords x) y)
 
--- two areas that agree in their first 1,744 words
-pub record Same (x y : List ℕ) : Type 0 where
+pub front-params : (x y : List ℕ) → Long x → SameFront (paramsOf x .limit) x y → paramsOf x ≡ paramsOf y
+front-params x y h e =
+    same-head x y (omega (arith, h)) (omega (arith, front-long x y h e))
+    (sym (take-take headWords (ownWords x) x (omega arith)) ∙ ap (take headWords) e ∙ take-take headWords (ownWords x) y (omega arith))
+
+-- then the second has them too, and there are no more
+pub alike-long : (x y : List ℕ) → Long x → SameFront (paramsOf x .limit) x y → Long y
+alike-long x y h e = rw (← front-params x y h e) (front-long x y h e)
+
+pub record SameParts (x y : List ℕ) : Type 0 where
   pub word : (i : ℕ) → i < headWords → getD x i 0 ≡ getD y i 0
   pub key : kOf x ≡ kOf y
   pub params : paramsOf x ≡ paramsOf y
   pub levels : levelsOf x ≡ levelsOf y
 
-pub same-front : (x y : List ℕ) → Long x → Long y → take areaWords x ≡ take areaWords y → Same x y
-same-front x y hx hy e =
+pub same-front : (x y : List ℕ) → Long x → SameFront (paramsOf x .limit) x y → SameParts x y
+unfolding levelsOf
+same-front x y h e =
     let t : take headWords x ≡ take headWords y =
-    sym (take-take headWords areaWords x (omega arith)) ∙ ap (take headWords) e ∙ take-take headWords areaWords y (omega arith) in
-    let k = same-key x y (omega arith) (omega arith) t in
+    sym (take-take headWords (ownWords x) x (omega arith)) ∙ ap (take headWords) e ∙ take-take headWords (ownWords x) y (omega arith) in
+    let p = front-params x y h e in
+    let f : (z : List ℕ) → levelsFrom (take (ownWords x) z) (ownLevels x) 1 ≡ levelsFrom z (ownLevels x) 1 =
+    λ z. levels-front z (ownLevels x) (ownLevels x) 1 (omega arith) (omega arith) in
     record {
       word = same-word x y t;
-      key = k;
-      params = same-params x y k (λ i h g. same-word x y t i (omega arith));
-      levels = sym (levelsOf-front x) ∙ ap levelsOf e ∙ levelsOf-front y;
+      key = same-key x y (omega (arith, h)) (omega (arith, front-long x y h e)) t;
+      params = p;
+      levels = sym (f x) ∙ ap (λ (z : List ℕ). levelsFrom z (ownLevels x) 1) e ∙ f y ∙ rw p;
     }
 
-pub same-sound : (x y : List ℕ) → Same x y → sound x ≡ sound y
+pub same-sound : (x y : List ℕ) → SameParts x y → sound x ≡ sound y
 unfolding sound
 same-sound x y s =
     let w0 = s .word 0 (omega arith) in
@@ -121,15 +133,15 @@ same-sound x y s =
     ∙ ap (λ (T : ℕ). eqb (compressionsOf y) (countFor (phaseOf y) (paramsOf y .limit) T)) w1 in
     let last : soundLast x ≡ soundLast y = ap (λ (w : ℕ). eqb w 0) (s .word 15 (omega arith)) in
     let levels : soundLevels x ≡ soundLevels y =
-    ap (λ (p : ℕ). cleanAll (holdsFor areaLevels p (paramsOf x .limit) (totalOf x)) (levelsOf x)) w0
-    ∙ ap (λ (P : Params). cleanAll (holdsFor areaLevels (phaseOf y) (P .limit) (totalOf x)) (levelsOf x)) (s .params)
-    ∙ ap (λ (T : ℕ). cleanAll (holdsFor areaLevels (phaseOf y) (paramsOf y .limit) T) (levelsOf x)) w1
-    ∙ ap (cleanAll (holdsFor areaLevels (phaseOf y) (paramsOf y .limit) (totalOf y))) (s .levels) in
+    ap (λ (p : ℕ). cleanAll (holdsFor (ownLevels x) p (paramsOf x .limit) (totalOf x)) (levelsOf x)) w0
+    ∙ ap (λ (P : Params). cleanAll (holdsFor (areaLevels (P .limit)) (phaseOf y) (P .limit) (totalOf x)) (levelsOf x)) (s .params)
+    ∙ ap (λ (T : ℕ). cleanAll (holdsFor (ownLevels y) (phaseOf y) (paramsOf y .limit) T) (levelsOf x)) w1
+    ∙ ap (cleanAll (holdsFor (ownLevels y) (phaseOf y) (paramsOf y .limit) (totalOf y))) (s .levels) in
     rw (phase, params, key, count, last, levels) refl
 
 -- ---- an area moved to another place
 
-head-moved : (P : Params) (M : List Bool) (x y : List ℕ) → Long y → Same x y → Head P M x → Head P M y
+head-moved : (P : Params) (M : List Bool) (x y : List ℕ) → Long y → SameParts x y → Head P M x → Head P M y
 head-moved P M x y hy s h = record {
   valid = h .valid;
   short = h .short;
@@ -141,23 +153,21 @@ head-moved P M x y hy s h = record {
   last = sym (s .word 15 (omega arith)) ∙ h .last;
 }
 
-pub stands-moved : (P : Params) (M : List Bool) (x y : List ℕ) → Long y → take areaWords x ≡ take areaWords y → Stands P M x →
-    Stands P M y
-stands-moved P M x y hy e t =
-    let s = same-front x y (t .head .long) hy e in
+pub stands-moved : (P : Params) (M : List Bool) (x y : List ℕ) → SameFront (paramsOf x .limit) x y → Stands P M x → Stands P M y
+stands-moved P M x y e t =
+    let s = same-front x y (t .head .long) e in
     record {
-      head = head-moved P M x y hy s (t .head);
+      head = head-moved P M x y (alike-long x y (t .head .long) e) s (t .head);
       phase = sym (s .word 0 (omega arith)) ∙ t .phase;
       count = sym (s .word 14 (omega arith)) ∙ t .count;
       state = rw (s .levels) at (t .state);
     }
 
-pub closed-moved : (P : Params) (M : List Bool) (x y : List ℕ) → Long y → take areaWords x ≡ take areaWords y → Closed P M x →
-    Closed P M y
-closed-moved P M x y hy e t =
-    let s = same-front x y (t .head .long) hy e in
+pub closed-moved : (P : Params) (M : List Bool) (x y : List ℕ) → SameFront (paramsOf x .limit) x y → Closed P M x → Closed P M y
+closed-moved P M x y e t =
+    let s = same-front x y (t .head .long) e in
     record {
-      head = head-moved P M x y hy s (t .head);
+      head = head-moved P M x y (alike-long x y (t .head .long) e) s (t .head);
       phase = sym (s .word 0 (omega arith)) ∙ t .phase;
       count = sym (s .word 14 (omega arith)) ∙ t .count;
       levels = sym (s .levels) ∙ t .levels;
@@ -238,22 +248,22 @@ module _ (P : Params) (M : List Bool) (area : List ℕ) (h : Head P M area) wher
       let e : length (take headWords area) ≡ 16 = length-take-le 16 area (omega (arith, h .long)) in
       below-all (take headWords area) (λ i l. rw (getD-take 16 area i 0 (omega arith)) (head-word p c i (omega arith)))
 
--- the first 1,744 words are the head and the levels
-pub area-front : (area : List ℕ) → take areaWords area ≡ take headWords area ++ flatten (levelsOf area)
+-- the words that L gives are the head and the levels
+pub area-front : (area : List ℕ) → take (ownWords area) area ≡ take headWords area ++ flatten (levelsOf area)
 unfolding levelsOf
-area-front area = take-add headWords (areaWords - headWords) area ∙ rw (flatten-from area areaLevels 1 (omega arith)) refl
+area-front area = take-add headWords (blockWords * ownLevels area) area ∙ rw (flatten-from area (ownLevels area) 1 (omega arith)) refl
 
-pub stands-below : {P : Params} {M : List Bool} {area : List ℕ} → Stands P M area → Below (2 ^ 64) (take areaWords area)
+pub stands-below : {P : Params} {M : List Bool} {area : List ℕ} → Stands P M area → Below (2 ^ 64) (take (ownWords area) area)
 stands-below {P} {M} {area} s =
     rw (area-front area)
     (below-append
     (head-below P M area (s .head) (omega (arith, s .phase)) (omega (arith, s .count, openCount-small (P .limit) (length M) (s .head .short))))
     (flatten-below (state-words P (P .limit) M (levelsOf area) (settled (order P M)) (s .state))))
 
-pub closed-below : {P : Params} {M : List Bool} {area : List ℕ} → Closed P M area → Below (2 ^ 64) (take areaWords area)
+pub closed-below : {P : Params} {M : List Bool} {area : List ℕ} → Closed P M area → Below (2 ^ 64) (take (ownWords area) area)
 unfolding emptyLevels
 closed-below {P} {M} {area} s =
     rw (area-front area)
     (below-append
     (head-below P M area (s .head) (omega (arith, s .phase)) (omega (arith, s .count, treeNodes-bound (P .limit) (length M) (s .head .short))))
-    (rw (s .levels) (flatten-below (empty-words areaLevels))))
+    (rw (s .levels) (flatten-below (empty-words (areaLevels (P .limit))))))

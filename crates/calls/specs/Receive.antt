@@ -364,11 +364,13 @@ module _ (P : Params) where
         up = rw (parRow-snoc level (v .G) g) u;
       }
 
-  -- a node that comes keeps the levels in order; k levels are enough for fewer than 4 to the k nodes
+  -- a node that comes keeps the levels in order; k levels are enough if the sequential one is among them, or for fewer than 4 to the k
+  -- nodes
   pub receive-inv : (n level : ℕ) (X : List Subtree) (st : List (List ℕ)) (lg : List Mark) (x : Subtree) → Inv n level X st lg →
       x .top .reaches ≡ false →
-      length (outOf x) ≡ outputBits → length X + 2 ≤ 4 ^ length st → After n level X lg x (receive P n level (length X) (wordsOf x) st)
-  receive-inv n level X [] lg x v q o b = absurd (omega arith)
+      length (outOf x) ≡ outputBits → (length st ≤ n → length X + 2 ≤ 4 ^ length st) →
+      After n level X lg x (receive P n level (length X) (wordsOf x) st)
+  receive-inv n level X [] lg x v q o b = absurd (omega (arith, b (omega arith)))
   receive-inv zero level X (ws ∷ up) lg x v q o b = go (eqb (length X % 3) 2) refl
     where
       go : (t : Bool) → eqb (length X % 3) 2 ≡ t → After 0 level X lg x (receive P 0 level (length X) (wordsOf x) (ws ∷ up))
@@ -388,7 +390,7 @@ module _ (P : Params) where
       size = length-over (v .G) (parRow level (v .G)) (length-parRow level (v .G))
 
       go : (t : Bool) → eqb (length X % 4) 3 ≡ t →
-          (length Y + 2 ≤ 4 ^ length up → After n (suc level) Y (v .lg′) y (receive P n (suc level) (length Y) (wordsOf y) up)) →
+          ((length up ≤ n → length Y + 2 ≤ 4 ^ length up) → After n (suc level) Y (v .lg′) y (receive P n (suc level) (length Y) (wordsOf y) up)) →
           After (suc n) level X lg x (receive P (suc n) level (length X) (wordsOf x) (ws ∷ up))
       go false e u = par-more n level X ws up lg x v q o e
-      go true e u = par-full n level X ws up lg x v q o e (rw size at (u (omega (arith, size, par-at v, eqb-true (length X % 4) 3 e, pow-succ' 4 (length up), b))))
+      go true e u = par-full n level X ws up lg x v q o e (rw size at (u (λ h. omega (arith, size, par-at v, eqb-true (length X % 4) 3 e, pow-succ' 4 (length up), b (omega arith)))))

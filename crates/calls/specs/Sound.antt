@@ -93,9 +93,9 @@ module _ (P : Params) where
   state-widths zero M st log v = rw (v .is) (length-blockOf (Rows.chain P 1 (v .B) ++ v .l), rw (v .empty) (empty-widths (length (v .up))))
   state-widths (suc n) M st log v = rw (v .is) (length-blockOf (v .l), inv-widths n 2 _ (v .up) _ (v .inv))
 
-  pub state-size : (limit : ℕ) (M : List Bool) (st : List (List ℕ)) (log : List Node) → Machine.State P limit M st log → length st ≡ areaLevels
+  pub state-size : (limit : ℕ) (M : List Bool) (st : List (List ℕ)) (log : List Node) → Machine.State P limit M st log → length st ≡ areaLevels limit
   state-size zero M st log v = rw (v .is) (ap suc (v .size))
-  state-size (suc n) M st log v = rw (v .is) (ap suc (v .size))
+  state-size (suc n) M st log v = rw (v .is) (omega (arith, v .size))
 
   state-clean : (limit : ℕ) (M : List Bool) (st : List (List ℕ)) (log : List Node) → Machine.State P limit M st log →
       cleanAll (openHolds (length st) limit (length M)) st ≡ true
@@ -110,5 +110,5 @@ module _ (P : Params) where
       (rw (Machine.length-parNodes P (v .B), ← cut-last (v .cut)) at (inv-sound n 2 _ (v .up) _ (v .inv))))
 
   pub state-sound : (limit : ℕ) (M : List Bool) (st : List (List ℕ)) (log : List Node) → Machine.State P limit M st log →
-      cleanAll (openHolds areaLevels limit (length M)) st ≡ true
+      cleanAll (openHolds (areaLevels limit) limit (length M)) st ≡ true
   state-sound limit M st log v = rw (state-size limit M st log v) at (state-clean limit M st log v)

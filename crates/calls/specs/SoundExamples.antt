@@ -1,4 +1,5 @@
--- Examples: sound and unsound areas, one table and one theorem, by computing. Document 01: "An area is sound if word 0 is 1 or
+-- Examples: sound and unsound areas, one table and one theorem, by computing. Document 02, M-109: "Soundness, .. and the untouched
+-- tail go by this length", which is that of L + 1 levels, and of 27 from L = 26 on. Document 01: "An area is sound if word 0 is 1 or
 -- 2, its parameters are in range, unused key bytes are zero, word 14 is the count that total, L and phase give, word 15 is 0,
 -- and so is every bit of a level that is neither held nor of a sequential output. Ended areas hold nothing in any level and
 -- keep no sequential output".
@@ -30,7 +31,7 @@ abbrev setAll : List (ℕ × ℕ) → List ℕ → List ℕ
 setAll [] area = area
 setAll (q ∷ qs) area = setAll qs (set area (q .0) (q .1))
 
--- the word past the levels is the caller's own
+-- the slice is longer than any area needs, and its words past those that L gives are the caller's own
 abbrev built : Row → List ℕ
 built w =
     setAll (w .head) (w .phase ∷ w .total ∷ 0 ∷ 8 ∷ w .limit ∷ 0 ∷ (replicate 8 0 ++ (w .count ∷ 0 ∷ [])))
@@ -133,14 +134,15 @@ rows0 =
     -- 3,071 bits: the last bit of the level is not held
     ∷ row 1 0 3071 0 [] ((1, 63, 2) ∷ []) true
     ∷ row 1 0 3071 0 [] ((1, 63, 1) ∷ []) false
-    -- nothing stands above level 1
-    ∷ row 1 0 3073 1 [] ((2, 0, 1) ∷ []) false
-    ∷ row 1 0 3073 1 [] ((2, 16, 1) ∷ []) false
-    ∷ row 1 0 3073 1 [] ((27, 63, 1) ∷ []) false
+    -- what stands past level 1, in words 80 to 1,743, is the tail
+    ∷ row 1 0 3073 1 [] ((2, 0, 1) ∷ []) true
+    ∷ row 1 0 3073 1 [] ((2, 16, 1) ∷ (27, 63, 1) ∷ []) true
+    ∷ row 1 0 0 0 [] (ones 2 0 64) true
     -- ended: no output is kept, and nothing held
     ∷ row 2 0 3073 2 [] ((1, 0, 2 ^ 63) ∷ []) false
     ∷ row 2 0 3073 2 [] ((1, 16, 2 ^ 63) ∷ []) false
-    ∷ row 2 0 3073 2 [] ((27, 63, 1) ∷ []) false
+    ∷ row 2 0 3073 2 [] ((1, 63, 1) ∷ []) false
+    ∷ row 2 0 3073 2 [] ((2, 0, 2 ^ 63) ∷ (27, 63, 1) ∷ []) true
     ∷ []
 
 -- the levels with L = 1: level 1 is parallel, and level 2 is sequential
@@ -150,13 +152,13 @@ rows1 =
     row 1 1 4097 1 [] (ones 2 16 16) true
     ∷ row 1 1 4097 1 [] ((2, 0, 1) ∷ []) false
     ∷ row 1 1 4097 1 [] ((2, 32, 1) ∷ []) false
-    -- 12,289 bits, 3 and 1 nodes: level 1 holds one bit, and level 2 has an output and holds nothing; nothing stands above it
+    -- 12,289 bits, 3 and 1 nodes: level 1 holds one bit, and level 2 has an output and holds nothing; level 3 is the tail
     ∷ row 1 1 12289 4 [] ((1, 0, 2 ^ 63) ∷ []) true
     ∷ row 1 1 12289 4 [] (ones 2 0 16) true
     ∷ row 1 1 12289 4 [] ((1, 0, 2 ^ 62) ∷ []) false
     ∷ row 1 1 12289 4 [] ((2, 16, 1) ∷ []) false
-    ∷ row 1 1 12289 4 [] ((3, 0, 1) ∷ []) false
-    ∷ row 1 1 12289 4 [] ((27, 63, 1) ∷ []) false
+    ∷ row 1 1 12289 4 [] ((2, 63, 1) ∷ []) false
+    ∷ row 1 1 12289 4 [] ((3, 0, 2 ^ 63) ∷ (27, 63, 1) ∷ []) true
     ∷ []
 
 -- the levels with L = 2: levels 1 and 2 are parallel, and level 3 is sequential
@@ -189,20 +191,34 @@ rows2 =
     -- 49,153 bits, 12, 3 and 1 nodes: level 3 has an output and holds nothing
     ∷ row 1 2 49153 16 [] (ones 3 0 16) true
     ∷ row 1 2 49153 16 [] ((3, 16, 2 ^ 63) ∷ []) false
-    -- nothing stands above level 3
-    ∷ row 1 2 49153 16 [] ((4, 0, 1) ∷ []) false
-    ∷ row 1 2 49153 16 [] ((4, 16, 1) ∷ []) false
-    ∷ row 1 2 49153 16 [] ((27, 63, 1) ∷ []) false
+    -- what stands past level 3 is the tail
+    ∷ row 1 2 49153 16 [] ((3, 63, 1) ∷ []) false
+    ∷ row 1 2 49153 16 [] ((4, 0, 2 ^ 63) ∷ (27, 63, 1) ∷ []) true
     -- ended, 13, 4 and 2 nodes: what each of the three levels held, and the output of level 3, are gone
     ∷ row 2 2 49153 19 [] [] true
     ∷ row 2 2 49153 19 [] ((1, 0, 2 ^ 63) ∷ []) false
     ∷ row 2 2 49153 19 [] ((2, 0, 1) ∷ []) false
     ∷ row 2 2 49153 19 [] ((3, 0, 1) ∷ []) false
     ∷ row 2 2 49153 19 [] ((3, 16, 1) ∷ []) false
+    ∷ row 2 2 49153 19 [] ((4, 0, 1) ∷ []) true
+    ∷ []
+
+-- from L = 26 on an area has all 27 levels: the last of them is sequential with L = 26, and parallel above that; with L = 25 it is
+-- the tail
+abbrev pub rowsMost : List Row
+rowsMost =
+    row 1 25 0 0 [] ((26, 63, 1) ∷ []) false
+    ∷ row 1 25 0 0 [] ((27, 0, 2 ^ 63) ∷ []) true
+    ∷ row 1 26 0 0 [] ((27, 0, 2 ^ 63) ∷ []) false
+    ∷ row 1 26 0 0 [] ((27, 63, 1) ∷ []) false
+    ∷ row 1 27 0 0 [] ((27, 63, 1) ∷ []) false
+    ∷ row 1 64 0 0 [] ((27, 63, 1) ∷ []) false
+    ∷ row 2 25 0 1 [] ((27, 63, 1) ∷ []) true
+    ∷ row 2 64 0 1 [] ((27, 63, 1) ∷ []) false
     ∷ []
 
 abbrev pub rows : List Row
-rows = headRows ++ (rows0 ++ (rows1 ++ rows2))
+rows = headRows ++ (rows0 ++ (rows1 ++ (rows2 ++ rowsMost)))
 
 -- what the definition says of a row's area
 abbrev pub computed : Row → Row

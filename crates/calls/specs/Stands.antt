@@ -2,10 +2,10 @@
 use mathlib.Core.Path.{_≡_, refl, sym, ap, _∙_}
 use mathlib.Core.Bool.{Bool, true, false}
 use mathlib.Core.List.{List, [], _∷_, _++_, append-assoc, flatten}
-use Prim.Native.Nat.{ℕ, _+_, _-_, _^_, _<_, _≤_}
+use Prim.Native.Nat.{ℕ, _+_, _*_, _^_, _<_, _≤_}
 use native.Mathlib.Omega.{arith}
 use borrow.Author.Tests.{eq-eqb}
-use lib.ListN.{length, take, drop, getD, set, replicate, length-append}
+use lib.ListN.{length, take, drop, getD, set, replicate, length-append, length-replicate}
 use lib.Seq.{take-at, drop-at, getD-at, getD-append-add}
 use Rattle.lists.specs.Append.{cons-eq}
 use Rattle.lists.specs.Below.{Below}
@@ -13,7 +13,7 @@ use Rattle.tree.specs.Tree.{Params, Valid, Node, keyWords, order, root, lastOr,
 use Rattle.tree.specs.TreeLaws.{length-keyWords}
 use Rattle.refusals.specs.Refusals.{firstRefusal, paramTests}
 use Rattle.tree.specs.Sizes.{treeNodes}
-use Rattle.calls.specs.Area.{areaWords, phaseOf, totalOf, keyBytesOf, kOf, compressionsOf, paramsOf, levelsOf, withLevels, emptyLevel, emptyLevels, openCount, soundPhase, soundParams, soundKey, soundCount, soundLast, soundLevels, sound, areaLevels, headWords, Long}
+use Rattle.calls.specs.Area.{areaWords, phaseOf, totalOf, keyBytesOf, kOf, compressionsOf, paramsOf, levelsOf, withLevels, emptyLevel, emptyLevels, openCount, soundPhase, soundParams, soundKey, soundCount, soundLast, soundLevels, sound, areaLevels, ownLevels, ownWords, blockWords, Long}
 use Rattle.calls.specs.Calls.{Made, feedBits, closing, openNumber, openedArea, fedBits, feedNumber, fedArea, closedBy, endedArea, digestOut}
 use Rattle.calls.specs.Marks.{allNodes, settled}
 use Rattle.calls.specs.Rows.{length-flatten}
@@ -58,7 +58,7 @@ module _ (P : Params) (M : List Bool) (st : List (List ℕ)) (log : List Node) (
 
 -- the empty message has no node that does not reach its last bit
 pub settled-opened : (P : Params) → settled (order P []) ≡ []
-settled-opened P = state-settled P [] (emptyLevels areaLevels) [] (omega arith) (Machine.state-open P (P .limit))
+settled-opened P = state-settled P [] (emptyLevels (areaLevels (P .limit))) [] (omega arith) (Machine.state-open P (P .limit))
 
 -- ---- an area and a message
 
@@ -85,7 +85,7 @@ pub record Closed (P : Params) (M : List Bool) (area : List ℕ) : Type 0 where
   pub head : Head P M area
   pub phase : phaseOf area ≡ 2
   pub count : compressionsOf area ≡ treeNodes (P .limit) (length M)
-  pub levels : levelsOf area ≡ emptyLevels areaLevels
+  pub levels : levelsOf area ≡ emptyLevels (areaLevels (P .limit))
 
 -- ---- they are sound
 
@@ -124,7 +124,7 @@ closed-sound {P} {M} {area} s =
     count = rw (s .phase, s .head .params, s .head .total) (eq-eqb (compressionsOf area) (treeNodes (P .limit) (length M)) (s .count))
 
     levels : soundLevels area ≡ true
-    levels = rw (s .phase, s .levels) (clean-empty areaLevels)
+    levels = rw (s .phase, s .head .params, s .levels) (clean-empty (areaLevels (P .limit)))
 
 -- ---- open
 
@@ -132,45 +132,57 @@ module _ (area : List ℕ) (P : Params) where
   front : List ℕ
   front = 1 ∷ 0 ∷ length (P .key) ∷ P .d ∷ P .limit ∷ P .rounds ∷ (keyWords (P .key) ++ (0 ∷ 0 ∷ []))
 
-  opened-is : openedArea area P ≡ front ++ (flatten (emptyLevels areaLevels) ++ drop areaWords area)
+  opened-is : openedArea area P ≡ front ++ (flatten (emptyLevels (areaLevels (P .limit))) ++ drop (areaWords (P .limit)) area)
   unfolding openedArea front
-  opened-is = rw (append-assoc (keyWords (P .key)) (0 ∷ 0 ∷ []) (flatten (emptyLevels areaLevels) ++ drop areaWords area)) refl
+  opened-is = rw (append-assoc (keyWords (P .key)) (0 ∷ 0 ∷ []) (flatten (emptyLevels (areaLevels (P .limit))) ++ drop (areaWords (P .limit)) area)) refl
 
   front-length : length front ≡ 16
   unfolding front
   front-length = rw (length-append (keyWords (P .key)) (0 ∷ 0 ∷ []), length-keyWords (P .key)) refl
 
-  empty-width : length (flatten (emptyLevels areaLevels)) ≡ areaWords - headWords
+  empty-width : length (flatten (emptyLevels (areaLevels (P .limit)))) ≡ blockWords * areaLevels (P .limit)
   unfolding emptyLevels
-  empty-width = length-flatten 64 (replicate areaLevels emptyLevel) (empty-widths areaLevels)
+  empty-width = length-flatten 64 (replicate (areaLevels (P .limit)) emptyLevel) (empty-widths (areaLevels (P .limit))) ∙ rw (length-replicate (areaLevels (P .limit)) emptyLevel) (omega arith)
 
-  pub opened-size : Long area → length (openedArea area P) ≡ length area
+  pub opened-size : areaWords (P .limit) ≤ length area → length (openedArea area P) ≡ length area
   opened-size h =
-      rw (opened-is, length-append front (flatten (emptyLevels areaLevels) ++ drop areaWords area), front-length, length-append (flatten (emptyLevels areaLevels)) (drop areaWords area), empty-width, lib.ListN.length-drop areaWords area)
+      rw (opened-is, length-append front (flatten (emptyLevels (areaLevels (P .limit))) ++ drop (areaWords (P .limit)) area), front-length, length-append (flatten (emptyLevels (areaLevels (P .limit)))) (drop (areaWords (P .limit)) area), empty-width, lib.ListN.length-drop (areaWords (P .limit)) area)
       (omega arith)
 
-  pub opened-tail : drop areaWords (openedArea area P) ≡ drop areaWords area
-  opened-tail =
-      rw (opened-is, ← append-assoc front (flatten (emptyLevels areaLevels)) (drop areaWords area))
-      (drop-at (front ++ flatten (emptyLevels areaLevels)) (drop areaWords area) areaWords (rw (length-append front (flatten (emptyLevels areaLevels)), front-length, empty-width) refl))
+  opened-front : take (areaWords (P .limit)) (openedArea area P) ≡ front ++ flatten (emptyLevels (areaLevels (P .limit)))
+  opened-front =
+      rw (opened-is, ← append-assoc front (flatten (emptyLevels (areaLevels (P .limit)))) (drop (areaWords (P .limit)) area))
+      (take-at (front ++ flatten (emptyLevels (areaLevels (P .limit)))) (drop (areaWords (P .limit)) area) (areaWords (P .limit)) (rw (length-append front (flatten (emptyLevels (areaLevels (P .limit)))), front-length, empty-width) (omega arith)))
 
-  pub opened-levels : levelsOf (openedArea area P) ≡ emptyLevels areaLevels
+  pub opened-tail : drop (areaWords (P .limit)) (openedArea area P) ≡ drop (areaWords (P .limit)) area
+  opened-tail =
+      rw (opened-is, ← append-assoc front (flatten (emptyLevels (areaLevels (P .limit)))) (drop (areaWords (P .limit)) area))
+      (drop-at (front ++ flatten (emptyLevels (areaLevels (P .limit)))) (drop (areaWords (P .limit)) area) (areaWords (P .limit)) (rw (length-append front (flatten (emptyLevels (areaLevels (P .limit)))), front-length, empty-width) (omega arith)))
+
+  pub opened-limit : paramsOf (openedArea area P) .limit ≡ P .limit
+  unfolding openedArea paramsOf
+  opened-limit = refl
+
+  pub opened-levels : levelsOf (openedArea area P) ≡ emptyLevels (areaLevels (P .limit))
   unfolding emptyLevels
-  opened-levels = rw opened-is (levelsOf-at front (replicate areaLevels emptyLevel) (drop areaWords area) front-length (empty-widths areaLevels) refl)
+  opened-levels =
+      rw opened-is
+      (levelsOf-at front (replicate (areaLevels (P .limit)) emptyLevel) (drop (areaWords (P .limit)) area) front-length (empty-widths (areaLevels (P .limit)))
+      (length-replicate (areaLevels (P .limit)) emptyLevel ∙ rw (← opened-is, opened-limit)))
 
   pub opened-key : kOf (openedArea area P) ≡ keyWords (P .key)
   unfolding openedArea
-  opened-key = take-at (keyWords (P .key)) (0 ∷ 0 ∷ (flatten (emptyLevels areaLevels) ++ drop areaWords area)) 8 (length-keyWords (P .key))
+  opened-key = take-at (keyWords (P .key)) (0 ∷ 0 ∷ (flatten (emptyLevels (areaLevels (P .limit))) ++ drop (areaWords (P .limit)) area)) 8 (length-keyWords (P .key))
 
   pub opened-14 : compressionsOf (openedArea area P) ≡ 0
   unfolding openedArea
-  opened-14 = getD-at (keyWords (P .key)) 0 (0 ∷ (flatten (emptyLevels areaLevels) ++ drop areaWords area)) 0 8 (length-keyWords (P .key))
+  opened-14 = getD-at (keyWords (P .key)) 0 (0 ∷ (flatten (emptyLevels (areaLevels (P .limit))) ++ drop (areaWords (P .limit)) area)) 0 8 (length-keyWords (P .key))
 
   pub opened-15 : getD (openedArea area P) 15 0 ≡ 0
   unfolding openedArea
   opened-15 =
-      ap (λ (k : ℕ). getD (keyWords (P .key) ++ (0 ∷ 0 ∷ (flatten (emptyLevels areaLevels) ++ drop areaWords area))) (k + 1) 0) (sym (length-keyWords (P .key)))
-      ∙ getD-append-add (keyWords (P .key)) (0 ∷ 0 ∷ (flatten (emptyLevels areaLevels) ++ drop areaWords area)) 1 0
+      ap (λ (k : ℕ). getD (keyWords (P .key) ++ (0 ∷ 0 ∷ (flatten (emptyLevels (areaLevels (P .limit))) ++ drop (areaWords (P .limit)) area))) (k + 1) 0) (sym (length-keyWords (P .key)))
+      ∙ getD-append-add (keyWords (P .key)) (0 ∷ 0 ∷ (flatten (emptyLevels (areaLevels (P .limit))) ++ drop (areaWords (P .limit)) area)) 1 0
 
   pub opened-0 : phaseOf (openedArea area P) ≡ 1
   unfolding openedArea
@@ -180,15 +192,15 @@ module _ (area : List ℕ) (P : Params) where
   unfolding openedArea paramsOf
   opened-params v = rw (opened-key′, key-back (P .key) (v .bytes) (v .keyBytes)) refl
     where
-      opened-key′ : take 8 (keyWords (P .key) ++ (0 ∷ 0 ∷ (flatten (emptyLevels areaLevels) ++ drop areaWords area))) ≡ keyWords (P .key)
-      opened-key′ = take-at (keyWords (P .key)) (0 ∷ 0 ∷ (flatten (emptyLevels areaLevels) ++ drop areaWords area)) 8 (length-keyWords (P .key))
+      opened-key′ : take 8 (keyWords (P .key) ++ (0 ∷ 0 ∷ (flatten (emptyLevels (areaLevels (P .limit))) ++ drop (areaWords (P .limit)) area))) ≡ keyWords (P .key)
+      opened-key′ = take-at (keyWords (P .key)) (0 ∷ 0 ∷ (flatten (emptyLevels (areaLevels (P .limit))) ++ drop (areaWords (P .limit)) area)) 8 (length-keyWords (P .key))
 
-  opened-head : Valid P → Long area → Head P [] (openedArea area P)
+  opened-head : Valid P → areaWords (P .limit) ≤ length area → Head P [] (openedArea area P)
   unfolding openedArea
   opened-head v h = record {
     valid = v;
     short = omega arith;
-    long = rw (opened-size h) h;
+    long = rw (opened-size h, opened-limit) h;
     total = refl;
     params = opened-params v;
     keyBytes = refl;
@@ -205,11 +217,16 @@ module _ (area : List ℕ) (P : Params) where
     state = rw (opened-levels, settled-opened P) (Machine.state-open P (P .limit));
   }
     where
-      a : (areaWords ≤ length area) × (firstRefusal (paramTests P) ≡ 0)
+      a : (areaWords (P .limit) ≤ length area) × (firstRefusal (paramTests P) ≡ 0)
       a = open-passed area P e
 
       v : Valid P
       v = params-valid P b (a .1)
+
+-- whatever the area held before
+pub opened-alike : (x y : List ℕ) (P : Params) → take (areaWords (P .limit)) (openedArea x P) ≡ take (areaWords (P .limit)) (openedArea y P)
+unfolding front
+opened-alike x y P = opened-front x P ∙ sym (opened-front y P)
 
 -- ---- feed
 
@@ -218,7 +235,7 @@ pub record FeedDone (P : Params) (M Y : List Bool) (area : List ℕ) (made : Mad
   pub stands : Stands P (M ++ Y) to
   pub added : settled (order P (M ++ Y)) ≡ settled (order P M) ++ made .nodes
   pub size : length to ≡ length area
-  pub tail : drop areaWords to ≡ drop areaWords area
+  pub tail : drop (ownWords area) to ≡ drop (ownWords area) area
 
 pub feed-stands : (P : Params) (M : List Bool) (area : List ℕ) (piece : Piece) (log : List ℕ) → Stands P M area → feedNumber area piece log ≡ 0 →
     (let Y : List Bool = pieceBits piece in FeedDone P M Y area (fedBits area Y) (fedArea area (piece .count) (fedBits area Y)))
@@ -228,7 +245,7 @@ feed-stands P M area piece log s e = record {
     head = record {
       valid = s .head .valid;
       short = rw len small;
-      long = rw (c .size) (s .head .long);
+      long = rw (c .size, c .params) (s .head .long);
       total = c .set ∙ omega (arith, s .head .total, size, len);
       params = c .params ∙ s .head .params;
       keyBytes = c .same 2 (omega arith) (omega arith) (omega arith) ∙ s .head .keyBytes;
@@ -275,7 +292,7 @@ feed-stands P M area piece log s e = record {
         (withLevels (set (set area 1 (totalOf area + piece .count)) 14 (compressionsOf area + length (made .nodes))) (made .levels))
     c = changed area 1 (totalOf area + piece .count) (compressionsOf area + length (made .nodes)) (made .levels) (s .head .long) (omega arith)
         (state-widths P (P .limit) (M ++ Y) (made .levels) (settled (order P M) ++ made .nodes) state)
-        (state-size P (P .limit) (M ++ Y) (made .levels) (settled (order P M) ++ made .nodes) state)
+        (state-size P (P .limit) (M ++ Y) (made .levels) (settled (order P M) ++ made .nodes) state ∙ rw (s .head .params))
 
     counted : openCount (P .limit) (length M) + length (made .nodes) ≡ openCount (P .limit) (length M + length Y)
     counted = rw is (omega (arith, Counts.feedBits-count P (length M) Y (levelsOf area) (state-size P (P .limit) M (levelsOf area) (settled (order P M)) (s .state)) small))
@@ -288,7 +305,7 @@ pub record EndDone (P : Params) (M : List Bool) (area out : List ℕ) (nodes : L
   pub all : allNodes (order P M) ≡ settled (order P M) ++ nodes
   pub digest : given ≡ digest P M ++ drop (digestBytes (P .d)) out
   pub size : length to ≡ length area
-  pub tail : drop areaWords to ≡ drop areaWords area
+  pub tail : drop (ownWords area) to ≡ drop (ownWords area) area
 
 pub end-closed : (P : Params) (M : List Bool) (area out : List ℕ) → Stands P M area →
     EndDone P M area out (closedBy area) (endedArea area (closedBy area)) (digestOut area (closedBy area) out)
@@ -298,7 +315,7 @@ end-closed P M area out s = record {
     head = record {
       valid = s .head .valid;
       short = s .head .short;
-      long = rw (c .size) (s .head .long);
+      long = rw (c .size, c .params) (s .head .long);
       total = c .same 1 (omega arith) (omega arith) (omega arith) ∙ s .head .total;
       params = c .params ∙ s .head .params;
       keyBytes = c .same 2 (omega arith) (omega arith) (omega arith) ∙ s .head .keyBytes;
@@ -307,7 +324,7 @@ end-closed P M area out s = record {
     };
     phase = c .set;
     count = c .count ∙ rw (s .count) counted;
-    levels = c .levels;
+    levels = c .levels ∙ rw (s .head .params);
   };
   all = rw is (state-all P M (levelsOf area) (settled (order P M)) (s .head .short) (s .state));
   digest = rw (is, s .head .params, ← state-root P M (levelsOf area) (settled (order P M)) (s .head .short) (s .state)) refl;
@@ -321,8 +338,9 @@ end-closed P M area out s = record {
     is : nodes ≡ closing P (P .limit) (length M) (levelsOf area)
     is = rw (s .head .params, s .head .total) refl
 
-    c : Changed area 0 2 (compressionsOf area + length nodes) (replicate areaLevels emptyLevel) (withLevels (set (set area 0 2) 14 (compressionsOf area + length nodes)) (replicate areaLevels emptyLevel))
-    c = changed area 0 2 (compressionsOf area + length nodes) (replicate areaLevels emptyLevel) (s .head .long) (omega arith) (empty-widths areaLevels) refl
+    c : Changed area 0 2 (compressionsOf area + length nodes) (replicate (ownLevels area) emptyLevel) (withLevels (set (set area 0 2) 14 (compressionsOf area + length nodes)) (replicate (ownLevels area) emptyLevel))
+    c = changed area 0 2 (compressionsOf area + length nodes) (replicate (ownLevels area) emptyLevel) (s .head .long) (omega arith) (empty-widths (ownLevels area))
+        (length-replicate (ownLevels area) emptyLevel)
 
     counted : openCount (P .limit) (length M) + length nodes ≡ treeNodes (P .limit) (length M)
     counted = rw is (omega (arith, Counts.closing-count P (P .limit) (length M) (levelsOf area) (state-size P (P .limit) M (levelsOf area) (settled (order P M)) (s .state)) (s .head .short)))

@@ -1,18 +1,18 @@
 -- Examples: the rows of document 01, "Reels by hand", fed to a stream: by computing, the log and the digest are the tree's; log words
--- told, document 02, M-103.
+-- told, document 02, M-103; the words of an area, its tail and the levels that it shows, M-109.
 -- "r = 0 gives C = the last 16 words of B. Message all ones."
 use mathlib.Core.Path.{_≡_, refl, sym, _∙_}
 use mathlib.Core.Bool.{Bool, true}
 use mathlib.Core.List.{List, [], _∷_, _++_, map}
 use Prim.Native.Nat.{ℕ, zero, suc, _+_, _-_, _*_, _/_, _^_}
-use lib.ListN.{take, set, replicate}
+use lib.ListN.{take, drop, set, replicate}
 use Rattle.bits.specs.Bits.{numbers}
 use Rattle.bits.specs.Piece.{Piece, pieceOf}
 use Rattle.compress.specs.Compress.{grown, compressed}
-use Rattle.tree.specs.Tree.{Params, Mark, keyWords, output, noChain, digest, order, digestBytes}
+use Rattle.tree.specs.Tree.{Params, Mark, mostLimit, keyWords, output, noChain, digest, order, digestBytes}
 use Rattle.refusals.specs.Refusals.{Told}
 use Rattle.calls.specs.Area.{areaWords, countFor, paramsOf, levelsOf, withLevels, emptyLevel, emptyLevels, sound}
-use Rattle.calls.specs.Calls.{Fed, Finished, withBit, outWords, receive, feedBit, feedBits, closeAbove, closing, nodeLog, openNumber, openedArea, openOf, fedBits, feedNumber, fedArea, feedOf, closedBy, endNumber, endedArea, digestOut, endOf, logWordsNumber, logWordsOf}
+use Rattle.calls.specs.Calls.{Fed, Finished, withBit, outWords, receive, feedBit, feedBits, closeAbove, closing, nodeLog, openNumber, openedArea, openOf, fedBits, feedNumber, fedArea, feedOf, closedBy, endNumber, endedArea, digestOut, endOf, shown, levelOf, logWordsNumber, logWordsOf, areaWordsOf}
 
 -- a row: the bit counts of the pieces, d and L; U and V of each node, and the digest
 pub record Row : Type 0 where
@@ -70,7 +70,7 @@ abbrev ones : ℕ → Piece
 ones n = pieceOf (replicate (n / 8 + 1) 255) 0 n
 
 abbrev used : List ℕ
-used = replicate (areaWords + 1) 7
+used = replicate (areaWords mostLimit + 1) 7
 
 abbrev calls : List ℕ → ℕ → List ℕ → Left
 calls area bytes [] =
@@ -112,9 +112,13 @@ counts-hold = refl
 
 -- ---- log words told: L, the total, word 14 and a bit count, and the words
 
+-- an open area with no bits, in a slice that is longer than any L asks
+abbrev openIn : ℕ → List ℕ
+openIn limit = openOf used record { key = []; d = 8; limit = limit; rounds = 0 } .area
+
 -- an open area of that total, all zero bits
 abbrev after : ℕ → ℕ → ℕ → List ℕ
-after limit total done = set (set (openOf used record { key = []; d = 8; limit = limit; rounds = 0 } .area) 1 total) 14 done
+after limit total done = set (set (openIn limit) 1 total) 14 done
 
 abbrev told : ℕ × ℕ × ℕ × ℕ → Told
 told q = logWordsOf (after (q .0) (q .1) (q .2)) (q .3)
@@ -134,3 +138,33 @@ pub told-hold : map told
     ≡ accepted 0 ∷ accepted 0 ∷ accepted 0 ∷ accepted 2 ∷ accepted 2 ∷ accepted 4 ∷ accepted 4 ∷ accepted 0 ∷ accepted 4 ∷ accepted 54 ∷ accepted 52 ∷ accepted 0 ∷ []
 unfolding numbers keyWords output compressed grown paramsOf levelsOf withLevels emptyLevel emptyLevels sound withBit outWords receive feedBit feedBits openNumber openedArea openOf fedBits logWordsNumber logWordsOf mathlib.Core.List.flatten
 told-hold = refl
+
+-- ---- M-109: "16 words plus 64 times the smaller of L + 1 and 27"
+
+pub words-hold : map areaWordsOf (0 ∷ 1 ∷ 2 ∷ 25 ∷ 26 ∷ 27 ∷ 64 ∷ 65 ∷ (2 ^ 64 - 1) ∷ [])
+    ≡ accepted 80 ∷ accepted 144 ∷ accepted 208 ∷ accepted 1680 ∷ accepted 1744 ∷ accepted 1744 ∷ accepted 1744
+    ∷ record { number = 3; count = 0 } ∷ record { number = 3; count = 0 } ∷ []
+unfolding areaWordsOf
+words-hold = refl
+
+-- opened with L = 0 in a longer slice: the words from 80 on stay, level 1 shows 64 zeros, and level 2 the empty part; opened with
+-- L = 1 level 2 shows, and level 3 does not
+abbrev shownIn : ℕ → ℕ → List ℕ
+shownIn limit level = levelOf (openIn limit) level
+
+pub tail-holds : (drop 80 (openIn 0) ≡ replicate 1665 7)
+    × (shownIn 0 1 ≡ replicate 64 0) × (shownIn 0 2 ≡ []) × (shownIn 1 2 ≡ replicate 64 0) × (shownIn 1 3 ≡ []) × (shownIn 64 27 ≡ replicate 64 0)
+    × (shownIn 64 0 ≡ []) × (shownIn 64 28 ≡ [])
+unfolding numbers keyWords paramsOf levelsOf emptyLevel emptyLevels sound openNumber openedArea openOf shown levelOf mathlib.Core.List.flatten
+tail-holds = (refl, refl, refl, refl, refl, refl, refl, refl)
+
+-- an area that is short, an unsound one, and one whose word 4 is 65 show nothing
+pub none-shown : (levelOf (take 79 (openIn 0)) 1 ≡ []) × (levelOf used 1 ≡ [])
+    × (levelOf (set (openIn 64) 4 65) 1 ≡ [])
+unfolding numbers keyWords paramsOf levelsOf emptyLevel emptyLevels sound openNumber openedArea openOf shown levelOf mathlib.Core.List.flatten
+none-shown = (refl, refl, refl)
+
+-- a feed and an end in such a slice leave its words from 80 on, too
+pub tail-kept : (drop 80 (feedOf (openIn 0) (ones 9) [] .area) ≡ replicate 1665 7) × (drop 80 (endOf (openIn 0) spare spare .area) ≡ replicate 1665 7)
+unfolding numbers keyWords output compressed grown paramsOf levelsOf withLevels emptyLevel emptyLevels sound withBit outWords receive feedBit feedBits closeAbove closing openNumber openedArea openOf fedBits feedNumber fedArea feedOf closedBy endNumber endedArea digestOut endOf mathlib.Core.List.flatten
+tail-kept = (refl, refl)

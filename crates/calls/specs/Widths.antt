@@ -1,4 +1,4 @@
--- Laws: what bits make of an area's levels are levels again, 27 of 64 words each, whatever the levels held.
+-- Laws: what bits make of an area's levels are as many levels again, of 64 words each, whatever the levels held.
 use mathlib.Core.Path.{_≡_, refl, _∙_}
 use mathlib.Core.Bool.{Bool, true, false}
 use mathlib.Core.List.{List, [], _∷_}
@@ -9,7 +9,7 @@ use lib.ListN.{length, replicate, length-append, length-take, length-drop}
 use Rattle.lists.specs.Part.{put}
 use Rattle.bits.specs.BitsLaws.{length-numbers}
 use Rattle.tree.specs.Tree.{Params, Node, node, output, blockBits, sequentialBits, outputBits}
-use Rattle.calls.specs.Area.{levelsOf, emptyLevel, doneBlocks, heldBits, areaLevels, Long}
+use Rattle.calls.specs.Area.{paramsOf, levelsOf, emptyLevel, doneBlocks, heldBits, areaLevels, Long}
 use Rattle.calls.specs.Calls.{outWords, chained, joinParallel, joinSequential, receive, feedBit, feedBits}
 use Rattle.calls.specs.Rows.{AllLen}
 use Rattle.calls.specs.Receive
@@ -31,11 +31,12 @@ length-outWords P m = length-numbers 64 16 (output (P .rounds) m)
 pub length-joined : (place : ℕ) (ws out : List ℕ) → length ws ≡ 64 → length out ≡ 16 → place + 16 ≤ 64 → length (put place 16 ws out) ≡ 64
 length-joined place ws out h g f = simp (length-append, length-take, length-drop) (omega arith)
 
-pub record Wide (L : List (List ℕ)) : Type 0 where
+-- as many levels as a limit gives, of 64 words each
+pub record Wide (limit : ℕ) (L : List (List ℕ)) : Type 0 where
   pub widths : AllLen 64 L
-  pub size : length L ≡ areaLevels
+  pub size : length L ≡ areaLevels limit
 
-pub wide-levels : (area : List ℕ) → Long area → Wide (levelsOf area)
+pub wide-levels : (area : List ℕ) → Long area → Wide (paramsOf area .limit) (levelsOf area)
 wide-levels area h = record { widths = levelsOf-widths area h; size = length-levelsOf area }
 
 pub length-chained : (P : Params) (m : Node) → length (chained P m) ≡ 64
@@ -80,10 +81,10 @@ module _ (P : Params) where
           (length-withBit 0 b emptyLevel ∙ length-empty, receive-widths n 2 (doneBlocks blockBits T) (outWords P m) up (length-outWords P m) (a .1))
       by false e = rw (Machine.feed-par-no P n T b ws up e) (length-withBit (heldBits blockBits T) b ws ∙ a .0, a .1)
 
-  pub wide-bits : (T : ℕ) (bs : List Bool) (L : List (List ℕ)) → Wide L → Wide (feedBits P T bs L .levels)
-  wide-bits T bs L w = record { widths = go T bs L (w .size) (w .widths); size = Counts.feedBits-size P T bs L (omega (arith, w .size)) ∙ w .size }
+  pub wide-bits : (limit T : ℕ) (bs : List Bool) (L : List (List ℕ)) → Wide limit L → Wide limit (feedBits P T bs L .levels)
+  wide-bits limit T bs L w = record { widths = go T bs L (w .size) (w .widths); size = Counts.feedBits-size P T bs L (omega (arith, w .size)) ∙ w .size }
     where
-      go : (T : ℕ) (bs : List Bool) (L : List (List ℕ)) → length L ≡ areaLevels → AllLen 64 L → AllLen 64 (feedBits P T bs L .levels)
+      go : (T : ℕ) (bs : List Bool) (L : List (List ℕ)) → length L ≡ areaLevels limit → AllLen 64 L → AllLen 64 (feedBits P T bs L .levels)
       go T [] L s a = rw (Machine.feedBits-none P T L) a
       go T (b ∷ bs) [] s a = absurd (omega arith)
       go T (b ∷ bs) (ws ∷ up) s a =

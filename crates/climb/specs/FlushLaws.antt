@@ -10,10 +10,10 @@ use lib.Seq.{length-sets}
 use borrow.Author.Tests.{ltb-true, ltb-false}
 use Rattle.refusals.specs.declared.Params as declared
 use Rattle.tree.specs.Tree.{Params, Node, node, blockBits, sequentialBits}
-use Rattle.calls.specs.Area.{blockWords, outputWords, Long, levelWords, levelsUp, levelsOf, emptyLevel, doneBlocks}
+use Rattle.calls.specs.Area.{blockWords, outputWords, Long, paramsOf, levelWords, levelsUp, levelsOf, emptyLevel, doneBlocks}
 use Rattle.calls.specs.Calls.{Made, outWords, chained, receive, nodeLog}
 use Rattle.calls.specs.Widths.{length-chained}
-use Rattle.climb.specs.Levels.{withLevel, Level, up-step, up-level, other-up, length-with, length-empty, first-level, levels-split}
+use Rattle.climb.specs.Levels.{withLevel, Level, up-step, up-level, other-up, length-with, params-with, length-empty, first-level, levels-split}
 use Rattle.node.specs.Words.{paramsFrom, Ready}
 use Rattle.climb.specs.MakeLaws.{Logged}
 use Rattle.climb.specs.ReceiveLaws.{made, received, Climbed, Coming, length-outWords, log-more}
@@ -33,6 +33,7 @@ flushed P (suc n) T (ws ∷ up) =
 pub record Flushing (key : List ℕ) (params : declared.Params) (constants : List ℕ) (T : ℕ) (area log : List ℕ) (at : ℕ) : Type 0 where
   pub ready : Ready key params constants
   pub long : Long area
+  pub own : paramsOf area .limit ≡ params .limit
   pub room : at + 2 * length (flushed (paramsFrom key params) (params .limit) T (levelsOf area) .nodes) ≤ length log
 
 -- ---- level 1 is flushed
@@ -96,13 +97,17 @@ module _ {key : List ℕ} {params : declared.Params} {constants : List ℕ} {T :
     m : Logged P (firstNode P T area blockBits ∷ []) log at out log₁
     m = rw d at m₁
 
+    same : paramsOf (withLevel area 1 emptyLevel) ≡ paramsOf area
+    same = params-with first emptyLevel length-empty
+
     above-is : received P (limit - 1) 2 done out area₁ ≡ above P T area limit
     above-is = rw (m .words, d, e₁, other-up first emptyLevel length-empty) refl
 
     pub flush-coming : done < 2 ^ 56 → Coming key params constants (limit - 1) 2 done out area₁ log₁ (at + 2)
     flush-coming small = record {
       ready = f .ready;
-      level = record { long = rw (e₁, length-with first emptyLevel length-empty) (f .long); low = omega arith; high = omega arith };
+      level = record { long = rw (e₁, length-with first emptyLevel length-empty, same) (f .long); low = omega arith; high = rw (e₁, same) (omega (arith, f .own, some)) };
+      left = rw (e₁, same) (omega (arith, f .own, some));
       small = small;
       words = rw (m .words) (length-outWords P (firstNode P T area blockBits));
       room = rw (above-is, m .logged, length-sets log at (nodeLog (firstNode P T area blockBits ∷ []))) (omega (arith, ap (λ (x : Made). at + 2 * length (x .nodes)) (flushed-some P T area limit some), f .room));

@@ -4,12 +4,16 @@ use mathlib.Core.List.{List, _∷_, _++_, append-assoc, flatten}
 use Prim.Native.Nat.{ℕ, zero, suc, _+_, _-_, _*_, _≤_, _<_}
 use native.Mathlib.Omega.{arith}
 use lib.ListN.{length, take, drop, replicate, take-append-drop}
-use lib.Seq.{paste, take-at, drop-at, take-all, drop-drop, length-take-le}
+use lib.Seq.{paste, take-at, drop-at, take-all, drop-drop, length-take-le, take-append-le, take-take}
 use Rattle.lists.specs.Part.{put}
 use Rattle.lists.specs.PartLaws.{put-length, put-take, put-drop}
-use Rattle.calls.specs.Area.{areaLevels, areaWords, blockWords, outputWords, Long, levelsUp, levelWords, levelsFrom, levelsOf, withLevels, emptyLevel}
+use Rattle.tree.specs.Tree.{Params}
+use Rattle.calls.specs.Area.{areaWords, headWords, blockWords, outputWords, ownLevels, ownWords, Long, paramsOf, levelsUp, levelWords, levelsFrom, levelsOf, withLevels, emptyLevel}
+use Rattle.calls.specs.AreaLaws.{same-head}
+pub use Rattle.calls.specs.AreaLaws.{levels-split}
 use Rattle.calls.specs.FeedLaws.{flatten-from}
-pub use Rattle.calls.specs.Area.{levelStart}
+pub use Rattle.tree.specs.Tree.{Params}
+use Rattle.calls.specs.Area.{areaWords, levelStart}
 pub use Rattle.calls.specs.Widths.{length-joined, length-empty}
 
 -- an area with other words in a level
@@ -18,7 +22,7 @@ withLevel area k ws = put (levelStart k) blockWords area ws
 
 -- an area with other levels from a level on
 abbrev pub upArea : List ℕ → ℕ → List (List ℕ) → List ℕ
-upArea area k levels = take (levelStart k) area ++ (flatten levels ++ drop areaWords area)
+upArea area k levels = take (levelStart k) area ++ (flatten levels ++ drop (ownWords area) area)
 
 -- ---- a part of a list replaced
 
@@ -59,7 +63,7 @@ paste-put d at n s h =
 pub record Level (area : List ℕ) (k : ℕ) : Type 0 where
   pub long : Long area
   pub low : 1 ≤ k
-  pub high : k ≤ areaLevels
+  pub high : k ≤ ownLevels area
 
 module _ {area : List ℕ} {k : ℕ} (l : Level area k) (ws : List ℕ) (size : length ws ≡ blockWords) where
   fits : levelStart k + blockWords ≤ length area
@@ -67,6 +71,17 @@ module _ {area : List ℕ} {k : ℕ} (l : Level area k) (ws : List ℕ) (size : 
 
   pub length-with : length (withLevel area k ws) ≡ length area
   length-with = put-length (levelStart k) blockWords area ws fits size
+
+  -- the words before the levels stay, and so do the parameters
+  pub params-with : paramsOf (withLevel area k ws) ≡ paramsOf area
+  params-with =
+      same-head (withLevel area k ws) area (rw length-with (omega arith)) (omega arith)
+      (take-append-le headWords (take (levelStart k) area) (ws ++ drop blockWords (drop (levelStart k) area)) (rw (front (levelStart k) area ws fits size) (omega arith))
+      ∙ take-take headWords (levelStart k) area (omega arith))
+
+  -- it is a level of what is left, too
+  pub level-still : {area₁ : List ℕ} → area₁ ≡ withLevel area k ws → Level area₁ k
+  level-still e = record { long = rw (e, length-with, params-with) (l .long); low = l .low; high = rw (e, params-with) (l .high) }
 
   pub level-with : levelWords (withLevel area k ws) k ≡ ws
   level-with = part-put (levelStart k) area ws fits size
@@ -82,7 +97,7 @@ module _ {area : List ℕ} {k : ℕ} (l : Level area k) (ws : List ℕ) (size : 
 
   -- the levels above it stay
   pub other-up : levelsUp (withLevel area k ws) (k + 1) ≡ levelsUp area (k + 1)
-  other-up = other-with (areaLevels + 1 - (k + 1)) (k + 1) (omega arith)
+  other-up = rw params-with (other-with (ownLevels area + 1 - (k + 1)) (k + 1) (omega arith))
 
   pub up-step : (L : List (List ℕ)) → upArea area k (ws ∷ L) ≡ upArea (withLevel area k ws) (k + 1) L
   unfolding flatten
@@ -90,23 +105,24 @@ module _ {area : List ℕ} {k : ℕ} (l : Level area k) (ws : List ℕ) (size : 
       let e : levelStart (k + 1) ≡ levelStart k + blockWords = omega arith in
       let t : take (levelStart (k + 1)) (withLevel area k ws) ≡ take (levelStart k) area ++ ws =
       ap (λ (n : ℕ). take n (withLevel area k ws)) e ∙ put-take (levelStart k) blockWords area ws fits size in
-      let d : drop areaWords (withLevel area k ws) ≡ drop areaWords area = drop-past (levelStart k) area ws fits size areaWords (omega arith) in
+      let d : drop (ownWords area) (withLevel area k ws) ≡ drop (ownWords area) area = drop-past (levelStart k) area ws fits size (ownWords area) (omega arith) in
       sym
-      (ap (λ (x : List ℕ). x ++ (flatten L ++ drop areaWords (withLevel area k ws))) t
+      (ap (λ (P : Params). take (levelStart (k + 1)) (withLevel area k ws) ++ (flatten L ++ drop (areaWords (P .limit)) (withLevel area k ws))) params-with
+      ∙ ap (λ (x : List ℕ). x ++ (flatten L ++ drop (ownWords area) (withLevel area k ws))) t
       ∙ ap (λ (x : List ℕ). (take (levelStart k) area ++ ws) ++ (flatten L ++ x)) d
-      ∙ append-assoc (take (levelStart k) area) ws (flatten L ++ drop areaWords area)
-      ∙ ap (λ (x : List ℕ). take (levelStart k) area ++ x) (sym (append-assoc ws (flatten L) (drop areaWords area))))
+      ∙ append-assoc (take (levelStart k) area) ws (flatten L ++ drop (ownWords area) area)
+      ∙ ap (λ (x : List ℕ). take (levelStart k) area ++ x) (sym (append-assoc ws (flatten L) (drop (ownWords area) area))))
 
 -- ---- the levels of an area
 
 -- an area is made of its own levels
-pub up-same : (area : List ℕ) (k : ℕ) → 1 ≤ k → k ≤ areaLevels + 1 → upArea area k (levelsUp area k) ≡ area
+pub up-same : (area : List ℕ) (k : ℕ) → 1 ≤ k → k ≤ ownLevels area + 1 → upArea area k (levelsUp area k) ≡ area
 up-same area k h g =
     let a : ℕ = levelStart k in
-    let n : ℕ = blockWords * (areaLevels + 1 - k) in
-    let e : a + n ≡ areaWords = omega arith in
-    let d : drop areaWords area ≡ drop n (drop a area) = ap (λ (j : ℕ). drop j area) (sym e) ∙ sym (drop-drop n a area) in
-    rw (flatten-from area (areaLevels + 1 - k) k h, d) (ap (λ (x : List ℕ). take a area ++ x) (take-append-drop n (drop a area)) ∙ take-append-drop a area)
+    let n : ℕ = blockWords * (ownLevels area + 1 - k) in
+    let e : a + n ≡ ownWords area = omega arith in
+    let d : drop (ownWords area) area ≡ drop n (drop a area) = ap (λ (j : ℕ). drop j area) (sym e) ∙ sym (drop-drop n a area) in
+    rw (flatten-from area (ownLevels area + 1 - k) k h, d) (ap (λ (x : List ℕ). take a area ++ x) (take-append-drop n (drop a area)) ∙ take-append-drop a area)
 
 -- a level replaced, those above it as they are
 pub up-level : {area : List ℕ} {k : ℕ} (l : Level area k) (ws : List ℕ) → length ws ≡ blockWords → withLevel area k ws ≡ upArea area k (ws ∷ levelsUp area (k + 1))
@@ -114,7 +130,7 @@ up-level {area} {k} l ws size =
     sym
     (up-step l ws size (levelsUp area (k + 1))
     ∙ ap (upArea (withLevel area k ws) (k + 1)) (sym (other-up l ws size))
-    ∙ up-same (withLevel area k ws) (k + 1) (omega arith) (omega arith))
+    ∙ up-same (withLevel area k ws) (k + 1) (omega arith) (rw (params-with l ws size) (omega (arith, l .high))))
 
 -- all levels
 pub with-up : (area : List ℕ) (L : List (List ℕ)) → withLevels area L ≡ upArea area 1 L
@@ -150,10 +166,6 @@ chain-made {area} {k} l out =
 
 pub first-level : {area : List ℕ} → Long area → Level area 1
 first-level h = record { long = h; low = omega arith; high = omega arith }
-
-pub levels-split : (area : List ℕ) → levelsOf area ≡ levelWords area 1 ∷ levelsUp area 2
-unfolding levelsOf
-levels-split area = refl
 
 -- level 1 replaced, the others as they are
 pub with-first : (area ws : List ℕ) → Long area → length ws ≡ blockWords → withLevels area (ws ∷ levelsUp area 2) ≡ withLevel area 1 ws

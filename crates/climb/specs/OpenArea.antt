@@ -24,10 +24,6 @@ pub params-read : (area : List ℕ) → paramsFrom (kOf area) (numbered area) �
 unfolding paramsFrom paramsOf
 params-read area = refl
 
-pub limit-read : (area : List ℕ) → paramsOf area .limit ≡ getD area 4 0
-unfolding paramsOf
-limit-read area = refl
-
 pub size-read : (area : List ℕ) → paramsOf area .d ≡ getD area 3 0
 unfolding paramsOf
 size-read area = refl

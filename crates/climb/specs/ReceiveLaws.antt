@@ -9,15 +9,15 @@ use borrow.Author.Tests.{eq-eqb, ne-eqb}
 use Rattle.lists.specs.Part.{put}
 use Rattle.lists.specs.PartLaws.{first-stores}
 use Rattle.calls.specs.CallLaws.{length-nodeLog}
-use Rattle.tree.specs.Tree.{Params, Node, node}
-use Rattle.calls.specs.Area.{areaLevels, blockWords, outputWords, Long, levelWords, levelsUp, emptyLevel}
+use Rattle.tree.specs.Tree.{Params, Node, node, mostLevels}
+use Rattle.calls.specs.Area.{blockWords, outputWords, ownLevels, Long, paramsOf, levelWords, levelsUp, emptyLevel}
 use Rattle.calls.specs.AreaLaws.{length-levelWords, levelsUp-cons, levelsUp-none}
 use Rattle.calls.specs.Calls.{Made, outWords, chained, joinParallel, joinSequential, receive, nodeLog, logged}
 use Rattle.calls.specs.Receive
 use Rattle.calls.specs.Widths.{length-chained}
 pub use Rattle.calls.specs.Widths.{length-outWords}
 use Rattle.refusals.specs.declared.Params as declared
-use Rattle.climb.specs.Levels.{length-empty, withLevel, upArea, Level, up-step, up-level, up-same, other-up, level-with, with-with, length-with, length-joined}
+use Rattle.climb.specs.Levels.{length-empty, withLevel, upArea, Level, up-step, up-level, up-same, other-up, level-with, with-with, length-with, params-with, level-still, length-joined}
 use Rattle.node.specs.Words.{paramsFrom, Ready}
 use Rattle.climb.specs.MakeLaws.{Logged}
 
@@ -28,7 +28,7 @@ made levels nodes = record { levels = levels; nodes = nodes }
 abbrev pub received : Params → ℕ → ℕ → ℕ → List ℕ → List ℕ → Made
 received P n k i out area = receive P n k i out (levelsUp area k)
 
-module _ (P : Params) (n k i : ℕ) (out area : List ℕ) (high : k ≤ areaLevels) where
+module _ (P : Params) (n k i : ℕ) (out area : List ℕ) (high : k ≤ ownLevels area) where
   -- the node of a parallel level whose block is full
   abbrev pub fullNode : Node
   fullNode = node P k (i / 4) 0 0 (joinParallel i out (levelWords area k))
@@ -81,10 +81,11 @@ pub record Climbed (k : ℕ) (F : Made) (area log : List ℕ) (at : ℕ) (area�
   pub logged : log′ ≡ sets log at (nodeLog (F .nodes))
   pub next : at′ ≡ at + 2 * length (F .nodes)
 
--- output i comes to a level: what the code needs then
+-- output i comes to a level, and as many levels above it may be parallel as L leaves: what the code needs then
 pub record Coming (key : List ℕ) (params : declared.Params) (constants : List ℕ) (n k i : ℕ) (out area log : List ℕ) (at : ℕ) : Type 0 where
   pub ready : Ready key params constants
   pub level : Level area k
+  pub left : n + k ≡ paramsOf area .limit + 1
   pub small : i < 2 ^ 56
   pub words : length out ≡ outputWords
   pub room : at + 2 * length (received (paramsFrom key params) n k i out area .nodes) ≤ length log
@@ -115,6 +116,9 @@ module _ {key : List ℕ} {params : declared.Params} {constants : List ℕ} {k i
   place = outputWords + outputWords * (i % 3)
 
   module _ {area₁ : List ℕ} (ea : area₁ ≡ withLevel area k (put place outputWords (levelWords area k) out)) where
+    pub last-level : Level area₁ k
+    last-level = level-still (c .level) (put place outputWords (levelWords area k) out) (joined-size (c .level) place out (c .words) (omega arith)) ea
+
     pub last-held : (i % 3 ≡ 2 → ⊥) → Climbed k (received P 0 k i out area) area log at area₁ log at
     last-held e = rw (received-held P 0 k i out area (c .level .high) e) record {
       levels = ea ∙ up-level (c .level) (put place outputWords (levelWords area k) out) (joined-size (c .level) place out (c .words) (omega arith));
@@ -142,7 +146,8 @@ module _ {key : List ℕ} {params : declared.Params} {constants : List ℕ} {k i
 -- what is left to do, from the level that the loop has reached, is what there was to do at level 2
 pub record Climb (P : Params) (all : Made) (area₀ log₀ : List ℕ) (at₀ n k i : ℕ) (out area log : List ℕ) (at : ℕ) : Type 0 where
   pub low : 2 ≤ k
-  pub high : k ≤ areaLevels + 1
+  pub high : k ≤ mostLevels + 1
+  pub left : n + k ≡ paramsOf area .limit + 1
   pub small : i < 2 ^ 56
   pub words : length out ≡ outputWords
   pub long : Long area
@@ -158,6 +163,7 @@ pub climb-start : {key : List ℕ} {params : declared.Params} {constants : List 
 climb-start c = record {
   low = omega arith;
   high = omega arith;
+  left = c .left;
   small = c .small;
   words = c .words;
   long = c .level .long;
@@ -171,19 +177,19 @@ climb-start c = record {
 
 module _ {P : Params} {all : Made} {area₀ log₀ : List ℕ} {at₀ n k i : ℕ} {out area log : List ℕ} {at : ℕ}
     (c : Climb P all area₀ log₀ at₀ n k i out area log at) where
-  climb-level : k ≤ areaLevels → Level area k
-  climb-level h = record { long = c .long; low = omega (arith, c .low); high = h }
+  climb-level : k ≤ mostLevels → Level area k
+  climb-level h = record { long = c .long; low = omega (arith, c .low); high = omega (arith, h, c .left) }
 
   -- what is left of the output where the loop is, is what is left of all
   pub climb-end : {area′ log′ : List ℕ} {at′ : ℕ} → Climbed k (received P n k i out area) area log at area′ log′ at′ → Climbed 2 all area₀ log₀ at₀ area′ log′ at′
   climb-end d = record { levels = d .levels ∙ c .area-same; logged = d .logged ∙ c .log-same; next = d .next ∙ c .count-same }
 
   -- no level is left
-  pub climb-none : areaLevels < k → Climbed 2 all area₀ log₀ at₀ area log at
+  pub climb-none : mostLevels < k → Climbed 2 all area₀ log₀ at₀ area log at
   climb-none h =
-      let nil = levelsUp-none area k h in
+      let nil = levelsUp-none area k (omega arith) in
       climb-end (rw (nil, Receive.receive-none P n k i out) record {
-        levels = sym (up-same area k (omega (arith, c .low)) (c .high)) ∙ ap (upArea area k) nil;
+        levels = sym (up-same area k (omega (arith, c .low)) (omega (arith, c .high, c .left))) ∙ ap (upArea area k) nil;
         logged = refl;
         next = omega arith;
       })
@@ -193,12 +199,17 @@ module _ {P : Params} {all : Made} {area₀ log₀ : List ℕ} {at₀ n k i : �
   climb-zero h = let z : n ≡ 0 = omega arith in rw z at c
 
   -- an output that a parallel level takes
-  module _ (some : 1 ≤ n) (high : k ≤ areaLevels) {area₁ : List ℕ} (ea : area₁ ≡ withLevel area k (joinParallel i out (levelWords area k))) where
+  module _ (some : 1 ≤ n) (high : k ≤ mostLevels) {area₁ : List ℕ} (ea : area₁ ≡ withLevel area k (joinParallel i out (levelWords area k))) where
+    pub climb-joined : Level area₁ k
+    climb-joined =
+        let l = climb-level high in
+        level-still l (joinParallel i out (levelWords area k)) (joined-size l (outputWords * (i % 4)) out (c .words) (omega arith)) ea
+
     -- it is kept if the level's block is not full then
     pub climb-part : (i % 4 ≡ 3 → ⊥) → Climbed 2 all area₀ log₀ at₀ area₁ log at
     climb-part e =
         let l = climb-level high in
-        climb-end (rw (received-part P n k i out area high some e) record {
+        climb-end (rw (received-part P n k i out area (l .high) some e) record {
           levels = ea ∙ up-level l (joinParallel i out (levelWords area k)) (joined-size l (outputWords * (i % 4)) out (c .words) (omega arith));
           logged = refl;
           next = omega arith;
@@ -212,9 +223,9 @@ module _ {P : Params} {all : Made} {area₀ log₀ : List ℕ} {at₀ n k i : �
         let l = climb-level high in
         let m = joined-made l (outputWords * (i % 4)) out (c .words) (omega arith) ea (i / 4) m₁ in
         let a = joined-other l (outputWords * (i % 4)) out (c .words) (omega arith) ea emptyLevel ez in
-        let f : Node = fullNode P n k i out area high in
+        let f : Node = fullNode P n k i out area (l .high) in
         let above : Made = receive P (n - 1) (k + 1) (i / 4) (outWords P f) (levelsUp area (k + 1)) in
-        let full = received-full P n k i out area high some e in
+        let full = received-full P n k i out area (l .high) some e in
         let la = length-with l emptyLevel length-empty in
         let ll = length-sets log at (nodeLog (f ∷ [])) in
         let next : received P (n - 1) (k + 1) (i / 4) out′ area′ ≡ above =
@@ -223,9 +234,10 @@ module _ {P : Params} {all : Made} {area₀ log₀ : List ℕ} {at₀ n k i : �
         record {
           low = omega (arith, c .low);
           high = omega arith;
+          left = rw (a, params-with l emptyLevel length-empty) (omega (arith, c .left, some));
           small = omega (arith, c .small);
           words = rw (m .words) (length-outWords P f);
-          long = rw (a, la) (c .long);
+          long = rw (a, la, params-with l emptyLevel length-empty) (c .long);
           area-length = rw (a, la) (c .area-length);
           log-length = rw (m .logged, ll) (c .log-length);
           area-same = rw (next, a) (sym (up-step l emptyLevel length-empty (above .levels))) ∙ sym (ap (λ (x : Made). upArea area k (x .levels)) full) ∙ c .area-same;
@@ -235,11 +247,11 @@ module _ {P : Params} {all : Made} {area₀ log₀ : List ℕ} {at₀ n k i : �
         }
 
   -- the log has room for the node of a full level
-  pub climb-room : 1 ≤ n → k ≤ areaLevels → i % 4 ≡ 3 → at + 2 ≤ length log
-  climb-room some high e = omega (arith, ap (λ (x : Made). at + 2 * length (x .nodes)) (received-full P n k i out area high some e), c .room)
+  pub climb-room : 1 ≤ n → k ≤ mostLevels → i % 4 ≡ 3 → at + 2 ≤ length log
+  climb-room some high e = omega (arith, ap (λ (x : Made). at + 2 * length (x .nodes)) (received-full P n k i out area (climb-level high .high) some e), c .room)
 
 -- the loop is at the sequential level, where the output can come
 pub climb-coming : {key : List ℕ} {params : declared.Params} {constants : List ℕ} {all : Made} {area₀ log₀ : List ℕ} {at₀ n k i : ℕ} {out area log : List ℕ} {at : ℕ}
-    → Ready key params constants → Climb (paramsFrom key params) all area₀ log₀ at₀ n k i out area log at → n < 1 → k ≤ areaLevels
+    → Ready key params constants → Climb (paramsFrom key params) all area₀ log₀ at₀ n k i out area log at → n < 1 → k ≤ mostLevels
     → Coming key params constants 0 k i out area log at
-climb-coming r c h high = let z = climb-zero c h in record { ready = r; level = climb-level c high; small = c .small; words = c .words; room = z .room }
+climb-coming r c h high = let z = climb-zero c h in record { ready = r; level = climb-level c high; left = z .left; small = c .small; words = c .words; room = z .room }

@@ -11,8 +11,8 @@ use lib.ListN.{length, getD, replicate}
 use lib.Seq.{paste, sets, length-sets}
 use borrow.Author.Tests.{eq-eqb, ne-eqb, lt-ltb, le-ltb, ltb-true, ltb-false}
 use Rattle.lists.specs.Part.{put}
-use Rattle.tree.specs.Tree.{Params, Node, blockBits, sequentialBits, outputBits, node, lastOr, noNode}
-use Rattle.calls.specs.Area.{areaLevels, blockWords, outputWords, Long, totalOf, kOf, paramsOf, levelWords, levelsUp, levelsOf, doneBlocks, heldBits}
+use Rattle.tree.specs.Tree.{mostLevels, Params, Node, blockBits, sequentialBits, outputBits, node, lastOr, noNode}
+use Rattle.calls.specs.Area.{blockWords, outputWords, ownLevels, Long, totalOf, kOf, paramsOf, levelWords, levelsUp, levelsOf, doneBlocks, heldBits}
 use Rattle.calls.specs.AreaLaws.{levelsUp-cons}
 use Rattle.calls.specs.Calls.{outWords, joinParallel, joinSequential, closeAbove, closing, closedBy, nodeLog}
 use Rattle.calls.specs.Machine
@@ -55,7 +55,7 @@ lastNode P k i out area = node P k (i / 3) 1 (outputBits * (2 - i % 3)) (joinSeq
 abbrev parallelNode : Params → ℕ → ℕ → List ℕ → List ℕ → Node
 parallelNode P k i out area = node P k (i / 4) (rootFlag (i / 4)) (outputBits * (3 - i % 4)) (joinParallel i out (levelWords area k))
 
-module _ (P : Params) (n k i : ℕ) (out area : List ℕ) (high : k ≤ areaLevels) where
+module _ (P : Params) (n k i : ℕ) (out area : List ℕ) (high : k ≤ ownLevels area) where
   abbrev ws : List ℕ
   ws = levelWords area k
 
@@ -104,6 +104,7 @@ block-made {area} {k} {part} l place out h =
 pub record Rising (key : List ℕ) (params : declared.Params) (constants : List ℕ) (n i : ℕ) (out area log : List ℕ) (at : ℕ) : Type 0 where
   pub ready : Ready key params constants
   pub long : Long area
+  pub left : n + 2 ≡ paramsOf area .limit + 1
   pub some : 1 ≤ i
   pub small : i < 2 ^ 52
   pub words : length out ≡ outputWords
@@ -114,10 +115,11 @@ pub record Rising (key : List ℕ) (params : declared.Params) (constants : List 
 pub record Closing (P : Params) (all : List Node) (area log₀ : List ℕ) (at₀ n k i : ℕ) (out log : List ℕ) (at : ℕ) : Type 0 where
   pub last : Node
   pub low : 2 ≤ k
-  pub high : k ≤ areaLevels + 1
+  pub high : k ≤ mostLevels + 1
+  pub left : n + k ≡ paramsOf area .limit + 1
   pub long : Long area
   pub some : 1 ≤ i
-  pub small : i < 4 ^ (areaLevels + 1 - k)
+  pub small : i < 4 ^ (mostLevels + 1 - k)
   pub fits : i < 2 ^ 52
   pub words : length out ≡ outputWords
   pub log-length : length log ≡ length log₀
@@ -131,6 +133,7 @@ close-start r = record {
   last = noNode;
   low = omega arith;
   high = omega arith;
+  left = r .left;
   long = r .long;
   some = r .some;
   small = r .small;
@@ -145,10 +148,10 @@ close-start r = record {
 module _ {P : Params} {all : List Node} {area log₀ : List ℕ} {at₀ n k i : ℕ} {out log : List ℕ} {at : ℕ}
     (c : Closing P all area log₀ at₀ n k i out log at) where
   -- the root is made at the last level at the latest
-  pub close-never : areaLevels < k → ⊥
+  pub close-never : mostLevels < k → ⊥
   close-never h =
-      let e : areaLevels + 1 - k ≡ 0 = omega arith in
-      let p : 4 ^ (areaLevels + 1 - k) ≡ 1 = ap (λ (x : ℕ). 4 ^ x) e in
+      let e : mostLevels + 1 - k ≡ 0 = omega arith in
+      let p : 4 ^ (mostLevels + 1 - k) ≡ 1 = ap (λ (x : ℕ). 4 ^ x) e in
       omega (arith, c .small, c .some, p)
 
   -- the root is made
@@ -158,7 +161,10 @@ module _ {P : Params} {all : List Node} {area log₀ : List ℕ} {at₀ n k i : 
     logged = d .logged ∙ sym (ap (λ (x : List Node). sets log at (nodeLog x)) e) ∙ c .log-same;
   }
 
-  module _ (high : k ≤ areaLevels) where
+  module _ (most : k ≤ mostLevels) where
+    high : k ≤ ownLevels area
+    high = omega (arith, most, c .left)
+
     -- the log has room for the node of this level
     pub close-room : at + 2 ≤ length log
     close-room = by (ltb n 1) (ltb i 4) refl refl
@@ -196,13 +202,14 @@ module _ {P : Params} {all : List Node} {area log₀ : List ℕ} {at₀ n k i : 
           let ms : List Node = closedUp P (n - 1) (k + 1) (i / 4) out′ area in
           let rest : closedUp P (n - 1) (k + 1) (i / 4) (outWords P m) area ≡ ms = rw (d .words) refl in
           let all′ = closed-more P n k i out area high some g ∙ ap (λ (x : List Node). m ∷ x) rest in
-          let s : areaLevels + 1 - k ≡ suc (areaLevels + 1 - (k + 1)) = omega arith in
-          let b : 4 ^ (areaLevels + 1 - k) ≡ 4 * 4 ^ (areaLevels + 1 - (k + 1)) = ap (λ (x : ℕ). 4 ^ x) s ∙ pow-succ' 4 (areaLevels + 1 - (k + 1)) in
+          let s : mostLevels + 1 - k ≡ suc (mostLevels + 1 - (k + 1)) = omega arith in
+          let b : 4 ^ (mostLevels + 1 - k) ≡ 4 * 4 ^ (mostLevels + 1 - (k + 1)) = ap (λ (x : ℕ). 4 ^ x) s ∙ pow-succ' 4 (mostLevels + 1 - (k + 1)) in
           let l : length log′ ≡ length log = ap length (d .logged) ∙ length-sets log at (nodeLog (m ∷ [])) in
           record {
             last = m;
             low = omega (arith, c .low);
             high = omega arith;
+            left = omega (arith, c .left, some);
             long = c .long;
             some = omega arith;
             small = omega (arith, c .small, b);
@@ -254,6 +261,7 @@ last-above P (suc n) i out ws up x y = go (eqb (i / 4) 0) refl
 pub record Ending (key : List ℕ) (params : declared.Params) (constants : List ℕ) (T : ℕ) (area log : List ℕ) : Type 0 where
   pub ready : Ready key params constants
   pub long : Long area
+  pub own : paramsOf area .limit ≡ params .limit
   pub room : 2 * length (closing (paramsFrom key params) (params .limit) T (levelsOf area)) ≤ length log
 
 module _ {key : List ℕ} {params : declared.Params} {constants : List ℕ} {T : ℕ} {area log : List ℕ} (c : Ending key params constants T area log) where
@@ -306,6 +314,7 @@ module _ {key : List ℕ} {params : declared.Params} {constants : List ℕ} {T :
       first-rising small = record {
         ready = c .ready;
         long = c .long;
+        left = omega (arith, c .own, some);
         some = h;
         small = small;
         words = rw (d₀ .words) (length-outWords P leaf);
@@ -314,7 +323,7 @@ module _ {key : List ℕ} {params : declared.Params} {constants : List ℕ} {T :
 
       pub first-above : {root log′ : List ℕ} → Logged P rest log₁ 2 root log′ → Logged P all log 0 root log′
       first-above a = rw all-is record {
-        words = a .words ∙ ap (outWords P) (last-above P (limit - 1) done first (levelWords area 2) (levelsUp area 3) noNode leaf);
+        words = a .words ∙ ap (outWords P) (rw (levelsUp-cons area 2 (omega (arith, c .own, some))) (last-above P (limit - 1) done first (levelWords area 2) (levelsUp area 3) noNode leaf));
         logged = a .logged ∙ rw (d₀ .logged) (sym (log-more log 0 leaf rest));
       }
 

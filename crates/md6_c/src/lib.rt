@@ -1,7 +1,7 @@
 // The face for a host program in C (include/md6.h).
 ghost use mathlib.Core.Path.{_≡_};
 ghost use Rattle.hash.specs.Hash.{Hashed, hashOf, defaultRoundsOf};
-ghost use Rattle.calls.specs.Calls.{openOf, feedOf, endOf, logWordsOf};
+ghost use Rattle.calls.specs.Calls.{areaWordsOf, openOf, feedOf, endOf, logWordsOf};
 ghost use Rattle.text.specs.Text.{writeOf, readOf};
 
 // The digest of a whole message, from its start bit on. Answers the number alone.
@@ -28,6 +28,14 @@ pub extern "C" fn md6_default_rounds(d: u64, key_bytes: u64) -> refusals::Answer
     ensures { λ o. ⌜ record { number = o .number; count = o .count } ≡ defaultRoundsOf d «key_bytes» ⌝ }
 {
     hash::default_rounds(d, key_bytes)
+}
+
+// Tells how many words an area has for a height limit.
+#[no_mangle]
+pub extern "C" fn md6_area_words(limit: u64) -> refusals::Answer
+    ensures { λ o. ⌜ record { number = o .number; count = o .count } ≡ areaWordsOf limit ⌝ }
+{
+    stream::area_words(limit)
 }
 
 // Opens a stream in an area.

@@ -16,10 +16,10 @@ use Rattle.bits.specs.Piece.{Piece, pieceBits}
 use Rattle.bits.specs.PieceLaws.{Fits, length-pieceBits}
 use Rattle.tree.specs.Tree.{Params, Node}
 use Rattle.refusals.specs.declared.Params as declared
-use Rattle.calls.specs.Area.{Long, levelWords, levelsUp, levelsOf, withLevels, heldBits}
+use Rattle.calls.specs.Area.{Long, paramsOf, levelWords, levelsUp, levelsOf, withLevels, heldBits}
 use Rattle.calls.specs.Calls.{Made, feedBits, nodeLog}
 use Rattle.calls.specs.Machine
-use Rattle.calls.specs.AreaLaws.{length-levelWords, length-withLevels, levelsOf-withLevels}
+use Rattle.calls.specs.AreaLaws.{length-levelWords, length-withLevels, params-withLevels, levelsOf-withLevels}
 use Rattle.calls.specs.CallLaws.{length-nodeLog, nodeLog-append}
 use Rattle.calls.specs.FeedLaws.{feedBits-append, withLevels-same}
 use Rattle.calls.specs.WriteLaws.{withLevels-again}
@@ -27,7 +27,7 @@ use Rattle.climb.specs.Levels.{withLevel, with-up, levels-split, with-first}
 use Rattle.node.specs.Words.{paramsFrom, Ready}
 use Rattle.climb.specs.MakeLaws.{limit-from}
 use Rattle.climb.specs.ReceiveLaws.{made, Climbed}
-use Rattle.climb.specs.FlushLaws.{flushed, le-at}
+use Rattle.climb.specs.FlushLaws.{flushed}
 use Rattle.piece.specs.FeedSteps.{sizeOf, baseOf, partBits, firstOf, restOf, freeOf, roomOf, free-place, room-full, held-le, chunk, full-chunk}
 use Rattle.piece.specs.Widths.{Wide, wide-levels, wide-bits, wide-flushed}
 
@@ -47,6 +47,7 @@ fedPart key params T bytes byte bit count area = feedBits (paramsFrom key params
 pub record Chunk (key : List ℕ) (params : declared.Params) (constants : List ℕ) (T : ℕ) (area bytes : List ℕ) (byte bit count : ℕ) (log : List ℕ) (at : ℕ) : Type 0 where
   pub ready : Ready key params constants
   pub part : Part area bytes byte bit count
+  pub own : paramsOf area .limit ≡ params .limit
   pub some : 1 ≤ count
   pub most : count ≤ roomOf (params .limit) T
   pub room : at + 2 * length (fedPart key params T bytes byte bit count area .nodes) ≤ length log
@@ -58,6 +59,7 @@ fedWhole key params T piece area = feedBits (paramsFrom key params) T (pieceBits
 pub record Whole (key : List ℕ) (params : declared.Params) (constants : List ℕ) (T : ℕ) (area : List ℕ) (piece : Piece) (log : List ℕ) : Type 0 where
   pub ready : Ready key params constants
   pub long : Long area
+  pub own : paramsOf area .limit ≡ params .limit
   pub bits : Fits piece
   pub total : T + piece .count < 2 ^ 64
   pub room : 2 * length (fedWhole key params T piece area .nodes) ≤ length log
@@ -120,6 +122,16 @@ module _ {key : List ℕ} {params : declared.Params} {constants : List ℕ} {T :
   pub chunk-room : at + 2 * length (flushedNow key params T area .nodes) ≤ length log
   chunk-room = omega (arith, c .room, ap (λ (x : Made). at + 2 * length (x .nodes)) full-is)
 
+  -- the flushed levels are as wide as they were, and the area is as long
+  flushed-wide : Wide (paramsOf area .limit) (flushedNow key params T area .levels)
+  flushed-wide = wide-flushed (paramsFrom key params) (params .limit) T (levelsOf area) (wide-levels area (c .part .long))
+
+  pub flushed-long : {area₁ log′ : List ℕ} {at′ : ℕ} → Climbed 1 (flushedNow key params T area) area log at area₁ log′ at′ → Long area₁
+  flushed-long F =
+      let up : List (List ℕ) = flushedNow key params T area .levels in
+      let s = flushed-wide in
+      rw (F .levels ∙ sym (with-up area up), length-withLevels area up (c .part .long) (s .widths) (s .size), params-withLevels area up (c .part .long) (s .widths) (s .size)) (c .part .long)
+
   pub chunk-full : {area₁ log′ area′ : List ℕ} {at′ place : ℕ} → Climbed 1 (flushedNow key params T area) area log at area₁ log′ at′ → place ≡ baseOf (params .limit)
       → area′ ≡ withLevel area₁ 1 (filled (levelWords area₁ 1) place bytes (8 * byte + bit) count)
       → Leaves (fedPart key params T bytes byte bit count area) area log at area′ log′ at′
@@ -130,12 +142,12 @@ module _ {key : List ℕ} {params : declared.Params} {constants : List ℕ} {T :
       let long : Long area = c .part .long in
       let e₁ : area₁ ≡ withLevels area up = F .levels ∙ sym (with-up area up) in
       let ea = ef ∙ ap (λ (x : ℕ). withLevel area₁ 1 (filled (levelWords area₁ 1) x bytes from count)) ep in
-      let s = wide-flushed (paramsFrom key params) (params .limit) T (levelsOf area) (wide-levels area long) in
+      let s = flushed-wide in
       let back : levelsOf area₁ ≡ up = ap levelsOf e₁ ∙ levelsOf-withLevels area up long (s .widths) (s .size) in
       let both : levelWords area₁ 1 ∷ levelsUp area₁ 2 ≡ up = sym (levels-split area₁) ∙ back in
       let w : levelWords area₁ 1 ≡ firstOf up = ap firstOf both in
       let u : levelsUp area₁ 2 ≡ restOf up = ap restOf both in
-      let long₁ : Long area₁ = rw (e₁, length-withLevels area up long (s .widths) (s .size)) long in
+      let long₁ : Long area₁ = flushed-long F in
       let new : List ℕ = filled (levelWords area₁ 1) base bytes from count in
       let l : length new ≡ 64 = length-filled (levelWords area₁ 1) base bytes from count ∙ length-levelWords area₁ 1 long₁ (omega arith) in
       let L : List (List ℕ) = filled (firstOf up) base bytes from count ∷ restOf up in
@@ -211,11 +223,14 @@ module _ {key : List ℕ} {params : declared.Params} {constants : List ℕ} {T :
   size : length Y ≡ piece .count
   size = length-pieceBits piece (w .bits)
 
-  longer : Long area
-  longer = le-at refl (sym (f .area-length)) (w .long)
+  wide : Wide (paramsOf area₀ .limit) (before .levels)
+  wide = wide-bits P (paramsOf area₀ .limit) T (take done Y) (levelsOf area₀) (wide-levels area₀ (w .long))
 
-  wide : Wide (before .levels)
-  wide = wide-bits P T (take done Y) (levelsOf area₀) (wide-levels area₀ (w .long))
+  kept : paramsOf area ≡ paramsOf area₀
+  kept = ap paramsOf (f .left .levels) ∙ params-withLevels area₀ (before .levels) (w .long) (wide .widths) (wide .size)
+
+  longer : Long area
+  longer = rw (f .area-length, kept) (w .long)
 
   -- the next c bits
   abbrev coming : ℕ → Made
@@ -239,6 +254,7 @@ module _ {key : List ℕ} {params : declared.Params} {constants : List ℕ} {T :
       record {
         ready = w .ready;
         part = record { long = longer; low = omega arith; inside = omega (arith, w .bits .inside, place-after piece done) };
+        own = rw kept (w .own);
         some = some;
         most = most;
         room = omega (arith, w .room, whole, some-nodes, f .left .next, f .log-length);
@@ -249,7 +265,7 @@ module _ {key : List ℕ} {params : declared.Params} {constants : List ℕ} {T :
   feeding-more c h F =
       let C : Made = coming c in
       let n = next-is c h in
-      let s = wide-bits P (T + done) (partBits (piece .bytes) (8 * byteAfter piece done + bitAfter piece done) c) (levelsOf area) (wide-levels area longer) in
+      let s = wide-bits P (paramsOf area .limit) (T + done) (partBits (piece .bytes) (8 * byteAfter piece done + bitAfter piece done) c) (levelsOf area) (wide-levels area longer) in
       let la = ap length (F .levels) ∙ length-withLevels area (C .levels) longer (s .widths) (s .size) in
       let ll = ap length (F .logged) ∙ length-sets log at (nodeLog (C .nodes)) in
       record {

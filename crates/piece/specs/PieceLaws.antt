@@ -9,14 +9,15 @@ use lib.Seq.{paste, length-take-le, take-all}
 use Rattle.bits.specs.Piece.{Piece, pieceBits}
 use Rattle.bits.specs.PieceLaws.{length-pieceBits}
 use Rattle.tree.specs.Tree.{blockBits}
-use Rattle.calls.specs.Area.{Long, totalOf, kOf, compressionsOf, paramsOf, levelsOf, withLevels, doneBlocks, openCount, areaWords}
+use Rattle.calls.specs.Area.{Long, totalOf, kOf, compressionsOf, paramsOf, levelsOf, withLevels, doneBlocks, openCount}
+use Rattle.calls.specs.AreaLaws.{limit-word}
 use Rattle.calls.specs.Calls.{Made, feedBits, fedBits, fedArea, logged}
 use Rattle.calls.specs.CallLaws.{FeedPassed}
 use Rattle.calls.specs.WriteLaws.{set-withLevels}
 use Rattle.area.specs.CountLaws.{openAbove-le}
 use Rattle.node.specs.Words.{paramsFrom}
 use Rattle.climb.specs.ReceiveLaws.{log-written}
-use Rattle.climb.specs.OpenArea.{OpenArea, numbered, open-done, limit-read}
+use Rattle.climb.specs.OpenArea.{OpenArea, numbered, open-done}
 use Rattle.calls.specs.Accepts.{fed-count}
 use Rattle.piece.specs.FeedSteps.{partBits}
 use Rattle.piece.specs.ChunkLaws.{Part, fedPart, fedWhole, Leaves}
@@ -25,13 +26,13 @@ use Rattle.piece.specs.ChunkLaws.{Part, fedPart, fedWhole, Leaves}
 pub made-count : {area : List ℕ} → OpenArea area → (n : ℕ) (Y : List Bool) → length Y ≡ n → totalOf area + n < 2 ^ 64
     → length (fedBits area Y .nodes) + compressionsOf area ≡ openCount (getD area 4 0) (totalOf area + n)
 made-count {area} o n Y l g =
-    let c = rw (l, limit-read area) at (fed-count area Y (rw l g)) in
+    let c = rw (l, limit-word area) at (fed-count area Y (rw l g)) in
     ap (λ (x : ℕ). length (fedBits area Y .nodes) + x) (open-done o) ∙ c
 
 -- ---- what the code reads
 
 -- K is copied out of the area
-pub key-copied : (area : List ℕ) → areaWords ≤ length area → paste (replicate 8 0) 0 (take 8 (drop 6 area)) (length (take 8 (drop 6 area))) ≡ kOf area
+pub key-copied : (area : List ℕ) → Long area → paste (replicate 8 0) 0 (take 8 (drop 6 area)) (length (take 8 (drop 6 area))) ≡ kOf area
 key-copied area long =
     let l : length (take 8 (drop 6 area)) ≡ 8 = length-take-le 8 (drop 6 area) (rw length-drop (omega arith)) in
     rw (l, take-all 8 (take 8 (drop 6 area)) (omega arith)) (append-nil (take 8 (drop 6 area)))
@@ -62,8 +63,8 @@ fed-written : (area : List ℕ) (n count : ℕ) (made : Made) → Long area → 
 unfolding fedArea
 fed-written area n count made long e =
     let T : ℕ = totalOf area + n in
-    ap (λ (x : List ℕ). set x 14 (compressionsOf area + count)) (set-withLevels area 1 T (made .levels) (omega arith) (omega arith))
-    ∙ set-withLevels (set area 1 T) 14 (compressionsOf area + count) (made .levels) (omega arith) (rw length-set (omega arith))
+    ap (λ (x : List ℕ). set x 14 (compressionsOf area + count)) (set-withLevels area 1 T (made .levels) (omega arith) (λ h. omega arith) (omega (arith, long)))
+    ∙ set-withLevels (set area 1 T) 14 (compressionsOf area + count) (made .levels) (omega arith) (λ h. omega arith) (rw length-set (omega (arith, long)))
     ∙ ap (λ (x : ℕ). withLevels (set (set area 1 T) 14 (compressionsOf area + x)) (made .levels)) e
 
 -- two words for each node that was made are at most as many as the bits

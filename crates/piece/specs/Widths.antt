@@ -1,4 +1,4 @@
--- Laws: a level 1 that is full gives its node's output up, and the levels stay 27 of 64 words each.
+-- Laws: a level 1 that is full gives its node's output up, and the levels stay as many, of 64 words each.
 use mathlib.Core.Path.{ap, _∙_}
 use mathlib.Core.List.{List, [], _∷_}
 use Prim.Native.Nat.{ℕ, zero, suc}
@@ -11,8 +11,8 @@ pub use Rattle.calls.specs.Widths.{Wide, wide-levels, length-chained, wide-bits
 use Rattle.climb.specs.FlushLaws.{flushed}
 
 module _ (P : Params) where
-  pub wide-flushed : (limit T : ℕ) (L : List (List ℕ)) → Wide L → Wide (flushed P limit T L .levels)
-  wide-flushed limit T [] w = w
+  pub wide-flushed : {limit : ℕ} (first T : ℕ) (L : List (List ℕ)) → Wide limit L → Wide limit (flushed P first T L .levels)
+  wide-flushed first T [] w = w
   wide-flushed zero T (ws ∷ up) w = record { widths = (length-chained P (node P 1 (doneBlocks sequentialBits T) 0 0 ws), w .widths .1); size = w .size }
   wide-flushed (suc n) T (ws ∷ up) w =
       let m : Node = node P 1 (doneBlocks blockBits T) 0 0 ws in

@@ -13,7 +13,7 @@ use Rattle.lists.specs.Below.{none as no-reads, more}
 use Rattle.bits.specs.Bits.{numbers}
 use Rattle.constants.specs.Constants.{S, nextS}
 use Rattle.compress.specs.Compress.{stepped, word, grown, compressed}
-use Rattle.tree.specs.Tree.{keyWords, output, noChain}
+use Rattle.tree.specs.Tree.{mostLimit, keyWords, output, noChain}
 use Rattle.digits.specs.Digits.{hexDigits}
 use Rattle.calls.specs.Area.{areaWords, paramsOf, levelsOf, withLevels, emptyLevel, emptyLevels, sound}
 use Rattle.calls.specs.Calls.{withBit, outWords, receive, feedBit, feedBits, closeAbove, closing, openNumber, openedArea, openOf, fedBits, feedNumber, fedArea, feedOf, closedBy, endNumber, endedArea, digestOut, endOf}
@@ -111,7 +111,7 @@ line-rounds = refl
 
 -- an area with something in it
 abbrev used : List ℕ
-used = replicate areaWords 7
+used = replicate (areaWords mostLimit) 7
 
 -- inputs cut into reads: byte 10 as the last byte of a read, and as the first; the line and the message cut; an empty read; a refusal
 abbrev cuts : List (List (List ℕ) × List ℕ)
@@ -131,4 +131,4 @@ every-cut = refl
 pub input-met : Input used (ln "8 64 0 -" ∷ bytes "abc" ∷ [])
 unfolding mathlib.Core.List.flatten
 input-met =
-    record { long = rw (length-replicate {A = ℕ} areaWords 7) (omega arith); short = more {w = 9} (omega arith) (more {w = 3} (omega arith) no-reads); few = omega arith }
+    record { long = rw (length-replicate {A = ℕ} (areaWords mostLimit) 7) (omega arith); short = more {w = 9} (omega arith) (more {w = 3} (omega arith) no-reads); few = omega arith }

@@ -99,7 +99,7 @@ module _ {number count : ℕ} {area′ : List ℕ} (line : State) (area : List �
 
   pub open-small : number < 100
   unfolding openNumber
-  open-small = rw open-is (small-refusal (shortTest area ∷ paramTests P) refl)
+  open-small = rw open-is (small-refusal (paramTests P ++ (shortTest area (P .limit) ∷ [])) refl)
 
   open-step-refused : (number ≡ 0 → ⊥) → refuse line area (refusedNumber number) ≡ openedStep line area P rest
   unfolding openedStep

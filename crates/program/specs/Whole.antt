@@ -2,14 +2,14 @@
 use mathlib.Core.Path.{_≡_, refl, ap, _∙_}
 use mathlib.Core.List.{List, [], _∷_, _++_, map, flatten, append-assoc, append-nil}
 use mathlib.Core.Option.{Option, none, some}
-use Prim.Native.Nat.{ℕ, zero, suc, _*_, _^_, _<_, min}
+use Prim.Native.Nat.{ℕ, zero, suc, _*_, _^_, _≤_, _<_, min}
 use native.Mathlib.Omega.{arith}
 use lib.ListN.{length, take}
 use Rattle.lists.specs.Below.{Below, more}
 use Rattle.bits.specs.Bits.{bitsOf}
-use Rattle.tree.specs.Tree.{Params}
+use Rattle.tree.specs.Tree.{Params, mostLimit}
 use Rattle.refusals.specs.Refusals.{firstRefusal, paramTests}
-use Rattle.calls.specs.Area.{Long}
+use Rattle.calls.specs.Area.{areaWords}
 use Rattle.calls.specs.Calls.{openNumber}
 use Rattle.calls.specs.CallLaws.{open-number, open-accepted}
 use Rattle.calls.specs.Stands.{settled-opened, open-stands}
@@ -72,7 +72,7 @@ pub dash-opens : (line : List ℕ) (l : Line) (area rest : List ℕ) → lineOf 
     ≡ openedStep (foldOf start line) area (record { key = take keptBytes (l .key); d = l .d; limit = l .limit; rounds = roundsByDefault (l .d) (length (l .key)) }) rest
 dash-opens line l area rest e r = rw r at (readable-opens line l area rest e)
 
-module _ (area rest : List ℕ) (reads : List (List ℕ)) (long : Long area) (short : Below (suc bufferBytes) (map length (rest ∷ reads)))
+module _ (area rest : List ℕ) (reads : List (List ℕ)) (long : areaWords mostLimit ≤ length area) (short : Below (suc bufferBytes) (map length (rest ∷ reads)))
     (few : 8 * length (flatten (rest ∷ reads)) < 2 ^ 64) where
   -- its parameters are accepted
   from-opened : (line : State) (P : Params) → Below 256 (P .key) → openNumber area P ≡ 0
@@ -112,7 +112,7 @@ module _ (area rest : List ℕ) (reads : List (List ℕ)) (long : Long area) (sh
 -- ---- the input from a place in its first line on
 
 -- q are the bytes of the line that were read before
-lines : (q area : List ℕ) (reads : List (List ℕ)) → firstLine q ≡ none → Long area → Below (suc bufferBytes) (map length reads)
+lines : (q area : List ℕ) (reads : List (List ℕ)) → firstLine q ≡ none → areaWords mostLimit ≤ length area → Below (suc bufferBytes) (map length reads)
     → 8 * length (messageIn (firstLine (q ++ flatten reads))) < 2 ^ 64
     → written (record { phase = InLine; line = foldOf start q }) area reads ≡ printed (q ++ flatten reads)
 unfolding written takeOf lastOf printed flatten

@@ -13,10 +13,10 @@ use lib.Seq.{take-all}
 use Rattle.lists.specs.Below.{Below, none as no-words, more}
 use Rattle.digits.specs.Digits.{spelt, withWord, bytesOf}
 use Rattle.digits.specs.DigitLaws.{spelt-lt}
-use Rattle.tree.specs.Tree.{Params, mostKeyBytes}
+use Rattle.tree.specs.Tree.{Params, mostKeyBytes, mostLimit}
 use Rattle.refusals.specs.Refusals.{firstRefusal, paramTests}
 use Rattle.refusals.specs.RefusalLaws.{in-range}
-use Rattle.calls.specs.Area.{areaWords, Long}
+use Rattle.calls.specs.Area.{areaWords}
 use Rattle.calls.specs.Calls.{openNumber}
 use Rattle.line.specs.Line.{Line, fields, isDash, numberOf, roundsOf, keyOf, together, fourOf, lineOf}
 use Rattle.line.specs.Fold.{keptBytes}
@@ -91,11 +91,11 @@ kept-rounds Default d n = rw (over-kept 0 n (omega arith))
 kept-rounds (Given r) d n = refl
 
 -- an open with them is refused by the same number
-pub kept-number : (area : List ℕ) (P : Params) → Long area → openNumber area (keptParams P) ≡ firstRefusal (paramTests P)
+pub kept-number : (area : List ℕ) (P : Params) → areaWords mostLimit ≤ length area → openNumber area (keptParams P) ≡ firstRefusal (paramTests P)
 unfolding openNumber
 kept-number area P long =
     let n : ℕ = length (P .key) in
-    rw (le-ltb (length area) areaWords long, length-take keptBytes (P .key), min-comm keptBytes n, over-kept mostKeyBytes n (omega arith))
+    rw (le-ltb (length area) (areaWords (P .limit)) (omega arith), length-take keptBytes (P .key), min-comm keptBytes n, over-kept mostKeyBytes n (omega arith))
 
 -- and where none refuses, they are all of the key
 pub kept-whole : (P : Params) → firstRefusal (paramTests P) ≡ 0 → keptParams P ≡ P

@@ -31,9 +31,13 @@ pub record Told : Type 0 where
 abbrev pub sizeTests : ℕ → ℕ → List (Bool × ℕ)
 sizeTests d keyBytes = (ltb d 1, 1) ∷ (ltb mostDigestBits d, 1) ∷ (ltb mostKeyBytes keyBytes, 2) ∷ []
 
--- then "3, 0: L over 64" and, since M-108, "Number 4 is now for r over 4,095", in that order
+-- "3, 0: L over 64"
+abbrev pub limitTest : ℕ → Bool × ℕ
+limitTest limit = (ltb mostLimit limit, 3)
+
+-- the sizes, then L and, since M-108, "Number 4 is now for r over 4,095", in that order
 abbrev pub rangeTests : ℕ → ℕ → ℕ → ℕ → List (Bool × ℕ)
-rangeTests keyBytes d limit rounds = sizeTests d keyBytes ++ ((ltb mostLimit limit, 3) ∷ (ltb mostRounds rounds, 4) ∷ [])
+rangeTests keyBytes d limit rounds = sizeTests d keyBytes ++ (limitTest limit ∷ (ltb mostRounds rounds, 4) ∷ [])
 
 abbrev pub paramTests : Params → List (Bool × ℕ)
 paramTests P = rangeTests (length (P .key)) (P .d) (P .limit) (P .rounds)

@@ -9,9 +9,9 @@ use lib.ListN.{take, set, replicate}
 use Rattle.bits.specs.Bits.{numbers}
 use Rattle.bits.specs.Piece.{pieceOf}
 use Rattle.compress.specs.Compress.{grown, compressed}
-use Rattle.tree.specs.Tree.{Params, keyWords, output, noChain}
+use Rattle.tree.specs.Tree.{Params, mostLimit, keyWords, output, noChain}
 use Rattle.calls.specs.Area.{areaWords, paramsOf, levelsOf, withLevels, emptyLevel, emptyLevels, sound}
-use Rattle.calls.specs.Calls.{withBit, outWords, receive, feedBit, feedBits, closeAbove, closing, openNumber, openedArea, openOf, fedBits, feedNumber, fedArea, feedOf, closedBy, endNumber, endedArea, digestOut, endOf, logWordsNumber, logWordsOf}
+use Rattle.calls.specs.Calls.{withBit, outWords, receive, feedBit, feedBits, closeAbove, closing, openNumber, openedArea, openOf, fedBits, feedNumber, fedArea, feedOf, closedBy, endNumber, endedArea, digestOut, endOf, logWordsNumber, logWordsOf, areaWordsOf}
 use Rattle.digits.specs.Digits.{hexDigits, speltWords}
 use Rattle.text.specs.Text.{textWith, textOf, oldTextOf, speltHead, speltArea, same, writeNumber, writeOf, readableWith, readable, readArea, readNumber, readOf}
 use Rattle.text.specs.ReadForms.{same-eq}
@@ -25,14 +25,18 @@ params d keyBytes limit rounds = record { key = replicate keyBytes 1; d = d; lim
 
 -- an area with something in it, which is not sound
 abbrev used : List ℕ
-used = replicate areaWords 7
+used = replicate (areaWords mostLimit) 7
 
--- one word short
+-- one word short, for L = 26 and above
 abbrev shorter : List ℕ → List ℕ
-shorter area = take (areaWords - 1) area
+shorter area = take (areaWords mostLimit - 1) area
 
 abbrev opened : List ℕ
 opened = openOf used (params 8 0 64 0) .area
+
+-- the same with L = 0, in a slice of 1,744 words, of which all past the first 80 are as they were
+abbrev opened0 : List ℕ
+opened0 = openOf used (params 8 0 0 0) .area
 
 -- after the end of the empty message
 abbrev ended : List ℕ
@@ -59,10 +63,10 @@ byte = 0 ∷ []
 abbrev room : List ℕ
 room = replicate 65 0
 
--- "open 7, 1, 2, 3, 4"
+-- M-109: "Open tests 1, 2, 3, 4 and then 7"
 abbrev openRows : List Row
 openRows =
-    (openOf (shorter used) (params 0 0 64 0) .number, 7)
+    (openOf (shorter used) (params 0 0 64 0) .number, 1)
     ∷ (openOf used (params 0 0 64 0) .number, 1)
     ∷ (openOf used (params 513 65 64 0) .number, 1)
     ∷ (openOf used (params 8 65 64 0) .number, 2)
@@ -70,8 +74,25 @@ openRows =
     ∷ (openOf used (params 8 0 65 0) .number, 3)
     ∷ (openOf used (params 8 0 65 4096) .number, 3)
     ∷ (openOf used (params 8 0 64 4096) .number, 4)
-    -- edges: the length of the area; d 1, 512 and 513; key 64; L 64; r 255, 256 and 4,095
+    ∷ (openOf (shorter used) (params 8 0 64 4096) .number, 4)
     ∷ (openOf (shorter used) (params 8 0 64 0) .number, 7)
+    -- edges: the length of the area for L 0, 1, 2, 25, 26, 27 and 64, and no words; d 1, 512 and 513; key 64; L 64; r 255, 256 and
+    -- 4,095
+    ∷ (openOf [] (params 0 0 0 0) .number, 1)
+    ∷ (openOf [] (params 8 0 0 0) .number, 7)
+    ∷ (openOf (take 79 used) (params 8 0 0 0) .number, 7)
+    ∷ (openOf (take 80 used) (params 8 0 0 0) .number, 0)
+    ∷ (openOf (take 143 used) (params 8 0 1 0) .number, 7)
+    ∷ (openOf (take 144 used) (params 8 0 1 0) .number, 0)
+    ∷ (openOf (take 207 used) (params 8 0 2 0) .number, 7)
+    ∷ (openOf (take 208 used) (params 8 0 2 0) .number, 0)
+    ∷ (openOf (take 1679 used) (params 8 0 25 0) .number, 7)
+    ∷ (openOf (take 1680 used) (params 8 0 25 0) .number, 0)
+    ∷ (openOf (take 1743 used) (params 8 0 26 0) .number, 7)
+    ∷ (openOf (take 1744 used) (params 8 0 26 0) .number, 0)
+    ∷ (openOf (take 1743 used) (params 8 0 27 0) .number, 7)
+    ∷ (openOf (take 1744 used) (params 8 0 27 0) .number, 0)
+    ∷ (openOf (take 1744 used) (params 8 0 64 0) .number, 0)
     ∷ (openOf used (params 1 0 0 0) .number, 0)
     ∷ (openOf used (params 512 64 64 255) .number, 0)
     ∷ (openOf used (params 512 64 64 256) .number, 0)
@@ -103,6 +124,18 @@ feedRows =
     ∷ (feedOf opened (pieceOf byte 7 (2 ^ 64 - 8)) [] .number, 5)
     ∷ (feedOf opened (pieceOf byte 7 (2 ^ 64 - 1)) [] .number, 5)
     ∷ (feedOf opened (pieceOf [] 3 0) [] .number, 5)
+    -- M-109: no word 4; fewer words than word 4 asks; just as many; word 4 over 64, and the highest word 4, for which L + 1 is 2^64; in
+    -- a slice of 1,744 words a word 4 of 1 takes in words that are not zero
+    ∷ (feedOf [] (pieceOf byte 0 8) [] .number, 7)
+    ∷ (feedOf (take 4 opened0) (pieceOf byte 0 8) [] .number, 7)
+    ∷ (feedOf (take 5 opened0) (pieceOf byte 0 8) [] .number, 7)
+    ∷ (feedOf (take 16 opened0) (pieceOf byte 0 8) [] .number, 7)
+    ∷ (feedOf (take 79 opened0) (pieceOf byte 0 8) [] .number, 7)
+    ∷ (feedOf (take 80 opened0) (pieceOf byte 0 8) [] .number, 0)
+    ∷ (feedOf opened0 (pieceOf byte 0 8) [] .number, 0)
+    ∷ (feedOf (set opened 4 65) (pieceOf byte 0 8) [] .number, 7)
+    ∷ (feedOf (set opened 4 (2 ^ 64 - 1)) (pieceOf byte 0 8) [] .number, 7)
+    ∷ (feedOf (set opened0 4 1) (pieceOf byte 0 8) [] .number, 7)
     -- edges: 8 times the bytes; 0 bits; the highest total; no node made; a word short of one node
     ∷ (feedOf opened (pieceOf byte 0 8) [] .number, 0)
     ∷ (feedOf full (pieceOf [] 0 0) [] .number, 0)
@@ -135,6 +168,8 @@ endRows =
 abbrev writeRows : List Row
 writeRows =
     (writeOf (shorter opened) [] .number, 7)
+    ∷ (writeOf (take 79 opened0) (replicate 176 0) .number, 7)
+    ∷ (writeOf (take 80 opened0) (replicate 176 0) .number, 0)
     ∷ (writeOf used [] .number, 7)
     ∷ (writeOf opened [] .number, 9)
     ∷ (writeOf opened (replicate 175 0) .number, 9)
@@ -142,12 +177,17 @@ writeRows =
     ∷ (writeOf ended (replicate 176 0) .number, 0)
     ∷ []
 
--- "Read 7, 11": what the area holds does not matter
+-- M-109: "reading tests 11 and then 7": what the area holds does not matter; how long it has to be goes by the L of the text
 abbrev readRows : List Row
 readRows =
-    (readOf (shorter used) [] .number, 7)
+    (readOf (shorter used) [] .number, 11)
+    ∷ (readOf [] [] .number, 11)
     ∷ (readOf used [] .number, 11)
     ∷ (readOf (shorter used) (textOf ended) .number, 7)
+    ∷ (readOf [] (textOf opened0) .number, 7)
+    ∷ (readOf (take 79 used) (textOf opened0) .number, 7)
+    ∷ (readOf (take 80 used) (textOf opened0) .number, 0)
+    ∷ (readOf (take 80 used) (textOf opened) .number, 7)
     ∷ (readOf used (textOf ended) .number, 0)
     ∷ (readOf used (oldTextOf ended) .number, 0)
     ∷ (readOf used (oldTextOf ended ++ (10 ∷ [])) .number, 11)
@@ -214,8 +254,12 @@ toldRows =
     ∷ (logWordsOf (late (2 ^ 64 - 2)) 2 .number, 6)
     ∷ []
 
+-- M-109: "3, 0: L over 64"
+abbrev wordsRows : List Row
+wordsRows = (areaWordsOf 64 .number, 0) ∷ (areaWordsOf 65 .number, 3) ∷ (areaWordsOf (2 ^ 64 - 1) .number, 3) ∷ []
+
 abbrev pub rows : List Row
-rows = openRows ++ (feedRows ++ (endRows ++ (writeRows ++ (readRows ++ (wholeRows ++ (roundsRows ++ toldRows))))))
+rows = openRows ++ (feedRows ++ (endRows ++ (writeRows ++ (readRows ++ (wholeRows ++ (roundsRows ++ (toldRows ++ wordsRows)))))))
 
 abbrev answered : List ℕ
 answered = map (λ (w : Row). w .0) rows
@@ -224,7 +268,7 @@ abbrev expected : List ℕ
 expected = map (λ (w : Row). w .1) rows
 
 computed : same answered expected ≡ true
-unfolding numbers keyWords output noChain compressed grown paramsOf levelsOf withLevels emptyLevel emptyLevels sound withBit outWords receive feedBit feedBits closeAbove closing openNumber openedArea openOf fedBits feedNumber fedArea feedOf closedBy endNumber endedArea digestOut endOf logWordsNumber logWordsOf hexDigits textWith speltWords speltHead speltArea writeNumber writeOf readableWith readable readArea readNumber readOf hashNumber hashOf defaultRoundsOf mathlib.Core.List.flatten
+unfolding numbers keyWords output noChain compressed grown paramsOf levelsOf withLevels emptyLevel emptyLevels sound withBit outWords receive feedBit feedBits closeAbove closing openNumber openedArea openOf fedBits feedNumber fedArea feedOf closedBy endNumber endedArea digestOut endOf logWordsNumber logWordsOf areaWordsOf hexDigits textWith speltWords speltHead speltArea writeNumber writeOf readableWith readable readArea readNumber readOf hashNumber hashOf defaultRoundsOf mathlib.Core.List.flatten
 computed = refl
 
 pub rows-hold : map (λ (w : Row). w .0) rows ≡ map (λ (w : Row). w .1) rows

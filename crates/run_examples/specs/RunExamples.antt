@@ -1,6 +1,7 @@
 -- Examples: two more runs by computing. One has not ended: two writes, then a read into a short area and a feed with too short a
--- log, both refused, the read of the second text, and a node of level 2 in its log. The other goes on after its end: a suspension
--- of the ended stream into another area, and refused calls there. "r = 0 gives C = the last 16 words of B."
+-- log, both refused, the read of the second text into an area just long enough, 144 words, and a node of level 2 in its log. The
+-- other goes on after its end: a suspension of the ended stream into another area, and refused calls there. "r = 0 gives C = the
+-- last 16 words of B."
 use mathlib.Core.Path.{_≡_, refl}
 use mathlib.Core.Bool.{true}
 use mathlib.Core.Option.{none, some}
@@ -40,8 +41,12 @@ held-bytes : Bytes heldText
 unfolding hexDigits
 held-bytes = lent heldText refl
 
+-- areas for L = 1: one word short, and just long enough
 abbrev short : List ℕ
-short = take (areaWords - 1) other
+short = take (areaWords 1 - 1) other
+
+abbrev exact : List ℕ
+exact = take (areaWords 1) other
 
 -- three nodes of level 1, and the node of level 2 that their outputs fill; the fourth of level 1 and the root reach the last bit.
 -- V: r 000, L 01, z 0, p 0000, key bytes 00, d 008
@@ -73,7 +78,7 @@ openExample = record {
       ∷ (readInto short heldText (lent short refl) held-bytes, 7)
       ∷ (feed (pieceOf (ones 512) 0 4096) (log 3) (lent (ones 512) refl) (omega arith) (omega arith) (lent (log 3) refl), 8)
       ∷ (show 2, 0)
-      ∷ (read heldText held-bytes, 0)
+      ∷ (readInto exact heldText (lent exact refl) held-bytes, 0)
       ∷ (feed (pieceOf (ones 512) 0 4096) (log 5) (lent (ones 512) refl) (omega arith) (omega arith) (lent (log 5) refl), 0)
       ∷ [];
   counts = openCounts;

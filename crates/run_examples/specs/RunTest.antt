@@ -13,7 +13,7 @@ use Rattle.lists.specs.Append.{cons-eq}
 use Rattle.lists.specs.Below.{Below, more, none as nil}
 use Rattle.lists.specs.And.{and-parts}
 use Rattle.bits.specs.Piece.{Piece}
-use Rattle.tree.specs.Tree.{Params, order, digest}
+use Rattle.tree.specs.Tree.{Params, mostLimit, order, digest}
 use Rattle.calls.specs.Area.{areaWords}
 use Rattle.calls.specs.Calls.{nodeLog, openOf}
 use Rattle.text.specs.Text.{same}
@@ -82,10 +82,10 @@ goes-is area text (x ∷ list) e =
 
 -- areas with something in them
 abbrev pub used : List ℕ
-used = replicate (areaWords + 1) 7
+used = replicate (areaWords mostLimit + 1) 7
 
 abbrev pub other : List ℕ
-other = replicate (areaWords + 6) 5
+other = replicate (areaWords mostLimit + 6) 5
 
 -- digits 0
 abbrev pub zeros : ℕ → List ℕ

@@ -23,7 +23,7 @@ demand3 r = by (run-fits r .1)
           log = rw (g .output) (g .log);
           count = rw (g .output) (g .count);
           digest = λ out q. let z : _≡_ {A = ℕ} 0 1 = cc (g .output, q) in absurd (omega arith);
-          long = h .long;
+          long = rw (h .params) at (h .long);
           sound = at-sound (fits-at (going g));
           phase = rw (g .output) (g .stands .phase);
           total = h .total;
@@ -37,7 +37,7 @@ demand3 r = by (run-fits r .1)
           log = rw (g .output) (g .log);
           count = rw (g .output) (g .count ∙ sym (length-map (order P (messageOf r)) (λ (m : Mark). m .node)));
           digest = λ out q. let s : out ≡ g .out = cc (g .output, q) in rw s (g .digest);
-          long = h .long;
+          long = rw (h .params) at (h .long);
           sound = at-sound (fits-at (over g));
           phase = rw (g .output) (g .closed .phase);
           total = h .total;

@@ -8,12 +8,12 @@ use mathlib.Core.List.{List, [], _∷_, _++_}
 use Prim.Native.Nat.{ℕ, _-_, _*_, _^_, _≤_, _<_}
 use lib.ListN.{length}
 use Rattle.bits.specs.Piece.{Piece, pieceBits, firstPart, secondPart}
-use Rattle.tree.specs.Tree.{Params, Valid, Node, Mark, mostLevels, order, digest}
+use Rattle.tree.specs.Tree.{Params, Valid, Node, Mark, order, digest}
 use Rattle.refusals.specs.Refusals.{firstRefusal, paramTests, outputTest}
-use Rattle.calls.specs.Area.{areaWords, phaseOf, totalOf, paramsOf, levelWords, sound}
+use Rattle.calls.specs.Area.{areaLevels, areaWords, phaseOf, totalOf, paramsOf, levelWords, sound}
 use Rattle.calls.specs.Calls.{nodeLog, shortTest, totalTest, openOf, feedTests, feedOf, endTests, endOf, levelOf, logWordsOf}
 use Rattle.calls.specs.Marks.{allNodes, settled}
-use Rattle.text.specs.Text.{textOf, writeOf, readable, readOf}
+use Rattle.text.specs.Text.{textOf, writeOf, readable, areaIn, readOf}
 use Rattle.runs.specs.Runs.{Call, feed, end, show, logWords, write, read, readInto, reopen, unless, Run, Answered, answersOf, areaOf, messageOf, logOf, countOf, outputOf, digestIn}
 
 -- ---- demand 3
@@ -41,7 +41,7 @@ pub record Demand3 (r : Run) : Type 0 where
   pub digest : (out : List ℕ) → outputOf r ≡ some out → digestIn (r .params) out ≡ digest (r .params) (messageOf r)
   -- "Which calls are accepted follows from the table: after the open the area is sound, it has ended once an end was accepted, the
   -- total is the message's length": the area as the last call left it
-  pub long : areaWords ≤ length (areaOf r)
+  pub long : areaWords (r .params .limit) ≤ length (areaOf r)
   pub sound : sound (areaOf r) ≡ true
   pub phase : phaseOf (areaOf r) ≡ phaseFor (outputOf r)
   pub total : totalOf (areaOf r) ≡ length (messageOf r)
@@ -66,7 +66,7 @@ endMakes P M = length (order P M) - length (settled (order P M))
 
 -- "Which calls are accepted follows from the table": the number of each call after a run, by its parameters, its message and
 -- whether an end was accepted. Of the tests of the table those stand here that the call can still fail, in their order: the
--- stream's own area is neither short nor unsound.
+-- stream's own area is sound, and not short by its own L; it may be short by the L of another open, or of another text.
 pub record Table (r : Run) : Type 0 where
   -- "Feed 7, 10, 5, 6, 8"
   pub feed : (piece : Piece) (log : List ℕ) → feedOf (areaOf r) piece log .number
@@ -81,14 +81,17 @@ pub record Table (r : Run) : Type 0 where
       → logWordsOf (areaOf r) (length Y) .count ≡ 2 * feedMakes (r .params) (messageOf r) Y
   -- "Write 7, 9"
   pub write : (out : List ℕ) → writeOf (areaOf r) out .number ≡ firstRefusal (outputTest (length (textOf (areaOf r))) out ∷ [])
-  -- "Read 7, 11": 11 exactly if the text is not what writing some sound area gives; another area may be short
-  pub read : (text : List ℕ) → readOf (areaOf r) text .number ≡ firstRefusal ((not (readable text), 11) ∷ [])
-  pub readInto : (other text : List ℕ) → readOf other text .number ≡ firstRefusal (shortTest other ∷ (not (readable text), 11) ∷ [])
-  -- "open 7, 1, 2, 3, 4"
-  pub reopen : (Q : Params) → openOf (areaOf r) Q .number ≡ firstRefusal (paramTests Q)
-  -- "Showing a level gives back that level's part of the caller's area, or an empty part if .. the level outside 1 to 27"
-  pub show : (level : ℕ) → 1 ≤ level → level ≤ mostLevels → levelOf (areaOf r) level ≡ levelWords (areaOf r) level
-  pub showNone : (level : ℕ) → level < 1 ⊎ mostLevels < level → levelOf (areaOf r) level ≡ []
+  -- document 02, M-109: "reading tests 11 and then 7": 11 exactly if the text is not what writing some sound area gives or gave; the
+  -- stream's own area or another gets it
+  pub read : (into text : List ℕ) → readOf into text .number ≡ firstRefusal ((not (readable text), 11) ∷ shortTest into (paramsOf (areaIn text) .limit) ∷ [])
+  -- so the stream's own text goes into every area, its own too, that is not short by its own L
+  pub readBack : (into : List ℕ) → readOf into (textOf (areaOf r)) .number ≡ firstRefusal (shortTest into (r .params .limit) ∷ [])
+  -- "Open tests 1, 2, 3, 4 and then 7"
+  pub reopen : (Q : Params) → openOf (areaOf r) Q .number ≡ firstRefusal (paramTests Q ++ (shortTest (areaOf r) (Q .limit) ∷ []))
+  -- "Showing a level gives back that level's part of the caller's area", and M-109: "Showing a level that the area lacks gives the
+  -- empty part."
+  pub show : (level : ℕ) → 1 ≤ level → level ≤ areaLevels (r .params .limit) → levelOf (areaOf r) level ≡ levelWords (areaOf r) level
+  pub showNone : (level : ℕ) → level < 1 ⊎ areaLevels (r .params .limit) < level → levelOf (areaOf r) level ≡ []
 
 -- ---- two runs that both ended
 

@@ -10,21 +10,22 @@ use lib.Dec.{leb, ltb}
 use lib.ListN.{length, length-append, length-map}
 use Rattle.bits.specs.Piece.{Piece, pieceBits, bitsTest}
 use Rattle.bits.specs.PieceLaws.{length-pieceBits, bits-there}
-use Rattle.tree.specs.Tree.{Params, Mark, mostLevels, order}
+use Rattle.tree.specs.Tree.{Params, Mark, order}
 use Rattle.refusals.specs.Refusals.{Told, firstRefusal}
-use Rattle.calls.specs.Area.{areaWords, sound}
+use Rattle.calls.specs.Area.{ownLevels, ownWords, Long, sound}
 use Rattle.calls.specs.Calls.{totalTest, logTest, openNumber, fedBits, feedTests, feedOf, closedBy, endTests, endOf, shown, levelOf, logWordsOf}
 use Rattle.calls.specs.Marks.{settled}
 use Rattle.calls.specs.CallLaws.{open-number, feed-number, end-number, logWords-number, logWords-accepted, logWords-passed}
 use Rattle.calls.specs.Stands.{Stands}
-use Rattle.calls.specs.Accepts.{feed-tests, end-tests, logWords-tests, feed-nodes, end-nodes, feed-ended, end-ended, logWords-ended, level-shown}
+use Rattle.calls.specs.Accepts.{feed-tests, end-tests, logWords-tests, feed-nodes, end-nodes, feed-ended, end-ended, logWords-ended, level-shown, level-none}
 use Rattle.calls.specs.LogWords.{any-bits}
 use Rattle.text.specs.Text.{writeNumber, readNumber}
 use Rattle.text.specs.ReadLaws.{write-number, read-number}
 use Rattle.runs.specs.Runs.{Run, shares, answersOf, areaOf, messageOf, outputOf}
 use Rattle.runs.specs.Statements.{endedTest, feedMakes, endMakes, Demand3, Table}
+use Rattle.runs.specs.Suspend.{at-read-back}
 use Rattle.runs.specs.Demand3.{demand3}
-use Rattle.runs.specs.Induction.{Fits, going, over, run-fits}
+use Rattle.runs.specs.Induction.{Fits, going, over, fits-at, run-fits}
 
 -- a later test counts only if the first does not hold
 later-eq : (t : Bool × ℕ) (xs ys : List (Bool × ℕ)) → (t .0 ≡ false → firstRefusal xs ≡ firstRefusal ys) → firstRefusal (t ∷ xs) ≡ firstRefusal (t ∷ ys)
@@ -67,20 +68,6 @@ module _ {P : Params} {M : List Bool} {area : List ℕ} (s : Stands P M area) wh
   end-number-is : (out log : List ℕ) → endOf area out log .number ≡ firstRefusal (endTests (P .d) (endMakes P M) out log)
   end-number-is out log = end-number area out log ∙ end-tests s out log ∙ rw end-made refl
 
--- a level outside 1 to 27 is an empty part, whatever the area
-last-fails : (a b c d : Bool) → (c ≡ false) ⊎ (d ≡ false) → (a && (b && (c && d))) ≡ false
-last-fails a b c d (inl e) = rw (e, and-false b, and-false a) refl
-last-fails a b c d (inr e) = rw (e, and-false c, and-false b, and-false a) refl
-
-not-shown : (area : List ℕ) (level : ℕ) → (leb 1 level ≡ false) ⊎ (leb level mostLevels ≡ false) → shown area level ≡ false
-unfolding shown
-not-shown area level = last-fails (leb areaWords (length area)) (sound area) (leb 1 level) (leb level mostLevels)
-
-level-none : (area : List ℕ) (level : ℕ) → level < 1 ⊎ mostLevels < level → levelOf area level ≡ []
-unfolding levelOf
-level-none area level (inl low) = rw (not-shown area level (inl (lt-leb 1 level low)), levelOf) refl
-level-none area level (inr high) = rw (not-shown area level (inr (lt-leb level mostLevels high)), levelOf) refl
-
 pub table : (r : Run) → Table r
 unfolding writeNumber readNumber openNumber
 table r = record {
@@ -88,12 +75,12 @@ table r = record {
   end = λ out log. ends out log (run-fits r .1);
   logWords = λ n. tells n (run-fits r .1);
   logWordsCount = λ Y z. tellsCount Y (run-fits r .1) z;
-  write = λ out. write-number area out ∙ rw (long, d .sound) refl;
-  read = λ text. read-number area text ∙ rw long refl;
-  readInto = read-number;
-  reopen = λ Q. open-number area Q ∙ rw long refl;
-  show = λ level l h. level-shown area level (d .long) (d .sound) l h;
-  showNone = level-none area;
+  write = λ out. write-number area out ∙ rw (le-ltb (length area) (ownWords area) own, d .sound) refl;
+  read = read-number;
+  readBack = λ into. at-read-back area into (fits-at (run-fits r .1));
+  reopen = open-number area;
+  show = λ level l h. level-shown area level own (d .sound) l (rw (d .params) h);
+  showNone = λ level h. level-none area level (rw (d .params) h);
 }
   where
     P : Params
@@ -108,8 +95,8 @@ table r = record {
     d : Demand3 r
     d = demand3 r
 
-    long : ltb (length area) areaWords ≡ false
-    long = le-ltb (length area) areaWords (d .long)
+    own : Long area
+    own = rw (d .params) (d .long)
 
     feeds : {e : Bool} (piece : Piece) (log : List ℕ) → Fits P (shares (answersOf r)) area e → feedOf area piece log .number
         ≡ firstRefusal (endedTest (outputOf r) ∷ feedTests (length M) (feedMakes P M (pieceBits piece)) piece log)

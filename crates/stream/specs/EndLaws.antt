@@ -13,12 +13,12 @@ use Rattle.bits.specs.BitsLaws.{bitsOf-numbers}
 use Rattle.tree.specs.Tree.{Params, Node, node, output, lastOr, noNode, digestBytes, blockBits, sequentialBits, outputBits}
 use Rattle.tree.specs.TreeLaws.{length-output-node}
 use Rattle.tree.specs.Count.{treeNodes-bound}
-use Rattle.calls.specs.Area.{areaWords, totalOf, compressionsOf, paramsOf, levelWords, levelsFrom, levelsOf, withLevels, emptyLevel, emptyLevels, doneBlocks, heldBits, areaLevels, headWords, levelsUp, Long}
+use Rattle.calls.specs.Area.{totalOf, compressionsOf, paramsOf, ownLevels, ownWords, levelWords, levelsFrom, levelsOf, withLevels, emptyLevels, doneBlocks, heldBits, headWords, blockWords, levelsUp, Long}
 use Rattle.calls.specs.Calls.{outWords, joinParallel, joinSequential, closeAbove, closing, closedBy, endedArea, digestOut, logged}
 use Rattle.calls.specs.CallLaws.{EndPassed}
 use Rattle.calls.specs.Machine
 use Rattle.calls.specs.Close
-use Rattle.calls.specs.AreaLaws.{length-levelWords}
+use Rattle.calls.specs.AreaLaws.{length-levelWords, levels-split, flatten-empty}
 use Rattle.calls.specs.Widths.{length-joined}
 use Rattle.climb.specs.ReceiveLaws.{length-outWords}
 use Rattle.climb.specs.OpenArea.{OpenArea, size-read}
@@ -33,7 +33,7 @@ pub record EndedStream (area out log area′ out′ log′ : List ℕ) (count : 
 
 -- ---- the root's output has 1,024 bits, so that its words are these bits
 
-sized-above : (P : Params) (area : List ℕ) → Long area → (m n level k i : ℕ) (out : List ℕ) (x : Node) → k + m ≤ areaLevels + 1
+sized-above : (P : Params) (area : List ℕ) → Long area → (m n level k i : ℕ) (out : List ℕ) (x : Node) → k + m ≤ ownLevels area + 1
     → length out ≡ 16 → length (output (P .rounds) x) ≡ outputBits
     → length (output (P .rounds) (lastOr x (closeAbove P n level i out (levelsFrom area m k)))) ≡ outputBits
 sized-above P area long zero n level k i out x high w h = rw (Close.close-none P n level i out) h
@@ -61,11 +61,10 @@ sized-above P area long (suc m) (suc n) level k i out x high w h =
 
 sized-root : (P : Params) (limit T : ℕ) (area : List ℕ) → Long area
     → length (output (P .rounds) (lastOr noNode (closing P limit T (levelsOf area)))) ≡ outputBits
-unfolding levelsOf
 sized-root P zero T area long =
-    rw (Machine.closing-seq P T (levelWords area 1) (levelsUp area 2))
+    rw (levels-split area, Machine.closing-seq P T (levelWords area 1) (levelsUp area 2))
     (length-output-node P (P .rounds) 1 (doneBlocks sequentialBits T) 1 (sequentialBits - heldBits sequentialBits T) (levelWords area 1) (length-levelWords area 1 long (omega arith)))
-sized-root P (suc n) T area long = go (eqb (doneBlocks blockBits T) 0) refl
+sized-root P (suc n) T area long = rw (levels-split area) (go (eqb (doneBlocks blockBits T) 0) refl)
   where
     ws : List ℕ
     ws = levelWords area 1
@@ -78,7 +77,7 @@ sized-root P (suc n) T area long = go (eqb (doneBlocks blockBits T) 0) refl
     go false e =
         let y : Node = node P 1 (doneBlocks blockBits T) 0 (blockBits - heldBits blockBits T) ws in
         rw (Machine.closing-many P n T ws (levelsUp area 2) e)
-        (sized-above P area long (areaLevels - 1) n 2 2 (doneBlocks blockBits T) (outWords P y) y (omega arith) (length-outWords P y)
+        (sized-above P area long (ownLevels area + 1 - 2) n 2 2 (doneBlocks blockBits T) (outWords P y) y (omega arith) (length-outWords P y)
         (length-output-node P (P .rounds) 1 (doneBlocks blockBits T) 0 (blockBits - heldBits blockBits T) ws size))
 
 words-bits : (P : Params) (m : Node) → length (output (P .rounds) m) ≡ outputBits → bitsOf 64 (outWords P m) ≡ output (P .rounds) m
@@ -101,11 +100,12 @@ digest-written area out root d long ed e =
 
 -- ---- the wipe
 
-pub wiped : (area : List ℕ) → (let n : ℕ = areaWords - headWords in put headWords n area (replicate n 0) ≡ withLevels area (emptyLevels areaLevels))
-unfolding withLevels emptyLevel emptyLevels mathlib.Core.List.flatten
-wiped area =
-    let n : ℕ = areaWords - headWords in
-    ap (λ (x : List ℕ). take headWords area ++ (replicate n 0 ++ x)) (drop-drop n headWords area)
+pub wiped : (area : List ℕ) (e : ℕ) → e ≡ ownWords area
+    → put headWords (e - headWords) area (replicate (e - headWords) 0) ≡ withLevels area (emptyLevels (ownLevels area))
+unfolding withLevels
+wiped area e h =
+    let n : e - headWords ≡ blockWords * ownLevels area = omega arith in
+    rw (n, drop-drop (blockWords * ownLevels area) headWords area, flatten-empty (ownLevels area)) refl
 
 -- what an accepted end shows
 pub digest-room : {area out log : List ℕ} → EndPassed area out log → digestBytes (getD area 3 0) ≤ length out
@@ -117,6 +117,6 @@ count-fits {area} o h = omega (arith, count-left o h, treeNodes-bound (getD area
 
 -- what the wipe leaves
 pub wiped-area : (area : List ℕ) (nodes : ℕ) → nodes ≡ length (closedBy area)
-    → withLevels (set (set area 0 2) 14 (compressionsOf area + nodes)) (emptyLevels areaLevels) ≡ endedArea area (closedBy area)
+    → withLevels (set (set area 0 2) 14 (compressionsOf area + nodes)) (emptyLevels (ownLevels area)) ≡ endedArea area (closedBy area)
 unfolding endedArea
-wiped-area area nodes e = ap (λ (x : ℕ). withLevels (set (set area 0 2) 14 (compressionsOf area + x)) (emptyLevels areaLevels)) e
+wiped-area area nodes e = ap (λ (x : ℕ). withLevels (set (set area 0 2) 14 (compressionsOf area + x)) (emptyLevels (ownLevels area))) e

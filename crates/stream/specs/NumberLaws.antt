@@ -17,7 +17,8 @@ use Rattle.calls.specs.Calls.{fedBits, closedBy, feedNumber, endNumber, logWord
 use Rattle.calls.specs.CallLaws.{OpenArea, LogWordsPassed, open-area, open-tests, total-passed}
 use Rattle.calls.specs.Accepts.{closed-count}
 use Rattle.calls.specs.LogWords.{piece-nodes}
-use Rattle.climb.specs.OpenArea.{open-done, limit-read, size-read}
+use Rattle.calls.specs.AreaLaws.{limit-word}
+use Rattle.climb.specs.OpenArea.{open-done, size-read}
 use Rattle.piece.specs.PieceLaws.{made-count, openCount-le}
 
 -- ---- the area's number, or that of the later tests for an open area
@@ -111,4 +112,4 @@ end-log area out log h e = rw (e, le-ltb (length out) (digestBytes (getD area 3 
 
 -- the nodes that an end would make: those of the whole tree, without those that were made
 pub count-left : {area : List ℕ} → OpenArea area → totalOf area < 2 ^ 64 → length (closedBy area) + compressionsOf area ≡ treeNodes (getD area 4 0) (totalOf area)
-count-left {area} o h = ap (λ (x : ℕ). length (closedBy area) + x) (open-done o) ∙ rw (limit-read area) at (closed-count area h)
+count-left {area} o h = ap (λ (x : ℕ). length (closedBy area) + x) (open-done o) ∙ rw (limit-word area) at (closed-count area h)

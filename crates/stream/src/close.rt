@@ -1,7 +1,7 @@
 // The end of a stream: a closing, which makes the last nodes and only reads the area, and then a wipe.
 ghost use mathlib.Core.Path.{_≡_};
 ghost use lib.ListN.{set};
-ghost use Rattle.calls.specs.Area.{areaLevels, Long, withLevels, emptyLevels};
+ghost use Rattle.calls.specs.Area.{ownLevels, Long, withLevels, emptyLevels};
 ghost use Rattle.calls.specs.Calls.{endOf};
 ghost use Rattle.calls.specs.CallLaws.{EndPassed};
 ghost use Rattle.stream.specs.EndLaws.{EndedStream};
@@ -12,11 +12,12 @@ use refusals::Answer;
 // The second half: word 0 says that the stream has ended, word 14 counts all nodes of its tree, and the levels hold nothing.
 fn wipe(area: &mut [u64], nodes: u64)
     requires { ⌜ Long (now area) ⌝ }
-    ensures { λ _. ⌜ now (area .exit) ≡ withLevels (set (set (now (area .entry)) 0 2) 14 nodes) (emptyLevels areaLevels) ⌝ }
+    ensures { λ _. ⌜ now (area .exit) ≡ withLevels (set (set (now (area .entry)) 0 2) 14 nodes) (emptyLevels (ownLevels (now (area .entry)))) ⌝ }
 {
+    let e = Area::words(area[Area::LIMIT]);
     area[Area::PHASE] = 2;
     area[Area::DONE] = nodes;
-    words::clear(&mut area[Area::HEAD..Area::WORDS]);
+    words::clear(&mut area[Area::HEAD..e]);
 }
 
 // Makes the nodes that are left, writes the digest, and wipes the area; answers how many nodes were made.

@@ -4,8 +4,8 @@ ghost use mathlib.Core.Path.{_≡_};
 ghost use mathlib.Core.Bool.{true};
 ghost use Prim.Native.Nat.{_≤_, _+_, _*_};
 ghost use lib.ListN.{length};
-ghost use Rattle.calls.specs.Area.{Long, levelStart};
-ghost use Rattle.calls.specs.Calls.{openedArea, openOf, feedOf, shown, levelOf, logWordsOf};
+ghost use Rattle.calls.specs.Area.{areaWords, levelStart};
+ghost use Rattle.calls.specs.Calls.{openedArea, openOf, feedOf, shown, levelOf, areaWordsOf, logWordsOf};
 use area::Area;
 use bits::Span;
 use refusals::Answer;
@@ -18,16 +18,17 @@ pub use close::end;
 
 // Writes the words of an open area with no bits.
 fn write_open(area: &mut [u64], key: &[u8], d: u64, limit: u64, rounds: u64)
-    requires { ⌜ Long (now area) × (length (now key) ≤ 64) ⌝ }
+    requires { ⌜ (areaWords limit ≤ length (now area)) × (length (now key) ≤ 64) ⌝ }
     ensures { λ _. ⌜ now (area .exit) ≡ openedArea (now (area .entry)) (record { key = now (key .entry); d = d; limit = limit; rounds = rounds }) ⌝ }
 {
+    let e = Area::words(limit);
     area[Area::PHASE] = 1;
     area[Area::TOTAL] = 0;
     area[Area::KEY_BYTES] = key.len() as u64;
     area[Area::D] = d;
     area[Area::LIMIT] = limit;
     area[Area::ROUNDS] = rounds;
-    words::clear(&mut area[Area::KEY..Area::WORDS]);
+    words::clear(&mut area[Area::KEY..e]);
     bits::fill(
         &mut area[Area::KEY..Area::KEY_END],
         0,
@@ -42,23 +43,25 @@ fn write_open(area: &mut [u64], key: &[u8], d: u64, limit: u64, rounds: u64)
 pub fn open(area: &mut [u64], key: &[u8], d: u64, limit: u64, rounds: u64) -> Answer
     ensures { λ o. ⌜ record { number = o .number; count = o .count; area = now (area .exit) } ≡ openOf (now (area .entry)) (record { key = now (key .entry); d = d; limit = limit; rounds = rounds }) ⌝ }
 {
-    if area.len() < Area::WORDS {
-        return Answer::refused(7);
-    }
     let params = Params::new(key.len() as u64, d, limit, rounds);
-    let number = refusals::params_number(params);
-    if number != 0 {
-        return Answer::refused(number);
+    // what the two tests look at, in the order of document 02
+    let range = refusals::params_number(params);
+    let words = Area::words(limit);
+    if range != 0 {
+        return Answer::refused(range); // 1 to 4
+    }
+    if area.len() < words {
+        return Answer::refused(7);
     }
     write_open(area, key, d, limit, rounds);
     Answer::accepted(0)
 }
 
-// Whether a level can be shown: the area is long enough and sound, and there is such a level.
+// Whether a level can be shown: the area is long enough and sound, and has such a level.
 fn is_shown(area: &[u64], level: u64) -> bool
     ensures { λ r. ⌜ r ≡ shown (now (area .entry)) level ⌝ }
 {
-    if area.len() < Area::WORDS {
+    if area::is_short(area) {
         return false;
     }
     if !area::is_sound(area) {
@@ -67,10 +70,10 @@ fn is_shown(area: &[u64], level: u64) -> bool
     if level < 1 {
         return false;
     }
-    level <= Params::LEVELS
+    level <= Area::levels(area[Area::LIMIT]) as u64
 }
 
-// That level's part of the caller's area, or an empty part if the area is short or unsound or there is no such level. A part
+// That level's part of the caller's area, or an empty part if the area is short or unsound or has no such level. A part
 // is told by what it holds, and by its address: the lent allocation, and a place in it in bytes, 8 a word.
 pub fn level(area: &[u64], level: u64) -> &[u64]
     ensures { λ r. ⌜ now r ≡ levelOf (now (area .entry)) level ⌝ }
@@ -93,6 +96,16 @@ pub fn feed(area: &mut [u64], piece: &[u8], start: u64, bits: u64, log: &mut [u6
     }
     let count = piece::feed_piece(area, piece, span, log);
     Answer::accepted(count)
+}
+
+// Tells how many words an area has, by the height limit.
+pub fn area_words(limit: u64) -> Answer
+    ensures { λ o. ⌜ record { number = o .number; count = o .count } ≡ areaWordsOf limit ⌝ }
+{
+    if Params::MOST_LIMIT < limit {
+        return Answer::refused(3);
+    }
+    Answer::accepted(Area::words(limit) as u64)
 }
 
 // Tells how many words of log a feed of so many bits needs: two for each node that it would make.

@@ -18,7 +18,7 @@ use bits::Span;
 fn area_number(area: &[u64]) -> u64
     ensures { λ r. ⌜ r ≡ firstRefusal (openTests (now (area .entry))) ⌝ }
 {
-    if area.len() < Area::WORDS {
+    if area::is_short(area) {
         return 7; // short
     }
     if !area::is_sound(area) {

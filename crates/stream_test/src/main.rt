@@ -1,8 +1,9 @@
-// Runs the stream's calls on the rows of document 01's "Reels by hand", fed whole and cut, with rounds at each edge, on pieces
-// from every start bit on, and on every refusal. A call writes a line: its number, its count, and whether the area, the words
-// past the area and the log past the nodes are as before; then a line U V for each node; an end then writes its output. A
-// telling of log words writes its number, its count and whether the area is as before. Of the many pieces a line is what feed
-// and end answered, and the digest. tests/stream/expected.py makes the expected lines.
+// Runs the stream's calls on the rows of document 01's "Reels by hand", fed whole and cut, with rounds at each edge, on areas of
+// every length, on pieces from every start bit on, and on every refusal. A call writes a line: its number, its count, and whether
+// the words lent, those past the area and the log past the nodes are as before; then a line U V for each node; an end then writes
+// its output. A telling of log words writes its number, its count and whether the area is as before; one of an area's words its
+// number and count. Of the many pieces a line is what feed and end answered, and the digest. tests/stream/expected.py makes the
+// expected lines.
 ghost use mathlib.Core.Path.{_≡_};
 ghost use Prim.Native.Nat.{_≤_, _<_};
 ghost use lib.ListN.{length};
@@ -11,11 +12,30 @@ use libc::STDOUT_FILENO;
 // What lent words hold before a call that does not need them.
 const FILL: u64 = 0xa5a5a5a5a5a5a5a5;
 
+// Height limits at the edges of an area's length, which from 26 on is the same.
+const LIMITS: [u64; 7] = [0, 1, 2, 25, 26, 27, 64];
+
+// Levels to show: 0, L + 1 and L + 2 for each of these limits, and 2^63.
+const LEVELS: [u64; 12] = [0, 1, 2, 3, 4, 26, 27, 28, 29, 65, 66, 9223372036854775808];
+
 // The bits of the message that is cut, those of its 513 bytes.
 const MESSAGE_BITS: usize = 4104;
 
 // Bit counts of a piece at the edges of a byte and of a block.
 const COUNTS: [u64; 8] = [0, 1, 7, 8, 9, 4095, 4096, 4097];
+
+// Parameters of opens: d, L and r. The first four come with a key that is too long.
+const OPENS: [[u64; 3]; 9] = [
+    [0, 65, 4096],
+    [513, 65, 4096],
+    [4294967304, 65, 4096],
+    [512, 65, 4096],
+    [1, 65, 4096],
+    [1, 64, 4096],
+    [1, 64, 4095],
+    [1, 64, 256],
+    [1, 64, 255],
+];
 
 // Start bits that are refused for three bytes: above 7, or with a count whose sum with them passes 2^64 - 1 or comes near it.
 const REFUSED_STARTS: [u64; 10] = [8, 8, 4294967296, u64::MAX, u64::MAX, u64::MAX, 1, 7, 7, 7];
@@ -76,21 +96,24 @@ fn node_words(count: u64) -> usize {
     2000
 }
 
-// Writes what a call answered and what it changed.
-fn report(
-    number: u64,
-    count: u64,
-    area: &[u64],
-    area_before: &[u64],
-    log: &[u64],
-    log_before: &[u64],
-) {
+// The words of an area, by the height limit that it has in word 4.
+fn own_words(area: &[u64]) -> usize {
+    if area.len() < 5 {
+        return 0;
+    }
+    test_print::area_words(area[4])
+}
+
+// Writes what a call answered and what it changed. The log was filled before.
+fn report(number: u64, count: u64, area: &[u64], before: &[u64], log: &[u64]) {
+    let filled = [FILL; 64];
+    let words = node_words(count);
     test_print::answer(number, count);
-    test_print::same(area, area_before, 0);
-    test_print::same(area, area_before, 1744);
-    test_print::same(log, log_before, node_words(count));
+    test_print::same(area, before, 0);
+    test_print::same(area, before, own_words(area));
+    test_print::same(log, &filled, words);
     io::write_all(STDOUT_FILENO, b"\n");
-    print_nodes(log, node_words(count));
+    print_nodes(log, words);
 }
 
 fn open(area: &mut [u64], key: &[u8], d: u64, limit: u64, rounds: u64) {
@@ -98,23 +121,14 @@ fn open(area: &mut [u64], key: &[u8], d: u64, limit: u64, rounds: u64) {
     let none = [0u64; 0];
     copy(&mut before, &*area);
     let answer = stream::open(&mut *area, key, d, limit, rounds);
-    report(answer.number, answer.count, &*area, &before, &none, &none);
+    report(answer.number, answer.count, &*area, &before, &none);
 }
 
 fn feed_log(area: &mut [u64], piece: &[u8], start: u64, bits: u64, log: &mut [u64]) {
-    let mut area_before = [0u64; 1750];
-    let mut log_before = [0u64; 64];
-    copy(&mut area_before, &*area);
-    copy(&mut log_before, &*log);
+    let mut before = [0u64; 1750];
+    copy(&mut before, &*area);
     let answer = stream::feed(&mut *area, piece, start, bits, &mut *log);
-    report(
-        answer.number,
-        answer.count,
-        &*area,
-        &area_before,
-        &*log,
-        &log_before,
-    );
+    report(answer.number, answer.count, &*area, &before, &*log);
 }
 
 // A feed with a log of so many words.
@@ -126,19 +140,10 @@ fn feed(area: &mut [u64], piece: &[u8], start: u64, bits: u64, words: usize)
 }
 
 fn end_log(area: &mut [u64], digest: &mut [u8], log: &mut [u64]) {
-    let mut area_before = [0u64; 1750];
-    let mut log_before = [0u64; 64];
-    copy(&mut area_before, &*area);
-    copy(&mut log_before, &*log);
+    let mut before = [0u64; 1750];
+    copy(&mut before, &*area);
     let answer = stream::end(&mut *area, &mut *digest, &mut *log);
-    report(
-        answer.number,
-        answer.count,
-        &*area,
-        &area_before,
-        &*log,
-        &log_before,
-    );
+    report(answer.number, answer.count, &*area, &before, &*log);
     test_print::bytes(&*digest);
     io::write_all(STDOUT_FILENO, b"\n");
 }
@@ -174,15 +179,36 @@ fn show(area: &[u64], level: u64) {
     print_line(part.len() as u64);
 }
 
+// Writes the same of each of these levels.
+fn show_levels(area: &[u64]) {
+    let mut i = 0;
+    while i < 12 {
+        show(area, LEVELS[i]);
+        i += 1;
+    }
+}
+
+// A feed of so many bits of a byte.
+fn feed_byte(area: &mut [u64], bits: u64, words: usize)
+    requires { ⌜ words ≤ 64 ⌝ }
+{
+    feed(area, b"a", 0, bits, words);
+}
+
+// A feed of ones.
+fn feed_ones(area: &mut [u64], bits: u64) {
+    let ones = [0xffu8; 2049];
+    feed(area, &ones, 0, bits, 64);
+}
+
 // A row of "Reels by hand" in four pieces: a message of ones, r = 0 and no key.
 fn row(limit: u64, d: u64, first: u64, second: u64, third: u64, fourth: u64) {
-    let ones = [0xffu8; 2049];
     let mut area = [FILL; 1750];
     open(&mut area, b"", d, limit, 0);
-    feed(&mut area, &ones, 0, first, 64);
-    feed(&mut area, &ones, 0, second, 64);
-    feed(&mut area, &ones, 0, third, 64);
-    feed(&mut area, &ones, 0, fourth, 64);
+    feed_ones(&mut area, first);
+    feed_ones(&mut area, second);
+    feed_ones(&mut area, third);
+    feed_ones(&mut area, fourth);
     end(&mut area, 3, 54);
 }
 
@@ -213,10 +239,9 @@ fn cut_rows() {
 
 // Two blocks with so many rounds and no key. Where the open is refused the area is unsound for the calls behind it.
 fn with_rounds(rounds: u64) {
-    let ones = [0xffu8; 2049];
     let mut area = [FILL; 1750];
     open(&mut area, b"", 24, 64, rounds);
-    feed(&mut area, &ones, 0, 4097, 64);
+    feed_ones(&mut area, 4097);
     end(&mut area, 3, 54);
 }
 
@@ -251,27 +276,44 @@ fn finish(area: &mut [u64]) {
     stream::end(&mut *area, &mut digest, &mut log);
 }
 
-// A telling, a feed, an end and a level of an area in which one word was changed.
-fn altered(limit: u64, bits: u64, at: usize, value: u64) {
+// A telling, a feed, an end and a level of an area.
+fn fair_calls(area: &mut [u64]) {
+    tell(&*area, 8);
+    feed_byte(&mut *area, 8, 64);
+    end(&mut *area, 3, 54);
+    show(&*area, 1);
+}
+
+// The same, each call with all later refusals as well.
+fn refused_calls(area: &mut [u64]) {
+    tell(&*area, u64::MAX);
+    feed_byte(&mut *area, 9, 0);
+    end(&mut *area, 0, 0);
+    show(&*area, 1);
+}
+
+// The calls on so many words of an area in which one word was changed.
+fn altered_words(words: usize, limit: u64, bits: u64, at: usize, value: u64)
+    requires { ⌜ words ≤ 1750 ⌝ }
+{
     let mut area = [FILL; 1750];
     prepare(&mut area, limit, bits);
     set(&mut area, at, value);
-    tell(&area, 8);
-    feed(&mut area, b"a", 0, 8, 64);
-    end(&mut area, 3, 54);
-    show(&area, 1);
+    fair_calls(&mut area[..words]);
 }
 
-// The same of an area that has ended, each call with all later refusals as well.
+// The calls on an area in which one word was changed.
+fn altered(limit: u64, bits: u64, at: usize, value: u64) {
+    altered_words(1750, limit, bits, at, value);
+}
+
+// The calls on one that has ended.
 fn altered_ended(limit: u64, bits: u64, at: usize, value: u64) {
     let mut area = [FILL; 1750];
     prepare(&mut area, limit, bits);
     finish(&mut area);
     set(&mut area, at, value);
-    tell(&area, u64::MAX);
-    feed(&mut area, b"a", 0, 9, 0);
-    end(&mut area, 0, 0);
-    show(&area, 1);
+    refused_calls(&mut area);
 }
 
 // Words before the levels that make an area unsound.
@@ -284,7 +326,6 @@ fn unsound_heads() {
     altered(64, 1, 3, 0);
     altered(64, 1, 3, 513);
     altered(64, 1, 3, 4294967304);
-    altered(64, 1, 4, 65);
     altered(64, 1, 5, 4096);
     altered(64, 1, 6, 0x6b65790000000001);
     altered(64, 1, 13, 1);
@@ -293,14 +334,28 @@ fn unsound_heads() {
     altered(64, 1, 15, 1);
 }
 
-// Levels that make an area unsound: a bit behind the held ones, in a level above the sequential one, or where no sequential
-// output is yet.
-fn unsound_levels() {
+// Another L in word 4: over 64, however many words are lent; one whose levels are zeros, in just enough words and in one fewer;
+// and one whose levels hold what was there before the open.
+fn other_limits() {
+    altered_words(80, 0, 0, 4, 65);
+    altered_words(1744, 0, 0, 4, 65);
+    altered_words(1750, 64, 1, 4, 65);
+    altered_words(80, 0, 0, 4, u64::MAX);
+    altered_words(1744, 0, 0, 4, u64::MAX);
+    altered_words(1750, 64, 1, 4, u64::MAX);
+    altered_words(80, 64, 0, 4, 0);
+    altered_words(143, 64, 0, 4, 1);
+    altered_words(144, 64, 0, 4, 1);
+    altered_words(1750, 0, 0, 4, 1);
+}
+
+// Levels with a bit behind the held ones, or where no sequential output is yet, which make an area unsound; two of the bits stand
+// above the sequential level, past the area, and do not.
+fn altered_levels() {
     altered(64, 1, 16, 0xc000000000000000);
     altered(64, 4095, 79, 0xffffffffffffffff);
     altered(64, 4096, 80, 1);
     altered(64, 4097, 96, 0x8000000000000000);
-    altered(64, 1, 1743, 1);
     altered(0, 3072, 31, 1);
     altered(0, 3073, 32, 0xc000000000000000);
     altered(0, 3073, 80, 1);
@@ -309,13 +364,11 @@ fn unsound_levels() {
     altered(1, 12289, 144, 1);
 }
 
-// Ended areas: unsound ones, and then a sound one, which is refused by 10 before anything else.
+// Ended areas that are unsound.
 fn ended_areas() {
     altered_ended(64, 1, 16, 1);
-    altered_ended(64, 1, 1743, 1);
     altered_ended(64, 1, 14, 0);
     altered_ended(64, 1, 0, 1);
-    altered_ended(64, 1, 1744, FILL);
 }
 
 // Areas with another word changed that are sound, as it may hold anything there, or as many rounds.
@@ -323,59 +376,139 @@ fn sound_areas() {
     altered(64, 1, 16, 0);
     altered(64, 4096, 79, 0);
     altered(0, 3073, 31, 0);
-    altered(64, 1, 1744, FILL);
     altered(64, 1, 5, 255);
     altered(64, 1, 5, 256);
     altered(64, 1, 5, 4095);
 }
 
+// Opens with these parameters, from a row to another.
+fn open_rows(area: &mut [u64], key: &[u8], from: usize, to: usize)
+    requires { ⌜ (from ≤ to) × (to ≤ 9) ⌝ }
+{
+    let mut i = from;
+    while i < to {
+        let row = OPENS[i];
+        open(&mut *area, key, row[0], row[1], row[2]);
+        i += 1;
+    }
+}
+
 // The refusals of open, each with all later ones as well; then rounds that are not refused.
-fn refused_opens() {
+fn opens(area: &mut [u64]) {
     let key = [0x6bu8; 65];
-    let mut area = [FILL; 1744];
-    let mut short = [FILL; 1743];
-    open(&mut short, &key, 0, 65, 4096);
-    open(&mut area, &key, 0, 65, 4096);
-    open(&mut area, &key, 513, 65, 4096);
-    open(&mut area, &key, 4294967304, 65, 4096);
-    open(&mut area, &key, 512, 65, 4096);
-    open(&mut area, b"", 1, 65, 4096);
-    open(&mut area, b"", 1, 64, 4096);
-    open(&mut area, b"", 1, 64, 4095);
-    open(&mut area, b"", 1, 64, 256);
-    open(&mut area, b"", 1, 64, 255);
+    open_rows(&mut *area, &key, 0, 4);
+    open_rows(&mut *area, b"", 4, 9);
 }
 
-// A telling, a feed, an end and a level of an area without its last word.
-fn shortened(area: &[u64]) {
-    let mut short = [FILL; 1743];
-    copy(&mut short, area);
-    tell(&short, u64::MAX);
-    feed(&mut short, b"a", 0, 9, 0);
-    end(&mut short, 0, 0);
-    show(&short, 1);
-}
-
-// Short areas: of an open stream, of one that has ended, and no words at all.
-fn short_areas() {
-    let none = [0u64; 0];
+// These on so many words of an area that is open with L = 0.
+fn opens_in_words(words: usize)
+    requires { ⌜ words ≤ 1750 ⌝ }
+{
     let mut area = [FILL; 1750];
-    prepare(&mut area, 64, 1);
-    shortened(&area);
+    prepare(&mut area, 0, 1);
+    opens(&mut area[..words]);
+}
+
+// No words, enough for L = 0 alone, one word too few for L = 64, and just enough.
+fn all_opens() {
+    opens_in_words(0);
+    opens_in_words(80);
+    opens_in_words(1743);
+    opens_in_words(1744);
+}
+
+// Tells the words of an area.
+fn tell_words(limit: u64) {
+    let answer = stream::area_words(limit);
+    test_print::answer(answer.number, answer.count);
+    io::write_all(STDOUT_FILENO, b"\n");
+}
+
+// A stream of ones, whatever the area held, with its levels before the end.
+fn stream_in(area: &mut [u64], limit: u64) {
+    open(&mut *area, b"", 24, limit, 9);
+    tell(&*area, 16385);
+    feed_ones(&mut *area, 16385);
+    show_levels(&*area);
+    end(&mut *area, 3, 54);
+}
+
+// This in so many words.
+fn stream_in_words(words: usize, limit: u64)
+    requires { ⌜ words ≤ 1750 ⌝ }
+{
+    let mut area = [FILL; 1750];
+    stream_in(&mut area[..words], limit);
+}
+
+// The calls on so many words of an area, which are too few, and an open with its height limit.
+fn short_calls(area: &mut [u64], words: usize, limit: u64)
+    requires { ⌜ words ≤ length (now area) ⌝ }
+{
+    refused_calls(&mut area[..words]);
+    open(&mut area[..words], b"", 8, limit, 0);
+}
+
+// These on an open stream, and on one that has ended.
+fn shortened(words: usize, limit: u64)
+    requires { ⌜ words ≤ 1750 ⌝ }
+{
+    let mut area = [FILL; 1750];
+    prepare(&mut area, limit, 1);
+    short_calls(&mut area, words, limit);
     finish(&mut area);
-    shortened(&area);
-    tell(&none, 0);
+    short_calls(&mut area, words, limit);
+}
+
+// An area in just enough words, in more and in one fewer; then with its last word and the word past it changed, open and ended. The
+// last is sound, and is refused by 10 before anything else.
+fn by_limit(limit: u64) {
+    let words = test_print::area_words(limit);
+    tell_words(limit);
+    stream_in_words(words, limit);
+    stream_in_words(1750, limit);
+    stream_in_words(words - 1, limit);
+    shortened(words - 1, limit);
+    altered(limit, 1, words - 1, 1);
+    altered(limit, 1, words, 1);
+    altered_ended(limit, 1, words - 1, 1);
+    altered_ended(limit, 1, words, 1);
+}
+
+fn all_limits() {
+    let mut i = 0;
+    while i < 7 {
+        by_limit(LIMITS[i]);
+        i += 1;
+    }
+}
+
+// Numbers that are no height limit.
+fn refused_words() {
+    tell_words(65);
+    tell_words(4294967296);
+    tell_words(u64::MAX);
+}
+
+// Areas with the first level of many, without all of the words before the levels, and with no level.
+fn few_words() {
+    shortened(80, 64);
+    let mut words = 0;
+    while words <= 16 {
+        shortened(words, 0);
+        words += 1;
+    }
 }
 
 // Logs and outputs that are too short by one, and long enough.
 fn short_logs() {
     let mut area = [FILL; 1750];
     prepare(&mut area, 64, 4096);
-    feed(&mut area, b"a", 0, 9, 0);
-    feed(&mut area, b"a", 0, 18446744073709551615, 0);
-    feed(&mut area, b"a", 0, 1, 1);
+    feed_byte(&mut area, 9, 0);
+    feed_byte(&mut area, 18446744073709551615, 0);
+    feed_byte(&mut area, 1, 1);
     feed(&mut area, b"", 0, 0, 0);
-    feed(&mut area, b"a", 0, 1, 2);
+    feed_byte(&mut area, 1, 2);
     end(&mut area, 0, 3);
     end(&mut area, 1, 3);
     end(&mut area, 1, 4);
@@ -440,8 +573,8 @@ fn most_nodes() {
     zeros(&mut area, 26, 13835058055282163712, 4503599627370469);
     tell(&area, 0);
     tell(&area, 1);
-    feed(&mut area, b"a", 0, 1, 53);
-    feed(&mut area, b"a", 0, 1, 54);
+    feed_byte(&mut area, 1, 53);
+    feed_byte(&mut area, 1, 54);
     print_line(area[14]);
     tell(&area, 4611686018427387902);
     tell(&area, 4611686018427387903);
@@ -452,13 +585,13 @@ fn long_stream() {
     let mut area = [FILL; 1750];
     zeros(&mut area, 64, 18446744073709551614, 6004799503160634);
     tell(&area, 2);
-    feed(&mut area, b"a", 0, 2, 0);
-    feed(&mut area, b"a", 0, 9, 0);
+    feed_byte(&mut area, 2, 0);
+    feed_byte(&mut area, 9, 0);
     tell(&area, 1);
-    feed(&mut area, b"a", 0, 1, 0);
+    feed_byte(&mut area, 1, 0);
     tell(&area, 0);
     tell(&area, 1);
-    feed(&mut area, b"a", 0, 1, 0);
+    feed_byte(&mut area, 1, 0);
     end(&mut area, 3, 53);
     end(&mut area, 3, 54);
     print_line(area[14]);
@@ -647,25 +780,17 @@ fn ordered_refusals() {
     two_bits(&mut area, 8);
 }
 
-// The levels that there are, and those that there are not.
-fn levels() {
-    let mut area = [FILL; 1750];
-    prepare(&mut area, 64, 1);
-    show(&area, 0);
-    show(&area, 1);
-    show(&area, 27);
-    show(&area, 28);
-    show(&area, 9223372036854775808);
-}
-
 fn main() {
     whole_rows();
     cut_rows();
     rounds_edges();
-    refused_opens();
-    short_areas();
+    all_opens();
+    all_limits();
+    refused_words();
+    few_words();
     unsound_heads();
-    unsound_levels();
+    other_limits();
+    altered_levels();
     sound_areas();
     ended_areas();
     short_logs();
@@ -676,5 +801,4 @@ fn main() {
     cut_message();
     start_edges();
     ordered_refusals();
-    levels();
 }

@@ -1,6 +1,17 @@
-// What the test programs print of a call: bytes in hexadecimal, the number and the count that it answered, and whether lent
-// words are as before.
+// What the test programs lend and print: the words of an area; bytes in hexadecimal, the number and the count that a call answered,
+// and whether lent words are as before.
+ghost use Prim.Native.Nat.{_≤_};
 use libc::STDOUT_FILENO;
+
+// The words of an area for a height limit, by document 02, M-109: 16, and 64 times the smaller of L + 1 and 27.
+pub fn area_words(limit: u64) -> usize
+    ensures { λ r. ⌜ (80 ≤ r) × (r ≤ 1744) ⌝ }
+{
+    if limit < 26 {
+        return 16 + 64 * (limit as usize + 1);
+    }
+    1744
+}
 
 fn wide(b: u8) -> u64 {
     b as u64

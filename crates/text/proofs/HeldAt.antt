@@ -9,7 +9,8 @@ use lib.Dec.{eqb, ltb}
 use lib.Pow.{shr-shr}
 use lib.ListN.{getD, replicate}
 use Rattle.tree.specs.Tree.{blockBits, sequentialBits, outputBits}
-use Rattle.calls.specs.Area.{phaseOf, totalOf, doneBlocks, heldBits, parallelHold, holdsAbove, openHolds, areaLevels}
+use Rattle.calls.specs.Area.{phaseOf, totalOf, paramsOf, ownLevels, doneBlocks, heldBits, parallelHold, holdsAbove, openHolds}
+use Rattle.calls.specs.AreaLaws.{limit-word}
 use Rattle.text.specs.Text.{hasLine, heldLevels}
 use Rattle.text.specs.Lines.{hasLineAt}
 
@@ -69,75 +70,69 @@ above-sequential (suc k) zero i h =
     ∙ ap (λ (x : ℕ). not (eqb x 0)) (sym (shift-none i))
 above-sequential (suc k) (suc n) i h = above-sequential k n (i / 4) (omega arith) ∙ ap (λ (x : ℕ). not (eqb x 0)) (shift-next i n)
 
-above-none : (k n i j : ℕ) → n < j → above k n i j ≡ false
-unfolding above
-above-none zero n i j g = refl
-above-none (suc k) n i zero g = absurd (omega arith)
-above-none (suc k) zero i (suc j) g = bare k j
-above-none (suc k) (suc n) i (suc j) g = above-none k n (i / 4) j (omega arith)
+-- ---- m levels of an open area
 
--- ---- an open area
+lineOpen : ℕ → ℕ → ℕ → ℕ → Bool
+lineOpen m limit T j = getD (map hasLine (openHolds m limit T)) j false
 
-lineOpen : ℕ → ℕ → ℕ → Bool
-lineOpen limit T j = getD (map hasLine (openHolds areaLevels limit T)) j false
-
-open-first : (limit T : ℕ) → lineOpen limit T 0 ≡ not (eqb T 0)
+open-first : (m limit T : ℕ) → 1 ≤ m → lineOpen m limit T 0 ≡ not (eqb T 0)
 unfolding lineOpen
-open-first zero T = some-held (doneBlocks sequentialBits T) (heldBits sequentialBits T) T (λ e. (omega arith, omega arith)) (λ f p. f (omega (arith, p .0, p .1)))
-open-first (suc n) T = none-held (heldBits blockBits T) T (λ e. omega arith) (λ f e. f (omega arith))
+open-first zero limit T h = absurd (omega arith)
+open-first (suc m) zero T h = some-held (doneBlocks sequentialBits T) (heldBits sequentialBits T) T (λ e. (omega arith, omega arith)) (λ f p. f (omega (arith, p .0, p .1)))
+open-first (suc m) (suc n) T h = none-held (heldBits blockBits T) T (λ e. omega arith) (λ f e. f (omega arith))
 
 -- the levels above level 1, of which j stand below
-open-sequential : (limit T j : ℕ) → suc j ≤ limit → limit < suc (suc j) → j < areaLevels - 1 → lineOpen limit T (suc j) ≡ not (eqb (doneBlocks blockBits T / 2 ^ (2 * j)) 0)
+open-sequential : (m limit T j : ℕ) → suc j ≡ limit → suc j < m → lineOpen m limit T (suc j) ≡ not (eqb (doneBlocks blockBits T / 2 ^ (2 * j)) 0)
 unfolding lineOpen above
-open-sequential zero T j g h k = absurd (omega arith)
-open-sequential (suc n) T j g h k =
+open-sequential zero limit T j g h = absurd (omega arith)
+open-sequential (suc m) zero T j g h = absurd (omega arith)
+open-sequential (suc m) (suc n) T j g h =
     let e : j ≡ n = omega arith in
-    rw e (above-sequential (areaLevels - 1) n (doneBlocks blockBits T) (omega arith))
+    rw e (above-sequential m n (doneBlocks blockBits T) (omega arith))
 
-open-parallel : (limit T j : ℕ) → suc (suc j) ≤ limit → j < areaLevels - 1 → lineOpen limit T (suc j) ≡ not (eqb (doneBlocks blockBits T / 2 ^ (2 * j) % 4) 0)
+open-parallel : (m limit T j : ℕ) → suc j < limit → suc j < m → lineOpen m limit T (suc j) ≡ not (eqb (doneBlocks blockBits T / 2 ^ (2 * j) % 4) 0)
 unfolding lineOpen above
-open-parallel zero T j g k = absurd (omega arith)
-open-parallel (suc n) T j g k = above-parallel (areaLevels - 1) n (doneBlocks blockBits T) j k (omega arith)
-
-open-none : (limit T j : ℕ) → limit < suc j → lineOpen limit T (suc j) ≡ false
-unfolding lineOpen above
-open-none zero T j g = bare (areaLevels - 1) j
-open-none (suc n) T j g = above-none (areaLevels - 1) n (doneBlocks blockBits T) j (omega arith)
+open-parallel zero limit T j g h = absurd (omega arith)
+open-parallel (suc m) zero T j g h = absurd (omega arith)
+open-parallel (suc m) (suc n) T j g h = above-parallel m n (doneBlocks blockBits T) j (omega arith) (omega arith)
 
 -- ---- as the code asks
 
 module _ (area : List ℕ) (level : ℕ) where
-  held-open : (phaseOf area ≡ 2 → ⊥) → hasLineAt area level ≡ lineOpen (getD area 4 0) (totalOf area) (level - 1)
+  abbrev own : ℕ → Bool
+  own j = lineOpen (ownLevels area) (paramsOf area .limit) (totalOf area) j
+
+  held-open : (phaseOf area ≡ 2 → ⊥) → hasLineAt area level ≡ own (level - 1)
   unfolding hasLineAt lineOpen
   held-open p =
-      ap (λ (b : Bool). getD (map hasLine (elim b [ true ↦ replicate areaLevels (parallelHold 0) | false ↦ openHolds areaLevels (getD area 4 0) (totalOf area) ])) (level - 1) false)
+      let n : ℕ = ownLevels area in
+      ap (λ (b : Bool). getD (map hasLine (elim b [ true ↦ replicate n (parallelHold 0) | false ↦ openHolds n (paramsOf area .limit) (totalOf area) ])) (level - 1) false)
       (ne-eqb (phaseOf area) 2 p)
 
   pub held-ended : phaseOf area ≡ 2 → false ≡ hasLineAt area level
   unfolding hasLineAt
-  held-ended e = sym (ap (λ (p : ℕ). getD (heldLevels p (getD area 4 0) (totalOf area)) (level - 1) false) e ∙ bare areaLevels (level - 1))
+  held-ended e = sym (ap (λ (p : ℕ). getD (heldLevels p (paramsOf area .limit) (totalOf area)) (level - 1) false) e ∙ bare (ownLevels area) (level - 1))
 
   -- level 1 holds bits once there are some
   pub held-first : (phaseOf area ≡ 2 → ⊥) → level ≡ 1 → not (eqb (totalOf area) 0) ≡ hasLineAt area level
   held-first p e =
       let k : level - 1 ≡ 0 = omega arith in
-      sym (held-open p ∙ ap (lineOpen (getD area 4 0) (totalOf area)) k ∙ open-first (getD area 4 0) (totalOf area))
+      sym (held-open p ∙ ap own k ∙ open-first (ownLevels area) (paramsOf area .limit) (totalOf area) (omega arith))
 
-  module _ (p : phaseOf area ≡ 2 → ⊥) (lo : 2 ≤ level) (hi : level ≤ areaLevels) where
-    at-level : hasLineAt area level ≡ lineOpen (getD area 4 0) (totalOf area) (suc (level - 2))
+  module _ (p : phaseOf area ≡ 2 → ⊥) (lo : 2 ≤ level) (hi : level ≤ ownLevels area) where
+    at-level : hasLineAt area level ≡ own (suc (level - 2))
     at-level =
         let k : level - 1 ≡ suc (level - 2) = omega arith in
-        held-open p ∙ ap (lineOpen (getD area 4 0) (totalOf area)) k
+        held-open p ∙ ap own k
 
-    -- above the sequential level
-    pub held-none : getD area 4 0 < level - 1 → false ≡ hasLineAt area level
-    held-none g = sym (at-level ∙ open-none (getD area 4 0) (totalOf area) (level - 2) (omega arith))
-
-    -- the sequential level
-    pub held-sequential : level - 1 ≤ getD area 4 0 → getD area 4 0 < level
-        → not (eqb (doneBlocks blockBits (totalOf area) / 2 ^ (2 * (level - 2))) 0) ≡ hasLineAt area level
-    held-sequential g h = sym (at-level ∙ open-sequential (getD area 4 0) (totalOf area) (level - 2) (omega arith) (omega arith) (omega arith))
+    -- the sequential level, which is the last
+    pub held-sequential : getD area 4 0 < level → not (eqb (doneBlocks blockBits (totalOf area) / 2 ^ (2 * (level - 2))) 0) ≡ hasLineAt area level
+    held-sequential g =
+        let l = limit-word area in
+        sym (at-level ∙ open-sequential (ownLevels area) (paramsOf area .limit) (totalOf area) (level - 2) (omega arith) (omega arith))
 
     -- a parallel level
     pub held-parallel : level ≤ getD area 4 0 → not (eqb (doneBlocks blockBits (totalOf area) / 2 ^ (2 * (level - 2)) % 4) 0) ≡ hasLineAt area level
-    held-parallel g = sym (at-level ∙ open-parallel (getD area 4 0) (totalOf area) (level - 2) (omega arith) (omega arith))
+    held-parallel g =
+        let l = limit-word area in
+        sym (at-level ∙ open-parallel (ownLevels area) (paramsOf area .limit) (totalOf area) (level - 2) (omega arith) (omega arith))

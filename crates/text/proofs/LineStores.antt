@@ -11,7 +11,7 @@ use lib.Seq.{drop-cons, set-at, take-take}
 use Rattle.lists.specs.Append.{cons-eq}
 use Rattle.lists.specs.Part.{put}
 use Rattle.lists.specs.Take.{drop-take}
-use Rattle.calls.specs.Area.{headWords, kOf, levelWords, Long, areaLevels}
+use Rattle.calls.specs.Area.{headWords, kOf, ownLevels, levelWords, Long}
 use Rattle.digits.specs.Digits.{hexDigits, wordDigits, spelt, speltWords, allSpelt, line}
 use Rattle.text.specs.Text.{line1Fields, fieldDigits, line1, line2, levelLine, digitsIn, line1Bytes, levelBytes, headBytes, withSpelt, speltFields, speltHead}
 use Rattle.text.specs.FieldLaws.{fieldWords, fieldSizes, length-fields, digits-some, field-more, digits-more}
@@ -49,7 +49,7 @@ line1-stored w area part₀ a i e s l =
 
 -- ---- a level's line
 
-pub level-stored : (part area y0 y1 : List ℕ) (level : ℕ) → length part ≡ levelBytes → Long area → level ≤ areaLevels
+pub level-stored : (part area y0 y1 : List ℕ) (level : ℕ) → length part ≡ levelBytes → Long area → level ≤ ownLevels area
     → y0 ≡ hexDigits (length (midOf 0 2 part)) level
     → y1 ≡ wordDigits (take (16 + 64 * (level - 1) + 64 - (16 + 64 * (level - 1))) (drop (16 + 64 * (level - 1)) area))
     → set (putMid 2 1024 (putMid 0 2 part y0) y1) 1026 10 ≡ levelLine level (levelWords area level)
@@ -93,7 +93,7 @@ module _ (r : Bool) (ys : List ℕ) (xs : List (Option ℕ)) (h : cond r (some y
   told-no : r ≡ false → allSpelt xs ≡ none
   told-no e = sym h ∙ ap (λ (b : Bool). cond b (some ys) none) e
 
-pub level-spelt : (area line ys : List ℕ) (level : ℕ) (r : Bool) → Long area → level ≤ areaLevels
+pub level-spelt : (area line ys : List ℕ) (level : ℕ) (r : Bool) → Long area → level ≤ ownLevels area
     → cond r (some ys) none ≡ allSpelt (speltWords (length (midOf (16 + 64 * (level - 1)) (16 + 64 * (level - 1) + 64 - (16 + 64 * (level - 1))) area)) (take 1024 (drop 2 line)))
     → LevelSpelt r level line area (putMid (16 + 64 * (level - 1)) (16 + 64 * (level - 1) + 64 - (16 + 64 * (level - 1))) area ys)
 level-spelt area line ys level r h g e =

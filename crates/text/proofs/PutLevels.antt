@@ -1,67 +1,81 @@
 -- The lines of the levels, written one after the other, and the whole text.
 use mathlib.Core.Path.{_≡_, refl, sym, ap, _∙_}
 use mathlib.Core.Bool.{true, false}
-use mathlib.Core.List.{List, [], _++_, append-assoc, append-nil}
+use mathlib.Core.List.{List, [], _++_, append-nil}
 use Prim.Native.Nat.{ℕ, _+_, _-_, _*_, _≤_, _<_}
 use native.Mathlib.Omega.{arith}
 use borrow.Rule.Slice.PartMut.{midOf, putMid, mid-len}
 use lib.ListN.{length, take, drop, replicate, length-append, length-replicate}
-use lib.Seq.{drop-length, take-all, take-at}
-use Rattle.calls.specs.Area.{areaWords, levelWords, Long, areaLevels}
+use lib.Seq.{drop-length, drop-at, drop-drop, length-take-le, take-at}
+use Rattle.calls.specs.Area.{ownLevels, levelWords, Long}
 use Rattle.text.specs.Text.{roundsBytes, line1Fields, line1, line2, levelLine, textWith, levelBytes, headBytes}
 use Rattle.text.specs.LengthLaws.{length-levelLine, mostText, text-most}
 use Rattle.calls.specs.AreaLaws.{length-levelWords}
-use Rattle.text.specs.Lines.{hasLineAt, linesAbove, above-yes, above-no, length-yes, above-all, text-lines, length-head, length-text, above-most}
-use Rattle.lists.specs.PartLaws.{put-take, put-length}
+use Rattle.text.specs.Lines.{hasLineAt, linesAbove, above-yes, above-no, above-less, length-yes, above-all, text-lines, length-head, length-text, above-most}
+use Rattle.lists.specs.PartLaws.{put-length}
 use Rattle.digits.specs.Loops.{lent-next}
 
--- a part whose first bytes, as many as `at`, are the lines of the first k levels
-pub record Putting (area part : List ℕ) (at k : ℕ) : Type 0 where
-  pub few : k ≤ areaLevels
-  pub size : length part ≡ at + length (linesAbove area k)
+-- a part whose bytes from e on are the lines of the levels above level k
+pub record Putting (area part : List ℕ) (e k : ℕ) : Type 0 where
+  pub few : k ≤ ownLevels area
+  pub size : length part ≡ e + length (linesAbove area k)
   pub all : length part ≡ length (linesAbove area 0)
-  pub is : take at part ++ linesAbove area k ≡ linesAbove area 0
+  pub is : drop e part ≡ linesAbove area k
 
-pub put-none : (area part : List ℕ) → length part ≡ length (linesAbove area 0) → Putting area part 0 0
-put-none area part h = record { few = omega arith; size = omega arith; all = h; is = refl }
+pub put-none : (area part : List ℕ) (last : ℕ) → last ≡ ownLevels area → length part ≡ length (linesAbove area 0) → Putting area part (length part) last
+put-none area part last q h =
+    let n = above-all area last (omega arith) in
+    record { few = omega arith; size = omega (arith, ap length n); all = h; is = drop-length part ∙ sym n }
 
-module _ (area part : List ℕ) (at k : ℕ) (p : Putting area part at k) (long : Long area) (h : k < areaLevels) where
-  pub put-room : hasLineAt area (k + 1) ≡ true → at + levelBytes ≤ length part
-  put-room e = omega (arith, p .size, length-yes area k h long e)
+module _ (area part : List ℕ) (e k : ℕ) (p : Putting area part e k) (long : Long area) (h : 1 ≤ k) where
+  same : k - 1 + 1 ≡ k
+  same = omega arith
 
-  pub put-fits : hasLineAt area (k + 1) ≡ true → at + levelBytes ≤ areaLevels * levelBytes
-  put-fits e = omega (arith, put-room e, p .all, above-most area long)
+  below : k - 1 < ownLevels area
+  below = omega (arith, p .few)
 
-  pub put-yes : (ys : List ℕ) → hasLineAt area (k + 1) ≡ true → ys ≡ levelLine (k + 1) (levelWords area (k + 1))
-      → Putting area (putMid at (at + levelBytes - at) part ys) (at + levelBytes) (k + 1)
-  put-yes ys e y =
-      let n : at + levelBytes - at ≡ levelBytes = omega arith in
-      let l : length ys ≡ levelBytes = ap length y ∙ length-levelLine (k + 1) (levelWords area (k + 1)) (length-levelWords area (k + 1) long (omega arith)) in
-      let room : at + levelBytes ≤ length part = put-room e in
-      let up : ys ++ linesAbove area (k + 1) ≡ linesAbove area k = ap (λ (x : List ℕ). x ++ linesAbove area (k + 1)) y ∙ sym (above-yes area k h e) in
+  pub put-room : hasLineAt area k ≡ true → levelBytes ≤ e
+  put-room y =
+      let l = rw same at (length-yes area (k - 1) below long (rw same y)) in
+      omega (arith, l, p .size, p .all, above-less area (k - 1) (omega (arith, p .few)))
+
+  pub put-in : e ≤ length part
+  put-in = omega (arith, p .size)
+
+  pub put-yes : (at : ℕ) (ys : List ℕ) → at ≡ e - levelBytes → hasLineAt area k ≡ true → ys ≡ levelLine k (levelWords area k)
+      → Putting area (putMid at (e - at) part ys) at (k - 1)
+  put-yes at ys q y z =
+      let n : e - at ≡ levelBytes = omega (arith, q, put-room y) in
+      let s : at + levelBytes ≡ e = omega (arith, q, put-room y) in
+      let l : length ys ≡ levelBytes = ap length z ∙ length-levelLine k (levelWords area k) (length-levelWords area k long (p .few)) in
+      let room : at + levelBytes ≤ length part = omega (arith, s, put-in) in
+      let size = rw same at (length-yes area (k - 1) below long (rw same y)) in
+      let up : linesAbove area (k - 1) ≡ levelLine k (levelWords area k) ++ linesAbove area k = rw same at (above-yes area (k - 1) below (rw same y)) in
       rw n (record {
-        few = omega arith;
-        size = put-length at levelBytes part ys room l ∙ omega (arith, p .size, length-yes area k h long e);
+        few = omega (arith, p .few);
+        size = put-length at levelBytes part ys room l ∙ omega (arith, p .size, size, s);
         all = put-length at levelBytes part ys room l ∙ p .all;
         is =
-            ap (λ (x : List ℕ). x ++ linesAbove area (k + 1)) (put-take at levelBytes part ys room l)
-            ∙ append-assoc (take at part) ys (linesAbove area (k + 1))
-            ∙ ap (λ (x : List ℕ). take at part ++ x) up ∙ p .is;
+            drop-at (take at part) (ys ++ drop levelBytes (drop at part)) at (length-take-le at part (omega (arith, room)))
+            ∙ ap (λ (x : List ℕ). ys ++ x) (drop-drop levelBytes at part ∙ ap (λ (m : ℕ). drop m part) s ∙ p .is)
+            ∙ ap (λ (x : List ℕ). x ++ linesAbove area k) z ∙ sym up;
       })
 
-  pub put-no : hasLineAt area (k + 1) ≡ false → Putting area part at (k + 1)
-  put-no e =
-      let n = above-no area k h e in
-      record { few = omega arith; size = p .size ∙ ap (λ (x : List ℕ). at + length x) n; all = p .all; is = ap (λ (x : List ℕ). take at part ++ x) (sym n) ∙ p .is }
+  pub put-no : hasLineAt area k ≡ false → Putting area part e (k - 1)
+  put-no y =
+      let n : linesAbove area (k - 1) ≡ linesAbove area k = rw same at (above-no area (k - 1) below (rw same y)) in
+      record { few = omega (arith, p .few); size = p .size ∙ ap (λ (x : List ℕ). e + length x) (sym n); all = p .all; is = p .is ∙ sym n }
 
-pub put-all : (area part : List ℕ) (at k : ℕ) → Putting area part at k → areaLevels ≤ k → part ≡ linesAbove area 0
-put-all area part at k p h =
-    let n = above-all area k h in
-    sym (ap (λ (x : List ℕ). take at part ++ x) n ∙ append-nil (take at part) ∙ take-all at part (omega (arith, p .size, ap length n))) ∙ p .is
+pub put-all : (area part : List ℕ) (e k : ℕ) → Putting area part e k → k ≤ 0 → part ≡ linesAbove area 0
+put-all area part e k p h =
+    let z : k ≡ 0 = omega arith in
+    let q : Putting area part e 0 = rw z at p in
+    let f : e ≡ 0 = omega (arith, q .size, q .all) in
+    ap (λ (m : ℕ). drop m part) (sym f) ∙ q .is
 
 -- ---- the text in two parts, the first two lines, of n bytes, and those of the levels
 
-module _ (w n : ℕ) (area part y0 : List ℕ) (size : n ≡ headBytes w) (h : areaWords ≤ length area) (l : length part ≡ length (textWith w area))
+module _ (w n : ℕ) (area part y0 : List ℕ) (size : n ≡ headBytes w) (h : Long area) (l : length part ≡ length (textWith w area))
     (e : y0 ≡ line1 (line1Fields w) area ++ line2 area) where
   abbrev put : List ℕ
   put = putMid 0 (n - 0) part y0
@@ -93,8 +107,8 @@ module _ (w n : ℕ) (area part y0 : List ℕ) (size : n ≡ headBytes w) (h : a
 
 -- ---- the text of an area, written again into the first n bytes of a longer part
 
-pub again-room : (w : ℕ) (area text : List ℕ) → w ≤ roundsBytes → areaWords ≤ length area → length text ≡ length (textWith w area) → length text ≤ length {A = ℕ} (replicate mostText 0)
-again-room w area text b h e = rw (length-replicate {A = ℕ} mostText 0) (omega (arith, text-most w area b h))
+pub again-room : (w : ℕ) (area text : List ℕ) → w ≤ roundsBytes → Long area → length text ≡ length (textWith w area) → length text ≤ length {A = ℕ} (replicate mostText 0)
+again-room w area text b h e = rw (length-replicate {A = ℕ} mostText 0) (omega (arith, text-most w area h))
 
 module _ (again : List ℕ) (n : ℕ) (h : n ≤ length again) where
   pub front-length : length (midOf 0 (n - 0) again) ≡ n

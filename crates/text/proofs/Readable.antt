@@ -6,15 +6,20 @@ use mathlib.Core.Option.{Option, none, some, Option·some-injective}
 use Prim.Native.Nat.{ℕ, _+_, _-_, _*_, _≤_, _<_}
 use native.Mathlib.Omega.{arith}
 use borrow.Rule.Slice.PartMut.{putMid}
-use lib.ListN.{length, take, drop, replicate, length-append, length-drop, length-replicate}
-use lib.Seq.{take-all, take-at, drop-at}
-use Rattle.calls.specs.Area.{headWords, areaWords, sound, areaLevels, blockWords}
+use lib.ListN.{length, take, drop, getD, replicate, length-append, length-drop}
+use lib.Seq.{take-all, take-at, take-take, take-append-le, drop-at, length-take-le}
+use Rattle.lists.specs.Replicate.{take-replicate}
+use Rattle.lists.specs.Take.{drop-take}
+use Rattle.tree.specs.Tree.{mostLevels, mostLimit}
+use Rattle.calls.specs.Area.{headWords, blockWords, areaLevels, areaWords, paramsOf, ownLevels, ownWords, sound, Long}
+use Rattle.calls.specs.AreaLaws.{limit-word}
 use Rattle.digits.specs.Digits.{allSpelt}
 use Rattle.text.specs.Text.{roundsBytes, line1Fields, heldOf, textWith, levelBytes, headBytes, speltHead, speltLevels, speltArea, same, textIs, readableWith, readable, readArea}
+use Rattle.text.specs.LayoutLaws.{sound-front, text-front}
 use Rattle.text.specs.LengthLaws.{lines, text-length}
 use Rattle.text.specs.Lines.{zeroLevels, linesAbove, Spelt, length-text}
 use Rattle.text.specs.ReadForms.{formOf, one-form}
-use Rattle.text.specs.TextLaws.{held-front, length-speltHead, headed, headed-front, length-speltArea}
+use Rattle.text.specs.TextLaws.{limit-front, held-front, length-speltHead, headed, headed-front, length-speltArea}
 use Rattle.text.proofs.SameLaws.{same-other-length}
 
 -- ---- a text that is not read
@@ -43,14 +48,10 @@ pub short-text : (w m : ℕ) → w ≤ roundsBytes → m ≡ headBytes w → (te
 short-text w m b size text area h =
     refused w text area (other-length w text (λ a s e. omega (arith, length-text w a (omega (arith, length-speltArea w b text a s)), e, h)))
 
--- ---- after the head, whose words are ys, in an area whose levels are empty
-
-length-zeros : length zeroLevels ≡ areaLevels * blockWords
-unfolding zeroLevels
-length-zeros = length-replicate {A = ℕ} (areaLevels * blockWords) 0
+-- ---- after the head, whose words are ys, in words that are zero otherwise
 
 -- the first two lines have m bytes
-module _ (w m : ℕ) (small : w ≤ roundsBytes) (size : m ≡ headBytes w) (text ys : List ℕ) (r : Bool) {area : List ℕ} (z : area ≡ replicate areaWords 0)
+module _ (w m : ℕ) (small : w ≤ roundsBytes) (size : m ≡ headBytes w) (text ys : List ℕ) (r : Bool) {area : List ℕ} (z : area ≡ replicate (areaWords mostLimit) 0)
     (s : cond r (some ys) none ≡ speltHead (line1Fields w) text) where
   abbrev s1 : List ℕ
   s1 = putMid 0 headWords area ys
@@ -63,58 +64,130 @@ module _ (w m : ℕ) (small : w ≤ roundsBytes) (size : m ≡ headBytes w) (tex
     head-known : speltHead (line1Fields w) text ≡ some ys
     head-known = sym s ∙ ap (λ (b : Bool). cond b (some ys) none) e
 
-    s1-is : s1 ≡ ys ++ zeroLevels
+    head-length : length ys ≡ headWords
+    head-length = length-speltHead w small text ys head-known
+
+    s1-is : s1 ≡ ys ++ zeroLevels mostLevels
     unfolding zeroLevels
     s1-is = ap (λ (l : List ℕ). ys ++ drop headWords l) z
 
     front : take headWords s1 ≡ ys
-    front = take-at ys (drop headWords area) headWords (length-speltHead w small text ys head-known)
+    front = take-at ys (drop headWords area) headWords head-length
 
-    pub head-size : length s1 ≡ areaWords
-    head-size = ap length s1-is ∙ rw (length-append ys zeroLevels, length-speltHead w small text ys head-known, length-zeros)
+    length-s1 : length s1 ≡ areaWords mostLimit
+    unfolding zeroLevels
+    length-s1 = ap length s1-is ∙ rw (length-append ys (zeroLevels mostLevels), head-length)
 
-    -- the text of s1 is as long as that of the whole area
-    as-long : (area : List ℕ) → speltArea w text ≡ some area → length (textWith w s1) ≡ length (textWith w area)
-    as-long area f =
-        let k = headed w text area f in
-        let g : ys ≡ k .head = Option·some-injective ys (k .head) (sym head-known ∙ k .spelt) in
-        let h : heldOf s1 ≡ heldOf area = sym (held-front s1) ∙ ap heldOf (front ∙ g ∙ sym (headed-front w small text area k)) ∙ held-front area in
-        text-length w s1 (omega (arith, head-size)) ∙ ap (λ (hs : List Bool). headBytes w + levelBytes * lines hs) h
-        ∙ sym (text-length w area (omega (arith, length-speltArea w small text area f)))
+    pub head-long : Long s1
+    head-long = omega (arith, length-s1)
+
+    -- L, which levels have a line and the length of the text are those of any area with this head
+    same-limit : (x : List ℕ) → take headWords x ≡ ys → paramsOf x .limit ≡ paramsOf s1 .limit
+    same-limit x f = sym (limit-front x) ∙ ap (λ (l : List ℕ). paramsOf l .limit) (f ∙ sym front) ∙ limit-front s1
+
+    same-held : (x : List ℕ) → take headWords x ≡ ys → heldOf x ≡ heldOf s1
+    same-held x f = sym (held-front x) ∙ ap heldOf (f ∙ sym front) ∙ held-front s1
+
+    as-long : (x : List ℕ) → take headWords x ≡ ys → Long x → length (textWith w s1) ≡ length (textWith w x)
+    as-long x f h =
+        text-length w s1 head-long ∙ ap (λ (hs : List Bool). headBytes w + levelBytes * lines hs) (sym (same-held x f)) ∙ sym (text-length w x h)
+
+    -- which the area that is spelt has
+    spelt-front : (x : List ℕ) → speltArea w text ≡ some x → take headWords x ≡ ys
+    spelt-front x f =
+        let k = headed w text x f in
+        headed-front w small text x k ∙ sym (Option·some-injective ys (k .head) (sym head-known ∙ k .spelt))
+
+    spelt-long : (x : List ℕ) → speltArea w text ≡ some x → Long x
+    spelt-long x f = omega (arith, length-speltArea w small text x f)
 
     pub wrong-length : (n : ℕ) → n ≡ length (textWith w s1) → (length text ≡ n → ⊥) → Spelt w false text s1
-    wrong-length n f h = refused w text s1 (other-length w text (λ a q g. h (g ∙ sym (f ∙ as-long a q))))
+    wrong-length n f h = refused w text s1 (other-length w text (λ x q g. h (g ∙ sym (f ∙ as-long x (spelt-front x q) (spelt-long x q)))))
+
+    -- ---- the length of the text is right: the levels, in the words that L gives
 
     rest-is : take (length text - m) (drop m text) ≡ drop (headBytes w) text
     rest-is = take-all (length text - m) (drop m text) (rw length-drop (omega arith)) ∙ ap (λ (k : ℕ). drop k text) size
 
-    pub levels-ready : (n : ℕ) → n ≡ length (textWith w s1) → length text ≡ n
-        → (length s1 ≡ areaWords) × (drop headWords s1 ≡ zeroLevels) × (length (take (length text - m) (drop m text)) ≡ length (linesAbove s1 0))
-    levels-ready n f h = (
-      head-size,
-      ap (drop headWords) s1-is ∙ drop-at ys zeroLevels headWords (length-speltHead w small text ys head-known),
-      ap length rest-is ∙ rw length-drop (omega (arith, length-text w s1 (omega (arith, head-size)))),
-    )
+    -- the words that L gives are k
+    pub own-room : (k : ℕ) → k ≡ areaWords (getD s1 4 0) → k ≤ length s1
+    own-room k e = omega (arith, head-long, limit-word s1)
 
-    -- after the levels, s2
-    pub spelt-whole : (s2 : List ℕ) (q : Bool) (n : ℕ) → n ≡ length (textWith w s1) → length text ≡ n
-        → cond q (some s2) none ≡ allSpelt (map some (take headWords s1) ++ speltLevels (heldOf s1) (take (length text - m) (drop m text))) → Spelt w q text s2
-    unfolding speltArea
-    spelt-whole s2 q n f h g =
-        let d : speltArea w text ≡ cond q (some s2) none =
-        rw (head-known, ← front, held-front s1, ← rest-is) (sym g) in
-        record {
-          yes = λ t. let a : speltArea w text ≡ some s2 = d ∙ ap (λ (b : Bool). cond b (some s2) none) t in (a, h ∙ f ∙ as-long s2 a);
-          no = λ t. no-digits w text (d ∙ ap (λ (b : Bool). cond b (some s2) none) t);
-        }
+    module _ (n k : ℕ) (enough : k ≡ areaWords (getD s1 4 0)) (f : n ≡ length (textWith w s1)) (h : length text ≡ n) where
+      own : k - 0 ≡ ownWords s1
+      own = omega (arith, limit-word s1)
+
+      abbrev part : List ℕ
+      part = take (k - 0) s1
+
+      part-length : length part ≡ ownWords s1
+      part-length = length-take-le (k - 0) s1 (omega (arith, own, head-long)) ∙ own
+
+      part-front : take headWords part ≡ ys
+      part-front = take-take headWords (k - 0) s1 (omega (arith, own)) ∙ front
+
+      part-limit : paramsOf part .limit ≡ paramsOf s1 .limit
+      part-limit = same-limit part part-front
+
+      part-empty : drop headWords part ≡ zeroLevels (ownLevels part)
+      unfolding zeroLevels
+      part-empty =
+          let n : ℕ = blockWords * ownLevels s1 in
+          ap (λ (j : ℕ). drop headWords (take j s1)) own
+          ∙ drop-take headWords n s1
+          ∙ ap (take n) (ap (drop headWords) s1-is ∙ drop-at ys (zeroLevels mostLevels) headWords head-length)
+          ∙ take-replicate n (blockWords * mostLevels) 0 (omega arith)
+          ∙ ap (λ (limit : ℕ). replicate (blockWords * areaLevels limit) 0) (sym part-limit)
+
+      pub levels-ready : (length part ≡ ownWords part) × (drop headWords part ≡ zeroLevels (ownLevels part))
+          × (length (take (length text - m) (drop m text)) ≡ length (linesAbove part 0))
+      levels-ready =
+          let l : length part ≡ ownWords part = omega (arith, part-length, part-limit) in (
+            l,
+            part-empty,
+            ap length rest-is ∙ rw length-drop (omega (arith, length-text w part (omega arith), as-long part part-front (omega arith))),
+          )
+
+      -- after the levels, s2
+      module _ (s2 : List ℕ) where
+        abbrev to : List ℕ
+        to = putMid 0 (k - 0) s1 s2
+
+        module _ (a : speltArea w text ≡ some s2) where
+          s2-length : length s2 ≡ ownWords s1
+          s2-length = omega (arith, length-speltArea w small text s2 a, same-limit s2 (spelt-front s2 a))
+
+          to-front : take headWords to ≡ ys
+          to-front = take-append-le headWords s2 (drop (k - 0) s1) (omega (arith, s2-length)) ∙ spelt-front s2 a
+
+          to-own : ownWords to ≡ ownWords s1
+          to-own = ap areaWords (same-limit to to-front)
+
+          to-is : speltArea w text ≡ some (take (ownWords to) to)
+          to-is = a ∙ ap {B = Option (List ℕ)} some (sym (ap (λ (j : ℕ). take j to) to-own ∙ take-at s2 (drop (k - 0) s1) (ownWords s1) s2-length))
+
+          to-long : Long to
+          to-long = rw (length-append s2 (drop (k - 0) s1)) (omega (arith, s2-length, to-own))
+
+        pub spelt-whole : (q : Bool)
+            → cond q (some s2) none ≡ allSpelt (map some (take headWords part) ++ speltLevels (heldOf part) (take (length text - m) (drop m text)))
+            → Spelt w q text to
+        unfolding speltArea
+        spelt-whole q g =
+            let d : speltArea w text ≡ cond q (some s2) none = rw (head-known, ← part-front, held-front part, ← rest-is) (sym g) in
+            let told : (b : Bool) → q ≡ b → speltArea w text ≡ cond b (some s2) none = λ b t. d ∙ ap (λ (b : Bool). cond b (some s2) none) t in
+            record {
+              yes = λ t. let a = told true t in (to-is a, h ∙ f ∙ as-long to (to-front a) (to-long a));
+              no = λ t. no-digits w text (told false t);
+            }
 
 -- ---- the tests of a text, with r in as many bytes as the end of its line 1 tells
 
 abbrev Answered : Bool → List ℕ → List ℕ → Type 0
-Answered q text area = (q ≡ readable text) × (q ≡ true → readArea text ≡ some area)
+Answered q text area = (q ≡ readable text) × (q ≡ true → readArea text ≡ some (take (ownWords area) area))
 
 module _ (w : ℕ) (text area : List ℕ) (r : Bool) (form : w ≡ formOf text) (s : Spelt w r text area) where
-  answered : (q : Bool) → q ≡ readableWith w text → (q ≡ true → speltArea w text ≡ some area) → Answered q text area
+  answered : (q : Bool) → q ≡ readableWith w text → (q ≡ true → speltArea w text ≡ some (take (ownWords area) area)) → Answered q text area
   answered q e a =
       let o = one-form text in
       let y : q ≡ readable text = e ∙ ap (λ (v : ℕ). readableWith v text) form ∙ sym (o .readable-by) in
@@ -123,10 +196,14 @@ module _ (w : ℕ) (text area : List ℕ) (r : Bool) (form : w ≡ formOf text) 
   pub not-spelt : r ≡ false → Answered false text area
   not-spelt e = answered false (sym (s .no e)) (λ f. absurd-bool f)
 
-  pub other-text : (b : Bool) → r ≡ true → b ≡ same (textWith w area) text → b ≡ false → Answered false text area
-  unfolding readableWith
-  other-text b e f g = answered false (rw (s .yes e .0, ← f, g) (sym (and-false (sound area)))) (λ z. absurd-bool z)
+  -- the area that is spelt stands in front, and is sound and has its text as all the words do
+  module _ (e : r ≡ true) (long : Long area) where
+    tests : readableWith w text ≡ (sound area && same (textWith w area) text)
+    unfolding readableWith
+    tests = rw (s .yes e .0, sound-front area long, text-front w area long)
 
-  pub decided : (q b : Bool) → r ≡ true → q ≡ sound area → b ≡ same (textWith w area) text → b ≡ true → Answered q text area
-  unfolding readableWith
-  decided q b e f d g = answered q (f ∙ rw (s .yes e .0, ← d, g) (sym (and-true (sound area)))) (λ z. s .yes e .0)
+    pub other-text : (b : Bool) → b ≡ same (textWith w area) text → b ≡ false → Answered false text area
+    other-text b f g = answered false (sym (tests ∙ rw (← f, g) (and-false (sound area)))) (λ z. absurd-bool z)
+
+    pub decided : (q b : Bool) → q ≡ sound area → b ≡ same (textWith w area) text → b ≡ true → Answered q text area
+    decided q b f d g = answered q (f ∙ sym (tests ∙ rw (← d, g) (and-true (sound area)))) (λ z. s .yes e .0)

@@ -11,13 +11,13 @@ use lib.Seq.{take-at, drop-at, drop-cons, drop-drop, take-add, take-all, take-ta
 use Rattle.lists.specs.Flatten.{map-append}
 use Rattle.lists.specs.Part.{put}
 use Rattle.lists.specs.PartLaws.{put-take, put-drop, put-length}
-use Rattle.calls.specs.Area.{headWords, blockWords, areaWords, phaseOf, totalOf, emptyLevel, Long, areaLevels}
+use Rattle.calls.specs.Area.{headWords, blockWords, paramsOf, ownLevels, ownWords, emptyLevel, Long}
 use Rattle.digits.specs.Digits.{speltWords, allSpelt}
 use Rattle.text.specs.Text.{heldOf, levelBytes, speltLevels}
 use Rattle.digits.specs.DigitLaws.{length-speltWords, all-known, known-all, all-part}
-use Rattle.text.specs.LengthLaws.{length-heldLevels}
+use Rattle.text.specs.LengthLaws.{length-held}
 use Rattle.text.specs.Lines.{hasLineAt, linesAbove, zeroLevels, values, levelSpelt, LevelSpelt, held-at, above-no, length-yes}
-use Rattle.text.specs.TextLaws.{held-front}
+use Rattle.text.specs.TextLaws.{limit-front, held-front}
 use Rattle.lists.specs.Take.{drop-take}
 use Rattle.text.proofs.LineStores.{words-front}
 
@@ -57,18 +57,24 @@ abbrev before : ℕ → ℕ
 before k = headWords + blockWords * k
 
 pub record Spelling (area₀ text area : List ℕ) (at k : ℕ) : Type 0 where
-  pub few : k ≤ areaLevels
+  pub few : k ≤ ownLevels area₀
   pub size : length text ≡ at + length (linesAbove area₀ k)
-  pub long : length area ≡ areaWords
+  pub long : length area ≡ ownWords area₀
   pub head : take headWords area ≡ take headWords area₀
-  pub empty : drop (before k) area ≡ replicate (blockWords * (areaLevels - k)) 0
+  pub empty : drop (before k) area ≡ replicate (blockWords * (ownLevels area₀ - k)) 0
   pub is : map some (take (before k) area) ++ speltAbove (heldOf area₀) text at k ≡ map some (take headWords area₀) ++ speltLevels (heldOf area₀) text
 
-pub spelling-none : (area text : List ℕ) → length area ≡ areaWords → drop headWords area ≡ zeroLevels → length text ≡ length (linesAbove area 0) → Spelling area text area 0 0
+pub spelling-none : (area text : List ℕ) → length area ≡ ownWords area → drop headWords area ≡ zeroLevels (ownLevels area) → length text ≡ length (linesAbove area 0) → Spelling area text area 0 0
 unfolding zeroLevels speltAbove
-spelling-none area text l z n = record { few = omega arith; size = omega arith; long = l; head = refl; empty = z; is = refl }
+spelling-none area text l z n =
+    let e : ownLevels area - 0 ≡ ownLevels area = omega arith in
+    record { few = omega arith; size = omega arith; long = l; head = refl; empty = rw e z; is = refl }
 
-module _ (area₀ text area : List ℕ) (at k : ℕ) (s : Spelling area₀ text area at k) (h : k < areaLevels) where
+module _ (area₀ text area : List ℕ) (at k : ℕ) (s : Spelling area₀ text area at k) (h : k < ownLevels area₀) where
+  -- L stands in the head
+  pub spelling-own : paramsOf area .limit ≡ paramsOf area₀ .limit
+  spelling-own = sym (limit-front area) ∙ ap (λ (l : List ℕ). paramsOf l .limit) (s .head) ∙ limit-front area₀
+
   held : hasLineAt area (k + 1) ≡ getD (heldOf area₀) k false
   held =
       held-at area k
@@ -78,23 +84,23 @@ module _ (area₀ text area : List ℕ) (at k : ℕ) (s : Spelling area₀ text 
   as-first = held ∙ sym (held-at area₀ k)
 
   inside : k < length (heldOf area₀)
-  inside = omega (arith, length-heldLevels (phaseOf area₀) (getD area₀ 4 0) (totalOf area₀))
+  inside = omega (arith, length-held area₀)
 
   next : before k + blockWords ≡ before (k + 1)
   next = omega arith
 
-  rest-empty : drop (before k) area ≡ emptyLevel ++ replicate (blockWords * (areaLevels - (k + 1))) 0
+  rest-empty : drop (before k) area ≡ emptyLevel ++ replicate (blockWords * (ownLevels area₀ - (k + 1))) 0
   unfolding emptyLevel
   rest-empty =
-      let e : blockWords * (areaLevels - k) ≡ blockWords + blockWords * (areaLevels - (k + 1)) = omega arith in
-      s .empty ∙ ap (λ (n : ℕ). replicate n 0) e ∙ sym (replicate-append-replicate blockWords (blockWords * (areaLevels - (k + 1))) 0)
+      let e : blockWords * (ownLevels area₀ - k) ≡ blockWords + blockWords * (ownLevels area₀ - (k + 1)) = omega arith in
+      s .empty ∙ ap (λ (n : ℕ). replicate n 0) e ∙ sym (replicate-append-replicate blockWords (blockWords * (ownLevels area₀ - (k + 1))) 0)
 
   length-empty : length emptyLevel ≡ blockWords
   unfolding emptyLevel
   length-empty = refl
 
-  after-empty : drop (before k + blockWords) area ≡ replicate (blockWords * (areaLevels - (k + 1))) 0
-  after-empty = sym (drop-drop blockWords (before k) area) ∙ ap (drop blockWords) rest-empty ∙ drop-at emptyLevel (replicate (blockWords * (areaLevels - (k + 1))) 0) blockWords length-empty
+  after-empty : drop (before k + blockWords) area ≡ replicate (blockWords * (ownLevels area₀ - (k + 1))) 0
+  after-empty = sym (drop-drop blockWords (before k) area) ∙ ap (drop blockWords) rest-empty ∙ drop-at emptyLevel (replicate (blockWords * (ownLevels area₀ - (k + 1))) 0) blockWords length-empty
 
   pub spelling-room : Long area₀ → hasLineAt area (k + 1) ≡ true → at + levelBytes ≤ length text
   spelling-room l e = omega (arith, s .size, length-yes area₀ k h l (sym as-first ∙ e))
@@ -104,7 +110,7 @@ module _ (area₀ text area : List ℕ) (at k : ℕ) (s : Spelling area₀ text 
   spelling-no e =
       let t : take (before (k + 1)) area ≡ take (before k) area ++ emptyLevel =
       ap (λ (n : ℕ). take n area) (sym next) ∙ take-add (before k) blockWords area
-      ∙ ap (λ (x : List ℕ). take (before k) area ++ x) (ap (take blockWords) rest-empty ∙ take-at emptyLevel (replicate (blockWords * (areaLevels - (k + 1))) 0) blockWords length-empty) in
+      ∙ ap (λ (x : List ℕ). take (before k) area ++ x) (ap (take blockWords) rest-empty ∙ take-at emptyLevel (replicate (blockWords * (ownLevels area₀ - (k + 1))) 0) blockWords length-empty) in
       record {
         few = omega arith;
         size = s .size ∙ ap (λ (x : List ℕ). at + length x) (above-no area₀ k h (sym as-first ∙ e));
@@ -165,10 +171,10 @@ module _ (area₀ text area : List ℕ) (at k : ℕ) (s : Spelling area₀ text 
         sym (ap allSpelt (sym (s .is) ∙ ap (λ (z : List (Option ℕ)). map some (take (before k) area) ++ z) above-is)
         ∙ all-part (map some (take (before k) area)) (levelSpelt (drop at text)) (speltAbove (heldOf area₀) text (at + levelBytes) (k + 1)) (rw line-is at (y .no q)))
 
-pub spelling-all : (area₀ text area : List ℕ) (at k : ℕ) → Spelling area₀ text area at k → areaLevels ≤ k
+pub spelling-all : (area₀ text area : List ℕ) (at k : ℕ) → Spelling area₀ text area at k → ownLevels area₀ ≤ k
     → some area ≡ allSpelt (map some (take headWords area₀) ++ speltLevels (heldOf area₀) text)
 spelling-all area₀ text area at k s h =
-    let e = above-end (heldOf area₀) text at k (omega (arith, length-heldLevels (phaseOf area₀) (getD area₀ 4 0) (totalOf area₀))) in
+    let e = above-end (heldOf area₀) text at k (omega (arith, length-held area₀)) in
     let t : map some (take (before k) area) ++ speltAbove (heldOf area₀) text at k ≡ map some area =
     ap (λ (x : List (Option ℕ)). map some (take (before k) area) ++ x) e ∙ append-nil (map some (take (before k) area))
     ∙ ap (map some) (take-all (before k) area (omega (arith, s .long))) in

@@ -13,12 +13,12 @@ use Rattle.lists.specs.BelowLaws.{below-zeros}
 use Rattle.bits.specs.Bits.{bitsOf}
 use Rattle.bits.specs.BitsLaws.{length-bitsOf, bitsOf-zeros, bitsOf-inj}
 use Rattle.tree.specs.Tree.{mostKeyBytes, mostDigestBits, mostLimit, mostRounds}
-use Rattle.calls.specs.Area.{Hold, blockWords, phaseOf, totalOf, keyBytesOf, levelsOf, paramsOf, emptyLevel, holdsFor, allFalse, clean, cleanAll, sound, soundLevels, areaLevels}
+use Rattle.calls.specs.Area.{Hold, blockWords, phaseOf, totalOf, keyBytesOf, levelsOf, paramsOf, ownLevels, emptyLevel, holdsFor, allFalse, clean, cleanAll, sound, soundLevels}
 use Rattle.calls.specs.AreaLaws.{allFalse-is}
 use Rattle.lists.specs.And.{and-parts}
 use Rattle.calls.specs.Rows.{AllLen}
 use Rattle.calls.specs.Moved.{sound-tests, sound-valid, length-key, Words, cons}
-use Rattle.text.specs.Text.{hasLine}
+use Rattle.text.specs.Text.{hasLine, heldOf}
 
 -- ---- words 0 to 5 and word 15
 
@@ -100,7 +100,6 @@ fit-all (h ∷ hs) (ws ∷ ls) n a (cons b w) e =
     fit-one h ws (a .0) b (p .0) (fit-all hs ls (omega arith) (a .1) w (p .1))
 
 -- the levels of a sound area
-pub fit-levels : (area : List ℕ) → length (holdsFor areaLevels (phaseOf area) (getD area 4 0) (totalOf area)) ≡ length (levelsOf area) → AllLen blockWords (levelsOf area)
-    → Words (levelsOf area) → soundLevels area ≡ true → Fit (map hasLine (holdsFor areaLevels (phaseOf area) (getD area 4 0) (totalOf area))) (levelsOf area)
-unfolding paramsOf
-fit-levels area n a w e = fit-all (holdsFor areaLevels (phaseOf area) (getD area 4 0) (totalOf area)) (levelsOf area) n a w e
+pub fit-levels : (area : List ℕ) → length (holdsFor (ownLevels area) (phaseOf area) (paramsOf area .limit) (totalOf area)) ≡ length (levelsOf area)
+    → AllLen blockWords (levelsOf area) → Words (levelsOf area) → soundLevels area ≡ true → Fit (heldOf area) (levelsOf area)
+fit-levels area n a w e = fit-all (holdsFor (ownLevels area) (phaseOf area) (paramsOf area .limit) (totalOf area)) (levelsOf area) n a w e

@@ -1,14 +1,14 @@
--- Laws: the parts of an area that a text is made of: its first 16 words one by one, and its levels. All of them lie in the first
--- 1,744 words.
-use mathlib.Core.Path.{_≡_, refl, ap, _∙_}
+-- Laws: the parts of an area that a text is made of: its first 16 words one by one, and its levels. All of them lie in the words that
+-- its L gives.
+use mathlib.Core.Path.{_≡_, refl, sym, ap, _∙_}
 use mathlib.Core.List.{List, [], _∷_, _++_}
 use Prim.Native.Nat.{ℕ, suc, _+_, _-_, _≤_, _<_}
 use native.Mathlib.Omega.{arith}
 use lib.ListN.{length, take, drop, getD, length-drop}
 use lib.Seq.{take-add, drop-drop, drop-cons, take-take, length-take-le}
 use Rattle.lists.specs.Append.{cons-eq}
-use Rattle.calls.specs.Area.{headWords, areaWords, kOf, sound, Long}
-use Rattle.calls.specs.Moved.{Same, same-front, same-sound}
+use Rattle.calls.specs.Area.{headWords, ownWords, kOf, sound, Long}
+use Rattle.calls.specs.Moved.{SameParts, same-front, same-sound}
 use Rattle.text.specs.Text.{line1Fields, textWith}
 use Rattle.text.specs.FieldLaws.{words-head, fields-same}
 
@@ -41,24 +41,29 @@ head-words area h =
 pub length-keyOf : (area : List ℕ) → headWords ≤ length area → length (kOf area) ≡ 8
 length-keyOf area h = length-take-le 8 (drop 6 area) (rw length-drop (omega arith))
 
--- ---- words from 1,744 on do not count
+-- ---- words past those that L gives do not count
 
-front-same : (area : List ℕ) → Long area → Same (take areaWords area) area
-front-same area h =
-    same-front (take areaWords area) area (omega (arith, length-take-le areaWords area h)) h (take-take areaWords areaWords area (omega arith))
-
-pub sound-front : (area : List ℕ) → Long area → sound (take areaWords area) ≡ sound area
-sound-front area h = same-sound (take areaWords area) area (front-same area h)
-
-pub text-front : (w : ℕ) (area : List ℕ) → areaWords ≤ length area → textWith w (take areaWords area) ≡ textWith w area
+-- areas that are the same in those have one text
+pub same-text : (w : ℕ) (x y : List ℕ) → SameParts x y → textWith w x ≡ textWith w y
 unfolding textWith
-text-front w area h =
-    let s = front-same area h in
+same-text w x y s =
     rw (
-      fields-same (line1Fields w) (take areaWords area) area (words-head w) (s .word),
+      fields-same (line1Fields w) x y (words-head w) (s .word),
       s .word 0 (omega arith),
       s .word 1 (omega arith),
-      s .word 4 (omega arith),
+      s .params,
       s .key,
       s .levels,
     )
+
+front-same : (area : List ℕ) → Long area → SameParts area (take (ownWords area) area)
+front-same area h = same-front area (take (ownWords area) area) h (sym (take-take (ownWords area) (ownWords area) area (omega arith)))
+
+pub sound-front : (area : List ℕ) → Long area → sound (take (ownWords area) area) ≡ sound area
+sound-front area h = sym (same-sound area (take (ownWords area) area) (front-same area h))
+
+pub text-front : (w : ℕ) (area : List ℕ) → Long area → textWith w (take (ownWords area) area) ≡ textWith w area
+text-front w area h = sym (same-text w area (take (ownWords area) area) (front-same area h))
+
+pub own-front : (area : List ℕ) → Long area → ownWords (take (ownWords area) area) ≡ ownWords area
+own-front area h = rw (← front-same area h .params) refl

@@ -5,9 +5,9 @@ use mathlib.Core.List.{List, [], _∷_, _++_}
 use Prim.Native.Nat.{ℕ, zero, suc, _+_, _*_, _/_, _≤_}
 use native.Mathlib.Omega.{arith}
 use lib.Dec.{eqb}
-use lib.ListN.{length, getD, replicate, length-append, length-map, length-replicate}
+use lib.ListN.{length, replicate, length-append, length-map, length-replicate}
 use Rattle.tree.specs.Tree.{blockBits, mostLevels}
-use Rattle.calls.specs.Area.{Hold, headWords, blockWords, Long, phaseOf, totalOf, kOf, doneBlocks, parallelHold, holdsAbove, openHolds, holdsFor, levelWords, levelsFrom, levelsOf, areaLevels, areaWords}
+use Rattle.calls.specs.Area.{Hold, headWords, blockWords, Long, phaseOf, totalOf, kOf, doneBlocks, parallelHold, holdsAbove, openHolds, holdsFor, levelWords, levelsFrom, levelsOf, paramsOf, areaLevels, ownLevels}
 use Rattle.digits.specs.Digits.{hexDigits, wordDigits}
 use Rattle.text.specs.Text.{Field, line1Fields, fieldDigits, line1, line2, levelLine, hasLine, heldLevels, heldOf, levelLines, textWith, textOf, roundsBytes, line1Bytes, line2Bytes, levelBytes, headBytes}
 use Rattle.digits.specs.DigitLaws.{length-digits, length-wordDigits}
@@ -60,12 +60,15 @@ length-holdsFor k phase limit T = by (eqb phase 2)
     by true = length-replicate k (parallelHold 0)
     by false = length-openHolds k limit T
 
-pub length-heldLevels : (phase limit T : ℕ) → length (heldLevels phase limit T) ≡ areaLevels
-length-heldLevels phase limit T = length-map (holdsFor areaLevels phase limit T) hasLine ∙ length-holdsFor areaLevels phase limit T
+pub length-heldLevels : (phase limit T : ℕ) → length (heldLevels phase limit T) ≡ areaLevels limit
+length-heldLevels phase limit T = length-map (holdsFor (areaLevels limit) phase limit T) hasLine ∙ length-holdsFor (areaLevels limit) phase limit T
+
+pub length-held : (area : List ℕ) → length (heldOf area) ≡ ownLevels area
+length-held area = length-heldLevels (phaseOf area) (paramsOf area .limit) (totalOf area)
 
 -- ---- the length of a text
 
-length-levelLines : (area : List ℕ) (hs : List Bool) (n k level : ℕ) → Long area → length hs ≡ n → n + k ≤ areaLevels + 1
+length-levelLines : (area : List ℕ) (hs : List Bool) (n k level : ℕ) → Long area → length hs ≡ n → n + k ≤ ownLevels area + 1
     → length (levelLines level hs (levelsFrom area n k)) ≡ levelBytes * lines hs
 length-levelLines area [] zero k level h e g = refl
 length-levelLines area [] (suc n) k level h e g = refl
@@ -79,25 +82,27 @@ length-levelLines area (true ∷ hs) (suc n) k level h e g =
     (omega arith)
 length-levelLines area (false ∷ hs) (suc n) k level h e g = length-levelLines area hs n (suc k) (suc level) h (omega arith) (omega arith)
 
-pub text-length : (w : ℕ) (area : List ℕ) → areaWords ≤ length area → length (textWith w area) ≡ headBytes w + levelBytes * lines (heldOf area)
+pub text-length : (w : ℕ) (area : List ℕ) → Long area → length (textWith w area) ≡ headBytes w + levelBytes * lines (heldOf area)
 unfolding textWith levelsOf
 text-length w area h =
     rw (
-      length-append (line1 (line1Fields w) area) (line2 area ++ levelLines 1 (heldOf area) (levelsFrom area areaLevels 1)),
-      length-append (line2 area) (levelLines 1 (heldOf area) (levelsFrom area areaLevels 1)),
+      length-append (line1 (line1Fields w) area) (line2 area ++ levelLines 1 (heldOf area) (levelsFrom area (ownLevels area) 1)),
+      length-append (line2 area) (levelLines 1 (heldOf area) (levelsFrom area (ownLevels area) 1)),
       length-line1 (line1Fields w) area,
       length-line2 area (omega arith),
-      length-levelLines area (heldOf area) areaLevels 1 1 h (length-heldLevels (phaseOf area) (getD area 4 0) (totalOf area)) (omega arith),
+      length-levelLines area (heldOf area) (ownLevels area) 1 1 h (length-held area) (omega arith),
     )
     (omega arith)
+
+pub text-most : (w : ℕ) (area : List ℕ) → Long area → length (textWith w area) ≤ headBytes w + ownLevels area * levelBytes
+text-most w area h = omega (arith, text-length w area h, lines-le (heldOf area), length-held area)
 
 abbrev pub mostText : ℕ
 mostText = headBytes roundsBytes + mostLevels * levelBytes
 
-pub text-most : (w : ℕ) (area : List ℕ) → w ≤ roundsBytes → areaWords ≤ length area → length (textWith w area) ≤ mostText
-text-most w area b h =
-    omega (arith, text-length w area h, lines-le (heldOf area), length-heldLevels (phaseOf area) (getD area 4 0) (totalOf area))
-
--- so 27,905 bytes are always enough
+-- so 27,905 bytes are always enough, and for L = 0 1,203
 pub longest : (area : List ℕ) → Long area → length (textOf area) ≤ 27905
-longest area h = text-most roundsBytes area (omega arith) h
+longest area h = omega (arith, text-most roundsBytes area h)
+
+pub longest-flat : (area : List ℕ) → Long area → paramsOf area .limit ≡ 0 → length (textOf area) ≤ 1203
+longest-flat area h e = omega (arith, text-most roundsBytes area h, e)

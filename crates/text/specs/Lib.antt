@@ -1,3 +1,4 @@
+pub mod AlikeTexts
 pub mod FieldLaws
 pub mod FormLaws
 pub mod HeldLaws
@@ -7,6 +8,7 @@ pub mod Lines
 pub mod ReadForms
 pub mod ReadLaws
 pub mod ReadLeaves
+pub mod SameTexts
 pub mod Terms
 pub mod Text
 pub mod TextLaws

@@ -3,17 +3,17 @@ use mathlib.Core.Path.{_≡_, refl, sym, ap, _∙_}
 use mathlib.Core.Bool.{Bool, true, false}
 use mathlib.Core.List.{List, [], _∷_, _++_, append-assoc}
 use mathlib.Core.Option.{Option, none, some, Option·getD}
-use Prim.Native.Nat.{ℕ, suc, _+_, _-_, _*_, _≤_, _<_}
+use Prim.Native.Nat.{ℕ, zero, suc, _+_, _-_, _*_, _≤_, _<_}
 use native.Mathlib.Numerals.{add-one}
 use native.Mathlib.Omega.{arith}
-use lib.ListN.{length, drop, getD, replicate, length-append, drop-of-length-le}
+use lib.ListN.{length, take, drop, getD, replicate, length-append, drop-of-length-le}
 use lib.Seq.{drop-cons}
 use Rattle.lists.specs.Part.{put}
-use Rattle.calls.specs.Area.{headWords, blockWords, Long, phaseOf, totalOf, levelWords, levelsFrom, levelsOf, areaLevels}
+use Rattle.calls.specs.Area.{headWords, blockWords, ownWords, ownLevels, Long, levelWords, levelsFrom, levelsOf}
 use Rattle.digits.specs.Digits.{speltWords, allSpelt}
 use Rattle.text.specs.Text.{roundsBytes, line1Fields, line1, line2, levelLine, heldOf, levelLines, textWith, levelBytes, headBytes, speltArea, readableWith}
 use Rattle.calls.specs.AreaLaws.{length-levelWords}
-use Rattle.text.specs.LengthLaws.{length-line1, length-line2, length-levelLine, length-heldLevels, text-most}
+use Rattle.text.specs.LengthLaws.{length-line1, length-line2, length-levelLine, length-held, text-most}
 
 -- whether a level of an area has a line
 unfoldable pub hasLineAt : List ℕ → ℕ → Bool
@@ -21,11 +21,11 @@ hasLineAt area level = getD (heldOf area) (level - 1) false
 
 -- the lines of the levels above the first k
 unfoldable pub linesAbove : List ℕ → ℕ → List ℕ
-linesAbove area k = levelLines (suc k) (drop k (heldOf area)) (levelsFrom area (areaLevels - k) (suc k))
+linesAbove area k = levelLines (suc k) (drop k (heldOf area)) (levelsFrom area (ownLevels area - k) (suc k))
 
--- the words of levels that hold nothing
-unfoldable pub zeroLevels : List ℕ
-zeroLevels = replicate (areaLevels * blockWords) 0
+-- the words of n levels that hold nothing
+unfoldable pub zeroLevels : ℕ → List ℕ
+zeroLevels n = replicate (blockWords * n) 0
 
 -- the words, where each is spelt
 abbrev pub values : List (Option ℕ) → List ℕ
@@ -40,30 +40,27 @@ pub record LevelSpelt (r : Bool) (level : ℕ) (line area last : List ℕ) : Typ
   pub yes : r ≡ true → (allSpelt (levelSpelt line) ≡ some (values (levelSpelt line))) × (last ≡ put (headWords + blockWords * (level - 1)) blockWords area (values (levelSpelt line)))
   pub no : r ≡ false → allSpelt (levelSpelt line) ≡ none
 
--- whether a text, with r in w bytes, spells an area whose text is as long; if so, that area is at hand
+-- whether a text, with r in w bytes, spells an area whose text is as long; if so, that area is at hand, in the first of longer words
 pub record Spelt (w : ℕ) (r : Bool) (text area : List ℕ) : Type 0 where
-  pub yes : r ≡ true → (speltArea w text ≡ some area) × (length text ≡ length (textWith w area))
+  pub yes : r ≡ true → (speltArea w text ≡ some (take (ownWords area) area)) × (length text ≡ length (textWith w area))
   pub no : r ≡ false → readableWith w text ≡ false
 
 -- ---- one level more
-
-length-held : (area : List ℕ) → length (heldOf area) ≡ areaLevels
-length-held area = length-heldLevels (phaseOf area) (getD area 4 0) (totalOf area)
 
 -- the line of a level, if it has one
 lineOf : Bool → ℕ → List ℕ → List ℕ
 lineOf true level ws = levelLine level ws
 lineOf false level ws = []
 
-above-next : (area : List ℕ) (k : ℕ) → k < areaLevels
+above-next : (area : List ℕ) (k : ℕ) → k < ownLevels area
     → linesAbove area k ≡ lineOf (getD (heldOf area) k false) (suc k) (levelWords area (suc k)) ++ linesAbove area (suc k)
 unfolding linesAbove lineOf
 above-next area k h =
-    let e : areaLevels - k ≡ suc (areaLevels - suc k) = omega arith in
+    let e : ownLevels area - k ≡ suc (ownLevels area - suc k) = omega arith in
     rw (e, drop-cons (heldOf area) k false (omega (arith, length-held area))) (by (getD (heldOf area) k false))
   where
-    by : (b : Bool) → levelLines (suc k) (b ∷ drop (suc k) (heldOf area)) (levelWords area (suc k) ∷ levelsFrom area (areaLevels - suc k) (suc (suc k)))
-        ≡ lineOf b (suc k) (levelWords area (suc k)) ++ levelLines (suc (suc k)) (drop (suc k) (heldOf area)) (levelsFrom area (areaLevels - suc k) (suc (suc k)))
+    by : (b : Bool) → levelLines (suc k) (b ∷ drop (suc k) (heldOf area)) (levelWords area (suc k) ∷ levelsFrom area (ownLevels area - suc k) (suc (suc k)))
+        ≡ lineOf b (suc k) (levelWords area (suc k)) ++ levelLines (suc (suc k)) (drop (suc k) (heldOf area)) (levelsFrom area (ownLevels area - suc k) (suc (suc k)))
     by true = refl
     by false = refl
 
@@ -71,7 +68,15 @@ pub held-at : (area : List ℕ) (k : ℕ) → hasLineAt area (k + 1) ≡ getD (h
 unfolding hasLineAt
 held-at area k = let e : k + 1 - 1 ≡ k = omega arith in ap (λ (i : ℕ). getD (heldOf area) i false) e
 
-module _ (area : List ℕ) (k : ℕ) (h : k < areaLevels) where
+-- the lines of fewer levels are no longer
+pub above-less : (area : List ℕ) (k : ℕ) → k ≤ ownLevels area → length (linesAbove area k) ≤ length (linesAbove area 0)
+above-less area zero h = omega arith
+above-less area (suc k) h =
+    let n = above-next area k (omega arith) in
+    let l = length-append (lineOf (getD (heldOf area) k false) (suc k) (levelWords area (suc k))) (linesAbove area (suc k)) in
+    omega (arith, ap length n ∙ l, above-less area k (omega arith))
+
+module _ (area : List ℕ) (k : ℕ) (h : k < ownLevels area) where
   above-by : (b : Bool) → hasLineAt area (k + 1) ≡ b → linesAbove area k ≡ lineOf b (k + 1) (levelWords area (k + 1)) ++ linesAbove area (k + 1)
   above-by b e =
       above-next area k h ∙ ap (λ (t : Bool). lineOf t (suc k) (levelWords area (suc k)) ++ linesAbove area (suc k)) (sym (held-at area k) ∙ e)
@@ -90,7 +95,7 @@ module _ (area : List ℕ) (k : ℕ) (h : k < areaLevels) where
       ap length (above-yes e)
       ∙ rw (length-append, length-levelLine (k + 1) (levelWords area (k + 1)) (length-levelWords area (k + 1) l (omega arith)))
 
-pub above-all : (area : List ℕ) (k : ℕ) → areaLevels ≤ k → linesAbove area k ≡ []
+pub above-all : (area : List ℕ) (k : ℕ) → ownLevels area ≤ k → linesAbove area k ≡ []
 unfolding linesAbove
 above-all area k h = rw (drop-of-length-le (heldOf area) {i = k} (omega (arith, length-held area)))
 
@@ -98,7 +103,9 @@ above-all area k h = rw (drop-of-length-le (heldOf area) {i = k} (omega (arith, 
 
 pub text-lines : (w : ℕ) (area : List ℕ) → textWith w area ≡ (line1 (line1Fields w) area ++ line2 area) ++ linesAbove area 0
 unfolding textWith linesAbove levelsOf
-text-lines w area = sym (append-assoc (line1 (line1Fields w) area) (line2 area) (levelLines 1 (heldOf area) (levelsOf area)))
+text-lines w area =
+    let e : ownLevels area - 0 ≡ ownLevels area = omega arith in
+    rw e (sym (append-assoc (line1 (line1Fields w) area) (line2 area) (levelLines 1 (heldOf area) (levelsOf area))))
 
 pub length-head : (w : ℕ) (area : List ℕ) → headWords ≤ length area → length (line1 (line1Fields w) area ++ line2 area) ≡ headBytes w
 length-head w area h = rw (length-append (line1 (line1Fields w) area) (line2 area), length-line1 (line1Fields w) area, length-line2 area h)
@@ -107,5 +114,5 @@ pub length-text : (w : ℕ) (area : List ℕ) → headWords ≤ length area → 
 length-text w area h =
     ap length (text-lines w area) ∙ rw (length-append (line1 (line1Fields w) area ++ line2 area) (linesAbove area 0), length-head w area h)
 
-pub above-most : (area : List ℕ) → Long area → length (linesAbove area 0) ≤ areaLevels * levelBytes
-above-most area h = omega (arith, length-text roundsBytes area (omega arith), text-most roundsBytes area (omega arith) h)
+pub above-most : (area : List ℕ) → Long area → length (linesAbove area 0) ≤ ownLevels area * levelBytes
+above-most area h = omega (arith, length-text roundsBytes area (omega arith), text-most roundsBytes area h)

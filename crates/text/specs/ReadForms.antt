@@ -11,7 +11,7 @@ use lib.Dec.{eqb}
 use lib.ListN.{length, take, getD}
 use Rattle.lists.specs.Append.{cons-eq}
 use Rattle.lists.specs.And.{and-intro, and-parts}
-use Rattle.calls.specs.Area.{areaWords, sound}
+use Rattle.calls.specs.Area.{ownWords, sound}
 use Rattle.text.specs.Text.{roundsBytes, oldRoundsBytes, textWith, textOf, oldTextOf, speltArea, same, textIs, readableWith, readable, readArea}
 use Rattle.text.specs.HeldLaws.{ranges}
 use Rattle.text.specs.LayoutLaws.{sound-front, text-front}
@@ -108,12 +108,12 @@ one-form text = by (eqb (getD text oldEnd 0) 10) refl
 
 -- ---- writing, then reading
 
--- a text that writing a sound area gives, or gave, is read as that area's first 1,744 words
+-- a text that writing a sound area gives, or gave, is read as the words that this area's L gives
 pub record ReadAs (text new : List ℕ) : Type 0 where
   pub yes : readable text ≡ true
   pub area : readArea text ≡ some new
 
-by-form : (w : ℕ) (area : List ℕ) → SoundArea area → RoundsFit w area → formOf (textWith w area) ≡ w → ReadAs (textWith w area) (take areaWords area)
+by-form : (w : ℕ) (area : List ℕ) → SoundArea area → RoundsFit w area → formOf (textWith w area) ≡ w → ReadAs (textWith w area) (take (ownWords area) area)
 by-form w area s f e =
     let o = one-form (textWith w area) in
     let r : readable (textWith w area) ≡ true = o .readable-by ∙ ap (λ (v : ℕ). readableWith v (textWith w area)) e ∙ text-readable w area s f in
@@ -127,7 +127,7 @@ old-is : (area : List ℕ) → formOf (oldTextOf area) ≡ oldRoundsBytes
 unfolding formOf
 old-is area = rw (eq-eqb (getD (oldTextOf area) oldEnd 0) 10 (old-end area))
 
-pub writing-read : (area text : List ℕ) → SoundArea area → Writing area text → ReadAs text (take areaWords area)
+pub writing-read : (area text : List ℕ) → SoundArea area → Writing area text → ReadAs text (take (ownWords area) area)
 writing-read area text s (new-writing e) = rw (← e) (by-form roundsBytes area s (rounds-fit area s) (new-is area))
 writing-read area text s (old-writing h e) = rw (← e) (by-form oldRoundsBytes area s (omega (arith, h)) (old-is area))
 
@@ -135,7 +135,7 @@ writing-read area text s (old-writing h e) = rw (← e) (by-form oldRoundsBytes 
 pub record Readable (text : List ℕ) : Type 0 where
   pub new : List ℕ
   pub spelt : readArea text ≡ some new
-  pub size : length new ≡ areaWords
+  pub size : length new ≡ ownWords new
   pub is : SoundArea new
   pub writes : Writing new text
 

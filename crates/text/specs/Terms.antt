@@ -1,12 +1,14 @@
 -- Definitions: the terms of the theorems about texts that docs/PROOFS.md cites.
 use mathlib.Core.Path.{_≡_}
-use mathlib.Core.Bool.{true}
-use mathlib.Core.List.{List, _∷_, _++_}
+use mathlib.Core.Bool.{Bool, true, _&&_}
+use mathlib.Core.List.{List, _∷_, _++_, map}
 use Prim.Native.Nat.{ℕ, _^_, _≤_}
 use lib.ListN.{take, drop, getD}
 use Rattle.lists.specs.Below.{Below}
-use Rattle.calls.specs.Area.{Long, sound}
-use Rattle.text.specs.Text.{textOf, oldTextOf}
+use Rattle.tree.specs.Tree.{mostLevels}
+use Rattle.calls.specs.Area.{Hold, Long, phaseOf, totalOf, paramsOf, levelsFrom, holdsFor, cleanAll, soundPhase, soundParams, soundKey, soundCount, soundLast, sound}
+use Rattle.text.specs.Text.{line1Fields, line1, line2, hasLine, levelLines, textOf, oldTextOf, Taken}
+use Rattle.calls.specs.Terms.{SameFront}
 
 -- an area as a caller lends it, long enough and sound
 pub record SoundArea (area : List ℕ) : Type 0 where
@@ -14,7 +16,7 @@ pub record SoundArea (area : List ℕ) : Type 0 where
   pub long : Long area
   pub is-sound : sound area ≡ true
 
--- the most rounds before M-108: an area was sound then exactly if it is sound now and has r up to this
+-- the most rounds before M-108
 abbrev pub oldMostRounds : ℕ
 oldMostRounds = 255
 
@@ -28,6 +30,25 @@ pub record WrittenBy (text : List ℕ) : Type 0 where
   pub area : List ℕ
   pub is : SoundArea area
   pub writes : Writing area text
+
+-- what reading a text into two areas gives that are alike in the words that its L asks: the same, and the areas are alike again
+abbrev pub TakenAlike : ℕ → Taken → Taken → Type 0
+TakenAlike limit f g = (f .number ≡ g .number) × (f .count ≡ g .count) × SameFront limit (f .area) (g .area)
+
+-- before M-109, when every area had 1,744 words and 27 levels, whatever its L: what its levels held, ..
+abbrev pub holdsBefore : List ℕ → List Hold
+holdsBefore area = holdsFor mostLevels (phaseOf area) (paramsOf area .limit) (totalOf area)
+
+-- .. whether it was sound, ..
+abbrev pub soundBefore : List ℕ → Bool
+soundBefore area =
+    soundPhase area
+    && (soundParams area
+    && (soundKey area && (soundCount area && (soundLast area && cleanAll (holdsBefore area) (levelsFrom area mostLevels 1)))))
+
+-- .. and what writing it gave, with r in w bytes
+abbrev pub textBefore : ℕ → List ℕ → List ℕ
+textBefore w area = line1 (line1Fields w) area ++ (line2 area ++ levelLines 1 (map hasLine (holdsBefore area)) (levelsFrom area mostLevels 1))
 
 -- a text of the old form in the new one: the two digits of r's high byte, 0 and 0, after those of the phase
 abbrev pub widened : List ℕ → List ℕ

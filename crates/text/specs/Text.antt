@@ -1,5 +1,5 @@
--- Definitions: a suspended stream as text. Document 01, "Suspended text", and the calls write and read; document 02, M-108. A text is a
--- list of bytes.
+-- Definitions: a suspended stream as text. Document 01, "Suspended text", and the calls write and read; document 02, M-108 and M-109. A text is
+-- a list of bytes.
 use mathlib.Core.Bool.{Bool, true, false, not, cond, _||_, _&&_}
 use mathlib.Core.List.{List, [], _∷_, _++_, map, flatten}
 use mathlib.Core.Option.{Option, none, some, Option·getD}
@@ -9,7 +9,7 @@ use lib.ListN.{length, take, drop, getD, set, replicate}
 use Rattle.lists.specs.Part.{put}
 use Rattle.digits.specs.Digits.{hexDigits, line, wordDigits, spelt, speltWords, allSpelt}
 use Rattle.refusals.specs.Refusals.{firstRefusal, answerOf, outputTest}
-use Rattle.calls.specs.Area.{Hold, headWords, blockWords, areaWords, phaseOf, totalOf, kOf, levelsOf, emptyLevel, holdsFor, sound, areaLevels}
+use Rattle.calls.specs.Area.{Hold, headWords, blockWords, areaLevels, phaseOf, totalOf, kOf, paramsOf, ownWords, levelsOf, emptyLevel, holdsFor, sound}
 use Rattle.calls.specs.Calls.{shortTest, areaTests}
 
 -- ---- the text of an area
@@ -57,11 +57,11 @@ hasLine h = h .output || not (eqb (h .bits) 0)
 
 -- the same for each level, level 1 first, by the phase, the limit and the total
 abbrev pub heldLevels : ℕ → ℕ → ℕ → List Bool
-heldLevels phase limit T = map hasLine (holdsFor areaLevels phase limit T)
+heldLevels phase limit T = map hasLine (holdsFor (areaLevels limit) phase limit T)
 
 -- and for an area
 abbrev pub heldOf : List ℕ → List Bool
-heldOf area = heldLevels (phaseOf area) (getD area 4 0) (totalOf area)
+heldOf area = heldLevels (phaseOf area) (paramsOf area .limit) (totalOf area)
 
 -- "Then, rising, a line for each level that holds bits or has a sequential output"
 abbrev pub levelLines : ℕ → List Bool → List (List ℕ) → List ℕ
@@ -125,7 +125,8 @@ speltLevels [] text = []
 speltLevels (true ∷ hs) text = speltWords blockWords (drop 2 text) ++ speltLevels hs (drop levelBytes text)
 speltLevels (false ∷ hs) text = map some emptyLevel ++ speltLevels hs text
 
--- the 1,744 words, or none if a digit is refused; which levels have a line goes by the phase, L and total of line 1
+-- the words of the area, as many as the L of line 1 gives, or none if a digit is refused; which levels have a line goes by the phase,
+-- L and total of line 1
 unfoldable pub speltArea : ℕ → List ℕ → Option (List ℕ)
 speltArea w text =
     withSpelt (speltHead (line1Fields w) text)
@@ -179,13 +180,17 @@ readable text = readableWith roundsBytes text || readableWith oldRoundsBytes tex
 unfoldable pub readArea : List ℕ → Option (List ℕ)
 readArea text = cond (readableWith roundsBytes text) (speltArea roundsBytes text) (speltArea oldRoundsBytes text)
 
--- "Read 7, 11"
-unfoldable pub readNumber : List ℕ → List ℕ → ℕ
-readNumber area text = firstRefusal (shortTest area ∷ (not (readable text), 11) ∷ [])
+-- the area that a text reads back to; a text that is read spells one, and [] stands for that of any other, which 11 refuses
+abbrev pub areaIn : List ℕ → List ℕ
+areaIn text = Option·getD (readArea text) []
 
--- "words from 1,744 on are never touched"; a text that is read spells an area, so that [] never stands for one
+-- M-109: "reading tests 11 and then 7": whether the area is short goes by the L of the text
+unfoldable pub readNumber : List ℕ → List ℕ → ℕ
+readNumber area text = firstRefusal ((not (readable text), 11) ∷ shortTest area (paramsOf (areaIn text) .limit) ∷ [])
+
+-- "a text read into an area just long enough gives the same stream", and the words past that length are "the untouched tail"
 unfoldable pub readOf : List ℕ → List ℕ → Taken
 readOf area text =
     answerOf (readNumber area text)
-    record { number = 0; count = 0; area = Option·getD (readArea text) [] ++ drop areaWords area }
+    record { number = 0; count = 0; area = areaIn text ++ drop (ownWords (areaIn text)) area }
     (λ k. record { number = k; count = 0; area = area })

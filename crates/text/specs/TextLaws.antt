@@ -1,4 +1,4 @@
--- Laws: the digits of a sound area's text spell its first 1,744 words.
+-- Laws: the digits of a sound area's text spell the words that its L gives.
 use mathlib.Core.Path.{_≡_, refl, sym, ap, _∙_}
 use mathlib.Core.Bool.{Bool, true, false}
 use mathlib.Core.List.{List, [], _∷_, _++_, map, append-assoc, append-nil, flatten}
@@ -14,16 +14,16 @@ use Rattle.lists.specs.BelowLaws.{below-append, below-zeros, below-at, below-ta
 use Rattle.lists.specs.Part.{put}
 use Rattle.lists.specs.PartLaws.{put-length}
 use Rattle.lists.specs.Flatten.{map-append}
-use Rattle.calls.specs.Area.{headWords, blockWords, areaWords, phaseOf, totalOf, kOf, levelsOf, emptyLevel, holdsFor, areaLevels}
+use Rattle.calls.specs.Area.{headWords, blockWords, phaseOf, totalOf, kOf, paramsOf, areaWords, ownLevels, ownWords, levelsOf, emptyLevel, holdsFor}
 use Rattle.calls.specs.Moved.{area-front}
 use Rattle.digits.specs.Digits.{hexDigits, wordDigits, spelt, speltWords, allSpelt}
 use Rattle.text.specs.Text.{Field, line1Fields, digitsOf, fieldDigits, line1, line2, levelLine, heldLevels, heldOf, levelLines, textWith, roundsBytes, line1Bytes, line2Bytes, levelBytes, headBytes, withSpelt, speltFields, speltHead, speltLevels, speltArea}
 use Rattle.digits.specs.DigitLaws.{pow-16, spelt-lt, drop-digits, length-speltWords, words-exact, all-known, known-all, known-front, Fits, no-word, one-more, fits-append, fits-below, speltWords-fits}
 use Rattle.text.specs.FieldLaws.{fieldSizes, sizes-word, FieldsFit, told, fields-back, spelt-parts, Spells, fields-spelt}
 use Rattle.text.specs.LayoutLaws.{head-words, length-keyOf}
-use Rattle.calls.specs.AreaLaws.{length-levelsOf}
+use Rattle.calls.specs.AreaLaws.{length-levelsOf, limit-word}
 use Rattle.text.specs.HeldLaws.{Ranges, ranges, Fit, none, line, bare, fit-levels}
-use Rattle.text.specs.LengthLaws.{length-line1, length-line2, length-levelLine, length-holdsFor, length-heldLevels}
+use Rattle.text.specs.LengthLaws.{length-line1, length-line2, length-levelLine, length-holdsFor, length-held}
 use Rattle.text.specs.Terms.{SoundArea}
 use Rattle.text.specs.FormLaws.{in-front}
 
@@ -70,22 +70,26 @@ levels-back k rest (bare {ls = ls} {ws = ws} e f) =
 
 -- ---- the area
 
+-- L stands before the levels
+pub limit-front : (area : List ℕ) → paramsOf (take headWords area) .limit ≡ paramsOf area .limit
+limit-front area = limit-word (take headWords area) ∙ getD-take headWords area 4 0 (omega arith) ∙ sym (limit-word area)
+
 -- the levels that have a line go by words 0, 1 and 4
 pub held-front : (area : List ℕ) → heldOf (take headWords area) ≡ heldOf area
 held-front area =
-    ap (λ (p : ℕ). heldLevels p (getD (take 16 area) 4 0) (getD (take 16 area) 1 0)) (getD-take 16 area 0 0 (omega arith))
-    ∙ ap (λ (l : ℕ). heldLevels (phaseOf area) l (getD (take 16 area) 1 0)) (getD-take 16 area 4 0 (omega arith))
-    ∙ ap (λ (t : ℕ). heldLevels (phaseOf area) (getD area 4 0) t) (getD-take 16 area 1 0 (omega arith))
+    ap (λ (p : ℕ). heldLevels p (paramsOf (take 16 area) .limit) (getD (take 16 area) 1 0)) (getD-take 16 area 0 0 (omega arith))
+    ∙ ap (λ (l : ℕ). heldLevels (phaseOf area) l (getD (take 16 area) 1 0)) (limit-front area)
+    ∙ ap (λ (t : ℕ). heldLevels (phaseOf area) (paramsOf area .limit) t) (getD-take 16 area 1 0 (omega arith))
 
-pub spells-back : (w : ℕ) (area : List ℕ) → SoundArea area → RoundsFit w area → speltArea w (textWith w area) ≡ some (take areaWords area)
+pub spells-back : (w : ℕ) (area : List ℕ) → SoundArea area → RoundsFit w area → speltArea w (textWith w area) ≡ some (take (ownWords area) area)
 unfolding speltArea textWith
 spells-back w area s i =
     let fs : List Field = line1Fields w in
     let ls : List ℕ = levelLines 1 (heldOf area) (levelsOf area) in
     let g = ranges area (s .is-sound) in
     let h : headWords ≤ length area = omega (arith, s .long) in
-    let n : length (holdsFor areaLevels (phaseOf area) (getD area 4 0) (totalOf area)) ≡ length (levelsOf area) =
-    length-holdsFor areaLevels (phaseOf area) (getD area 4 0) (totalOf area) ∙ sym (length-levelsOf area) in
+    let n : length (holdsFor (ownLevels area) (phaseOf area) (paramsOf area .limit) (totalOf area)) ≡ length (levelsOf area) =
+    length-holdsFor (ownLevels area) (phaseOf area) (paramsOf area .limit) (totalOf area) ∙ sym (length-levelsOf area) in
     let fit = fit-levels area n (levelsOf-widths area (s .long)) (levelsOf-words area (s .words)) (g .levels) in
     let head : speltHead fs (line1 fs area ++ (line2 area ++ ls)) ≡ some (take headWords area) = head-back w area ls (s .words) h g i in
     let rest : drop (headBytes w) (line1 fs area ++ (line2 area ++ ls)) ≡ ls =
@@ -98,9 +102,9 @@ spells-back w area s i =
     ∙ ap (λ (x : List Bool). allSpelt (map some (take headWords area) ++ speltLevels x ls)) (held-front area)
     ∙ ap (λ (x : List (Option ℕ)). allSpelt (map some (take headWords area) ++ x)) up
     ∙ ap allSpelt (sym (map-append some (take headWords area) (flatten (levelsOf area))) ∙ ap (map some) (sym (area-front area)))
-    ∙ all-known (take areaWords area))
+    ∙ all-known (take (ownWords area) area))
 
--- ---- what a text spells is an area of 1,744 words
+-- ---- what a text spells is an area of as many words as its L gives
 
 -- words that are spelt are as many as were to be spelt, and fit 64 bits
 spelt-length : (xs : List (Option ℕ)) (ws : List ℕ) → allSpelt xs ≡ some ws → length ws ≡ length xs
@@ -164,19 +168,24 @@ module _ (w : ℕ) (small : w ≤ roundsBytes) (text area : List ℕ) where
       ap (λ (n : ℕ). take n area) (sym (length-speltHead w small text (h .head) (h .spelt)))
       ∙ known-front (h .head) area (speltLevels (heldOf (h .head)) (drop (headBytes w) text)) (h .whole)
 
-  pub length-speltArea : speltArea w text ≡ some area → length area ≡ areaWords
+  pub length-speltArea : speltArea w text ≡ some area → length area ≡ ownWords area
   length-speltArea e =
       let h = headed w text area e in
       let hs : List Bool = heldOf (h .head) in
       let up : List (Option ℕ) = speltLevels hs (drop (headBytes w) text) in
-      spelt-length (map some (h .head) ++ up) area (h .whole)
-      ∙ length-append (map some (h .head)) up
-      ∙ rw (
+      let n : length (map some (h .head) ++ up) ≡ ownWords (h .head) =
+      rw (
+        length-append (map some (h .head)) up,
         length-map (h .head) some,
         length-speltHead w small text (h .head) (h .spelt),
         length-speltLevels hs (drop (headBytes w) text),
-        length-heldLevels (phaseOf (h .head)) (getD (h .head) 4 0) (totalOf (h .head)),
+        length-held (h .head),
       )
+      (omega arith) in
+      spelt-length (map some (h .head) ++ up) area (h .whole)
+      ∙ n
+      ∙ ap (λ (head : List ℕ). ownWords head) (sym (headed-front h))
+      ∙ ap areaWords (limit-front area)
 
   pub speltArea-below : speltArea w text ≡ some area → Below (2 ^ 64) area
   speltArea-below e =

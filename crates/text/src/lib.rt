@@ -1,5 +1,5 @@
 // A suspended stream as text. Document 01, "Suspended text"; M-108: line 1 holds r in two bytes, and old lines, which have one, are
-// still read.
+// still read; M-109: how many words an area has goes by its L, which a text tells too.
 ghost use mathlib.Core.Path.{_≡_};
 ghost use Rattle.text.specs.Text.{writeOf, readOf};
 use area::Area;
@@ -14,7 +14,7 @@ mod spell; // spell.rt: the area that a text spells
 pub fn write(area: &[u64], text: &mut [u8]) -> Answer
     ensures { λ o. ⌜ record { number = o .number; count = o .count; text = now (text .exit) } ≡ writeOf (now (area .entry)) (now (text .entry)) ⌝ }
 {
-    if area.len() < Area::WORDS {
+    if area::is_short(area) {
         return Answer::refused(7);
     }
     if !area::is_sound(area) {
@@ -29,17 +29,19 @@ pub fn write(area: &[u64], text: &mut [u8]) -> Answer
 }
 
 // Reads a text into an area, whatever it held. Nothing is stored before the text is known to be one that a sound area
-// writes, or wrote before M-108.
+// writes, or wrote before M-108. Whether the area is
+// short goes by the text's L; words past those that this L gives stay.
 pub fn read(area: &mut [u64], text: &[u8]) -> Answer
     ensures { λ o. ⌜ record { number = o .number; count = o .count; area = now (area .exit) } ≡ readOf (now (area .entry)) (now (text .entry)) ⌝ }
 {
-    if area.len() < Area::WORDS {
-        return Answer::refused(7);
-    }
     let mut spelt = [0u64; Area::WORDS];
     if !spell::is_readable(&mut spelt, text) {
         return Answer::refused(11);
     }
-    words::copy(area, 0, &spelt);
+    let n = Area::words(spelt[Area::LIMIT]);
+    if area.len() < n {
+        return Answer::refused(7);
+    }
+    words::copy(area, 0, &spelt[0..n]);
     Answer::accepted(0)
 }

@@ -3,7 +3,7 @@ ghost use mathlib.Core.Path.{_≡_};
 ghost use mathlib.Core.List.{_++_};
 ghost use Prim.Native.Nat.{_≤_};
 ghost use lib.ListN.{length};
-ghost use Rattle.calls.specs.Area.{headWords, levelWords, Long, areaLevels};
+ghost use Rattle.calls.specs.Area.{headWords, ownLevels, levelWords, Long};
 ghost use Rattle.text.specs.Text.{roundsBytes, line1Fields, line1, line2, levelLine, line1Bytes, levelBytes, headBytes};
 ghost use Rattle.text.specs.FieldLaws.{fieldSizes};
 ghost use Rattle.text.specs.ReadForms.{formOf};
@@ -125,7 +125,7 @@ pub fn put_head(part: &mut [u8], area: &[u64], width: usize)
 
 // A level's number and its words.
 pub fn put_level(part: &mut [u8], area: &[u64], level: u64)
-    requires { ⌜ (length (now part) ≡ levelBytes) × Long (now area) × (1 ≤ level) × (level ≤ areaLevels) ⌝ }
+    requires { ⌜ (length (now part) ≡ levelBytes) × Long (now area) × (1 ≤ level) × (level ≤ ownLevels (now area)) ⌝ }
     ensures { λ _. ⌜ now (part .exit) ≡ levelLine level (levelWords (now (area .entry)) level) ⌝ }
 {
     let a = Area::HEAD + Area::LEVEL * (level as usize - 1);

@@ -7,21 +7,21 @@ ghost use Rattle.text.specs.Text.{roundsBytes, textWith};
 ghost use Rattle.text.specs.Lines.{linesAbove};
 use super::held;
 use super::lines;
-use refusals::Params;
 
-// The lines of the levels that have one.
+// The lines of the levels that have one, from the last to the first: so no number but k has to be kept for the levels.
 fn put_levels(part: &mut [u8], area: &[u64])
     requires { ⌜ Long (now area) × (length (now part) ≡ length (linesAbove (now area) 0)) ⌝ }
     ensures { λ _. ⌜ now (part .exit) ≡ linesAbove (now (area .entry)) 0 ⌝ }
 {
-    let mut at: usize = 0;
-    let mut k: u64 = 0;
-    while k < Params::LEVELS {
-        k += 1;
-        if held::has_line(area, k) {
-            let e = at + lines::LEVEL;
-            lines::put_level(&mut part[at..e], area, k);
-            at = e;
+    let mut k = held::levels(area);
+    let mut e = part.len();
+    while 0 < k {
+        let level = k;
+        k -= 1;
+        if held::has_line(area, level) {
+            let at = e - lines::LEVEL;
+            lines::put_level(&mut part[at..e], area, level);
+            e = at;
         }
     }
 }

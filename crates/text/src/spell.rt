@@ -5,7 +5,8 @@ ghost use mathlib.Core.List.{_++_, map};
 ghost use mathlib.Core.Option.{none, some};
 ghost use Prim.Native.Nat.{_≤_};
 ghost use lib.ListN.{length, take, drop, replicate};
-ghost use Rattle.calls.specs.Area.{headWords, areaWords, Long, areaLevels};
+ghost use Rattle.tree.specs.Tree.{mostLimit};
+ghost use Rattle.calls.specs.Area.{headWords, areaWords, ownLevels, ownWords, Long};
 ghost use Rattle.digits.specs.Digits.{allSpelt};
 ghost use Rattle.text.specs.Text.{roundsBytes, line1Fields, heldOf, textWith, levelBytes, headBytes, speltHead, speltLevels, same, readable, readArea};
 ghost use Rattle.text.specs.Lines.{zeroLevels, linesAbove, LevelSpelt, Spelt};
@@ -14,7 +15,6 @@ use super::lines;
 use super::put;
 use area::Area;
 use digits::Reading;
-use refusals::Params;
 
 // Words 0 to 15 from the first two lines, into words that are zero. Answers false at the first byte that is no digit.
 fn spell_head(head: &mut [u64], text: &[u8], width: usize) -> bool
@@ -41,7 +41,7 @@ fn spell_head(head: &mut [u64], text: &[u8], width: usize) -> bool
 
 // A level from its line. Answers false at the first byte of its words that is no digit.
 fn spell_level(area: &mut [u64], line: &[u8], level: u64) -> bool
-    requires { ⌜ Long (now area) × (length (now line) ≡ levelBytes) × (1 ≤ level) × (level ≤ areaLevels) ⌝ }
+    requires { ⌜ Long (now area) × (length (now line) ≡ levelBytes) × (1 ≤ level) × (level ≤ ownLevels (now area)) ⌝ }
     ensures { λ r. ⌜ LevelSpelt r level (now (line .entry)) (now (area .entry)) (now (area .exit)) ⌝ }
 {
     let a = Area::HEAD + Area::LEVEL * (level as usize - 1);
@@ -55,12 +55,13 @@ fn spell_level(area: &mut [u64], line: &[u8], level: u64) -> bool
 // The levels from their lines, into an area whose levels are empty. Answers false at the first byte of their words that is no
 // digit.
 fn spell_levels(area: &mut [u64], text: &[u8]) -> bool
-    requires { ⌜ (length (now area) ≡ areaWords) × (drop headWords (now area) ≡ zeroLevels) × (length (now text) ≡ length (linesAbove (now area) 0)) ⌝ }
+    requires { ⌜ (length (now area) ≡ ownWords (now area)) × (drop headWords (now area) ≡ zeroLevels (ownLevels (now area))) × (length (now text) ≡ length (linesAbove (now area) 0)) ⌝ }
     ensures { λ r. ⌜ cond r (some (now (area .exit))) none ≡ allSpelt (map some (take headWords (now (area .entry))) ++ speltLevels (heldOf (now (area .entry))) (now (text .entry))) ⌝ }
 {
+    let last = held::levels(area);
     let mut at: usize = 0;
     let mut k: u64 = 0;
-    while k < Params::LEVELS {
+    while k < last {
         k += 1;
         if held::has_line(area, k) {
             let e = at + lines::LEVEL;
@@ -73,10 +74,10 @@ fn spell_levels(area: &mut [u64], text: &[u8]) -> bool
     true
 }
 
-// The area that a text with this width of r spells, into words that are zero. Answers false if a digit is refused or the text is
-// not as long as that area's.
+// The area that a text with this width of r spells, into the first of words that are zero and enough for every L. Answers false if a
+// digit is refused or the text is not as long as that area's.
 fn spell_area(area: &mut [u64], text: &[u8], width: usize) -> bool
-    requires { ⌜ (now area ≡ replicate areaWords 0) × (width ≤ roundsBytes) ⌝ }
+    requires { ⌜ (now area ≡ replicate (areaWords mostLimit) 0) × (width ≤ roundsBytes) ⌝ }
     ensures { λ r. ⌜ Spelt width r (now (text .entry)) (now (area .exit)) ⌝ }
 {
     let head = lines::head_bytes(width);
@@ -89,7 +90,8 @@ fn spell_area(area: &mut [u64], text: &[u8], width: usize) -> bool
     if text.len() != held::text_bytes(area, width) {
         return false;
     }
-    spell_levels(area, &text[head..])
+    let n = Area::words(area[Area::LIMIT]);
+    spell_levels(&mut area[0..n], &text[head..])
 }
 
 // Whether two parts of one length hold the same bytes.
@@ -118,11 +120,11 @@ fn writes(area: &[u64], text: &[u8], width: usize) -> bool
     same_bytes(&again[0..n], text)
 }
 
-// Whether a text is what writing some sound area gives, or gave before M-108. The words that are lent are zero before; if it is, they
-// hold that area afterwards; if not, what they hold is left open.
+// Whether a text is what writing some sound area gives, or gave before M-108. The words that are lent are zero before, and enough for
+// every L; if it is, they begin with that area afterwards; if not, what they hold is left open.
 pub fn is_readable(area: &mut [u64], text: &[u8]) -> bool
-    requires { ⌜ now area ≡ replicate areaWords 0 ⌝ }
-    ensures { λ r. ⌜ (r ≡ readable (now (text .entry))) × (r ≡ true → readArea (now (text .entry)) ≡ some (now (area .exit))) ⌝ }
+    requires { ⌜ now area ≡ replicate (areaWords mostLimit) 0 ⌝ }
+    ensures { λ r. ⌜ (r ≡ readable (now (text .entry))) × (r ≡ true → readArea (now (text .entry)) ≡ some (take (ownWords (now (area .exit))) (now (area .exit)))) ⌝ }
 {
     let width = lines::width_of(text);
     if !spell_area(area, text, width) {

@@ -11,12 +11,12 @@ use lib.ListN.{take, drop, replicate}
 use Rattle.bits.specs.Bits.{numbers}
 use Rattle.bits.specs.Piece.{pieceOf}
 use Rattle.compress.specs.Compress.{grown, compressed}
-use Rattle.tree.specs.Tree.{Params, keyWords, output}
-use Rattle.calls.specs.Area.{areaWords, blockWords, paramsOf, levelsOf, withLevels, emptyLevel, emptyLevels, sound}
+use Rattle.tree.specs.Tree.{Params, keyWords, output, mostLimit}
+use Rattle.calls.specs.Area.{areaWords, paramsOf, levelsOf, withLevels, emptyLevel, emptyLevels, sound}
 use Rattle.calls.specs.Calls.{withBit, outWords, receive, feedBit, feedBits, closeAbove, closing, openNumber, openedArea, openOf, fedBits, feedNumber, fedArea, feedOf, closedBy, endNumber, endedArea, digestOut, endOf}
 use Rattle.digits.specs.Digits.{hexDigits, speltWords}
 use Rattle.text.specs.Text.{roundsBytes, oldRoundsBytes, textWith, textOf, oldTextOf, speltHead, speltArea, readableWith, readable, readArea, writeNumber, writeOf, readNumber, readOf}
-use Rattle.text.specs.Terms.{widened}
+use Rattle.text.specs.Terms.{textBefore, widened}
 
 -- the bytes of a text of ASCII characters
 abbrev ascii : string.String → List ℕ
@@ -26,9 +26,9 @@ ascii (string._∷_ c s) = code c ∷ ascii s
 abbrev zeros : ℕ → List ℕ
 zeros n = replicate n 48
 
--- an area with something in it, and two words more than an area needs
+-- an area with something in it, and two words more than the longest needs
 abbrev used : List ℕ
-used = replicate (areaWords + 2) 7
+used = replicate (areaWords mostLimit + 2) 7
 
 abbrev out : List ℕ
 out = replicate 200 7
@@ -89,7 +89,7 @@ abbrev twoLevels : List ℕ
 twoLevels =
     1 ∷ 4097 ∷ 0 ∷ 8 ∷ 1 ∷ 0 ∷ (replicate 8 0
     ++ (1 ∷ 0 ∷ 2 ^ 63 ∷ (replicate 63 0
-    ++ (replicate 16 0 ++ (replicate 16 (2 ^ 64 - 1) ++ (replicate 32 0 ++ replicate (25 * blockWords) 0))))))
+    ++ (replicate 16 0 ++ (replicate 16 (2 ^ 64 - 1) ++ replicate 32 0)))))
 
 abbrev twoLevelsText : List ℕ
 twoLevelsText =
@@ -99,6 +99,56 @@ twoLevelsText =
 two-levels : (textOf twoLevels ≡ twoLevelsText) × (readable twoLevelsText ≡ true)
 unfolding numbers paramsOf levelsOf emptyLevel sound hexDigits textWith speltWords speltHead speltArea readableWith readable readArea mathlib.Core.List.flatten
 two-levels = (refl, refl)
+
+-- ---- short areas: the words go by L, and those past them stay
+
+-- nine bits, L = 0: 80 words, of which 16 are for the sequential output
+abbrev flat : List ℕ
+flat = 1 ∷ 9 ∷ 0 ∷ 8 ∷ (replicate 28 0 ++ (511 * 2 ^ 55 ∷ replicate 47 0))
+
+abbrev flatText : List ℕ
+flatText =
+    ascii "0100000000000800000000000000090000000000000000\n"
+    ++ (noKey ++ (ascii "01" ++ (zeros 256 ++ (ascii "ff8" ++ (zeros 765 ++ ascii "\n")))))
+
+-- fed and written where the tail is not zero, and read into 80 words and into 1,744
+flat-written : textOf (ones 9 (plain 0)) ≡ flatText
+unfolding keyWords numbers output compressed grown paramsOf levelsOf withLevels emptyLevels emptyLevel sound withBit outWords receive feedBit feedBits openNumber openedArea openOf fedBits feedNumber fedArea feedOf hexDigits textWith mathlib.Core.List.flatten
+flat-written = refl
+
+flat-read : (readOf (replicate 80 7) flatText ≡ record { number = 0; count = 0; area = flat })
+    × (readOf (replicate 1744 7) flatText ≡ record { number = 0; count = 0; area = flat ++ replicate 1664 7 })
+unfolding numbers paramsOf levelsOf emptyLevel sound hexDigits textWith speltWords speltHead speltArea readableWith readable readArea readNumber readOf mathlib.Core.List.flatten
+flat-read = (refl, refl)
+
+-- in 79 nothing is changed
+flat-short : readOf (replicate 79 7) flatText ≡ record { number = 7; count = 0; area = replicate 79 7 }
+unfolding numbers paramsOf levelsOf emptyLevel sound hexDigits textWith speltWords speltHead speltArea readableWith readable readArea readNumber readOf mathlib.Core.List.flatten
+flat-short = refl
+
+-- texts, old ones too, of L = 0, 1, 25, 26 and 64 with the words that are just enough for them
+abbrev enough : List (ℕ × List ℕ)
+enough =
+    (80, flatText)
+    ∷ (144, twoLevelsText)
+    ∷ (1680, ascii "0100001900000800000000000000000000000000000000\n" ++ noKey)
+    ∷ (1744, ascii "0100001a00000800000000000000000000000000000000\n" ++ noKey)
+    ∷ (1744, openedText)
+    ∷ (1744, openedOld)
+    ∷ []
+
+-- "reading tests 11 and then 7": a text that is not read gets 11, also in an area that is short for the text that it was made from
+enough-read : (map (λ (e : ℕ × List ℕ). readOf (replicate (e .0) 7) (e .1) .number) enough ≡ replicate 6 0)
+    × (map (λ (e : ℕ × List ℕ). readOf (replicate (e .0 - 1) 7) (e .1) .number) enough ≡ replicate 6 7)
+    × (map (λ (e : ℕ × List ℕ). readOf (replicate (e .0 - 1) 7) (10 ∷ e .1) .number) enough ≡ replicate 6 11)
+    × (readOf [] [] .number ≡ 11)
+unfolding numbers paramsOf levelsOf emptyLevel sound hexDigits textWith speltWords speltHead speltArea readableWith readable readArea readNumber readOf mathlib.Core.List.flatten
+enough-read = (refl, refl, refl, refl)
+
+-- "Texts do not change": what writing gave before M-109
+same-before : (textBefore roundsBytes (twoLevels ++ replicate 1600 0) ≡ twoLevelsText) × (textBefore roundsBytes (flat ++ replicate 1664 0) ≡ flatText)
+unfolding numbers paramsOf hexDigits mathlib.Core.List.flatten
+same-before = (refl, refl)
 
 -- ---- an ended area: two lines, one compression for the empty message
 

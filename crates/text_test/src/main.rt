@@ -1,15 +1,19 @@
-// Suspends streams at every edge of document 01's "Suspended text" and of M-108, and reads damaged texts. A line is the case,
-// what write and then read answered, and whether the area read, and the words past it, are those of the area written; the text
-// follows. Then the same text as it was before M-108: what read answered, and whether the area is that one; the old text; what
-// write answered of the area read, and its text. Of a damaged text, as it is and in the old form: what read answered, and
-// whether the area is as before. Of a write alone: what it answered, and its output. tests/text/expected.py makes the expected
-// lines.
-ghost use Prim.Native.Nat.{_≤_};
+// Suspends streams at every edge of document 01's "Suspended text", of M-108 and of M-109, and reads damaged texts. Each stream is
+// in more words than it needs, and is suspended into just enough. A line is the case, what write and then read answered, and
+// whether the words read are those of the area written; the text follows. Then the same text as it was before M-108: what read
+// answered, and whether the area is that one; the old text; and from that area back into as many words as at first: what write
+// and read answered, whether all are as at first, and the text. Of a damaged text, as it is and in the old form, and of a text
+// for too few words: what read answered, and whether the area is as before. Of a write alone: what it answered, and its output.
+// tests/text/expected.py makes the expected lines.
+ghost use Prim.Native.Nat.{_≤_, _<_};
 ghost use lib.ListN.{length};
 use libc::STDOUT_FILENO;
 
 // What an area holds before a call that does not need it.
 const JUNK: u64 = 0xa5a5a5a5a5a5a5a5;
+
+// Height limits at the edges of an area's length, which from 26 on is the same.
+const LIMITS: [u64; 7] = [0, 1, 2, 25, 26, 27, 64];
 
 // The bytes of the longest text, 27,905: two lines, and a line for each of 27 levels.
 const LONGEST: usize = 47 + 129 + 27 * 1027;
@@ -78,40 +82,52 @@ fn make_old(old: &mut [u8], text: &[u8], count: u64) -> u64 {
     count - 2
 }
 
-// Reads the old form of an area's text into an area of junk, and then writes the text of that.
-fn suspend_old(name: &[u8], area: &[u64], text: &[u8], count: u64) {
-    let mut old = [0u8; LONGEST];
-    let mut again = [0u8; LONGEST];
-    let mut other = [JUNK; 1750];
-    let n = make_old(&mut old, text, count);
-    print_name(b"old");
-    print_name(name);
-    read(&mut other, &old, n, area);
-    print_text(&old, n);
-    let answer = text::write(&other, &mut again);
-    print_name(b"again");
-    test_print::answer(answer.number, answer.count);
-    io::write_all(STDOUT_FILENO, b"\n");
-    print_text(&again, answer.count);
-}
-
-// Suspends an area of 1,750 words into one of junk.
-fn suspend(name: &[u8], area: &[u64]) {
+// Writes the text of an area, and reads it into so many words of junk.
+fn pass(name: &[u8], area: &[u64], words: usize, expected: &[u64])
+    requires { ⌜ words ≤ 1750 ⌝ }
+{
     let mut text = [0u8; LONGEST];
     let mut other = [JUNK; 1750];
     let answer = text::write(area, &mut text);
     print_name(name);
     test_print::answer(answer.number, answer.count);
     io::write_all(STDOUT_FILENO, b" ");
-    read(&mut other, &text, answer.count, area);
+    read(&mut other[..words], &text, answer.count, expected);
     print_text(&text, answer.count);
-    suspend_old(name, area, &text, answer.count);
+}
+
+// Reads the first bytes of a text into an area, and passes its stream on into 1,750 words.
+fn pass_back(area: &mut [u64], text: &[u8], count: u64, expected: &[u64]) {
+    read(&mut *area, text, count, expected);
+    print_text(text, count);
+    pass(b"again", &*area, 1750, expected);
+}
+
+// Reads the old form of an area's text into so many words of junk, and passes the stream back.
+fn suspend_old(name: &[u8], area: &[u64], words: usize)
+    requires { ⌜ words ≤ 1750 ⌝ }
+{
+    let mut text = [0u8; LONGEST];
+    let mut old = [0u8; LONGEST];
+    let mut other = [JUNK; 1750];
+    let answer = text::write(area, &mut text);
+    let n = make_old(&mut old, &text, answer.count);
+    print_name(b"old");
+    print_name(name);
+    pass_back(&mut other[..words], &old, n, area);
+}
+
+// Suspends an area of 1,750 words into just enough for its height limit.
+fn suspend(name: &[u8], area: &[u64], limit: u64) {
+    let words = test_print::area_words(limit);
+    pass(name, area, words, area);
+    suspend_old(name, area, words);
 }
 
 fn suspend_open(name: &[u8], limit: u64, rounds: u64, bits: u64) {
     let mut area = [JUNK; 1750];
     prepare(&mut area, limit, rounds, bits);
-    suspend(name, &area);
+    suspend(name, &area, limit);
 }
 
 fn suspend_ended() {
@@ -120,7 +136,7 @@ fn suspend_ended() {
     let mut log = [0u64; 54];
     prepare(&mut area, 64, 0, 4097);
     stream::end(&mut area, &mut digest, &mut log);
-    suspend(b"ended", &area);
+    suspend(b"ended", &area, 64);
 }
 
 // A held zero has a line, too.
@@ -128,7 +144,7 @@ fn suspend_zero() {
     let mut area = [JUNK; 1750];
     prepare(&mut area, 64, 0, 1);
     area[16] = 0;
-    suspend(b"zero", &area);
+    suspend(b"zero", &area, 64);
 }
 
 // 2^64 - 1 zero bits: every level has a line.
@@ -137,7 +153,7 @@ fn suspend_longest() {
     prepare(&mut area, 64, 0, 0);
     area[1] = 18446744073709551615;
     area[14] = 6004799503160634;
-    suspend(b"longest", &area);
+    suspend(b"longest", &area, 64);
 }
 
 // The last are the edges of r, in streams that have made no node: from 256 on the old form is that of another area, whose r is
@@ -150,7 +166,6 @@ fn suspensions() {
     suspend_open(b"later", 64, 0, 4097);
     suspend_open(b"sequential", 0, 0, 3073);
     suspend_open(b"joined", 1, 0, 4097);
-    suspend_open(b"output", 1, 0, 12289);
     suspend_ended();
     suspend_longest();
     suspend_open(b"rounds-255", 64, 255, 1);
@@ -158,18 +173,23 @@ fn suspensions() {
     suspend_open(b"rounds-4095", 64, 4095, 1);
 }
 
-// Reads the first bytes of a text into an area of junk, and those of its old form into another.
-fn read_damaged(name: &[u8], text: &[u8], count: u64) {
+// Reads the first bytes of a text into so many words of junk.
+fn read_into(name: &[u8], words: usize, text: &[u8], count: u64)
+    requires { ⌜ words ≤ 1750 ⌝ }
+{
     let mut area = [JUNK; 1750];
-    let mut other = [JUNK; 1750];
     let before = [JUNK; 1750];
+    print_name(name);
+    read(&mut area[..words], text, count, &before);
+}
+
+// Reads the first bytes of a text, and those of its old form.
+fn read_damaged(name: &[u8], text: &[u8], count: u64) {
     let mut old = [0u8; 3300];
     let n = make_old(&mut old, text, count);
-    print_name(name);
-    read(&mut area, text, count, &before);
+    read_into(name, 1750, text, count);
     print_name(b"old");
-    print_name(name);
-    read(&mut other, &old, n, &before);
+    read_into(name, 1750, &old, n);
 }
 
 // Changes a byte, if there is one.
@@ -309,29 +329,6 @@ fn shifts() {
     shifted(2227);
 }
 
-// A short area is refused, whether the text is good or bad.
-fn short_areas() {
-    let mut area = [JUNK; 1743];
-    let before = [JUNK; 1743];
-    let mut text = [0u8; 2230];
-    write_text(&mut text, 4097);
-    print_name(b"short-area");
-    read(&mut area, &text, 2230, &before);
-    print_name(b"short-area-bad-text");
-    read(&mut area, &text, 2229, &before);
-}
-
-// An area of just 1,744 words.
-fn exact_area() {
-    let mut area = [JUNK; 1744];
-    let mut written = [JUNK; 1744];
-    let mut text = [0u8; 2230];
-    prepare(&mut written, 64, 0, 4097);
-    text::write(&written, &mut text);
-    print_name(b"exact-area");
-    read(&mut area, &text, 2230, &written);
-}
-
 // Writes what write answered, and the bytes of its output, which held a5 before.
 fn write(name: &[u8], area: &[u64], text: &mut [u8]) {
     let answer = text::write(area, &mut *text);
@@ -342,21 +339,80 @@ fn write(name: &[u8], area: &[u64], text: &mut [u8]) {
     io::write_all(STDOUT_FILENO, b"\n");
 }
 
-fn writes() {
-    let short = [JUNK; 1743];
-    let mut area = [JUNK; 1750];
+// A write that is refused before its output is found short.
+fn refused_write(area: &[u64]) {
     let mut one = [0xa5u8; 1];
+    write(b"write", area, &mut one);
+}
+
+// Too few words: of an area, for its text, and for a damaged one.
+fn too_few(words: usize, limit: u64)
+    requires { ⌜ words ≤ 1750 ⌝ }
+{
+    let mut area = [JUNK; 1750];
+    let mut text = [0u8; 3300];
+    prepare(&mut area, limit, 0, 12289);
+    let answer = text::write(&area, &mut text);
+    refused_write(&area[..words]);
+    read_into(b"read", words, &text, answer.count);
+    text[0] = b' ';
+    read_into(b"read-damaged", words, &text, answer.count);
+}
+
+// A stream into just enough words, and one fewer.
+fn by_limit(limit: u64) {
+    suspend_open(b"limit", limit, 0, 12289);
+    too_few(test_print::area_words(limit) - 1, limit);
+}
+
+fn all_limits() {
+    let mut i = 0;
+    while i < 7 {
+        by_limit(LIMITS[i]);
+        i += 1;
+    }
+}
+
+// The first level of many, not all of the words before the levels, and no level.
+fn few_words() {
+    too_few(80, 64);
+    let mut words = 0;
+    while words <= 16 {
+        too_few(words, 0);
+        words += 1;
+    }
+}
+
+// Writes from so many words of an area in which one word was changed.
+fn write_altered(words: usize, at: usize, value: u64)
+    requires { ⌜ (words ≤ 1750) × (at < 1750) ⌝ }
+{
+    let mut area = [JUNK; 1750];
+    prepare(&mut area, 0, 0, 0);
+    area[at] = value;
+    refused_write(&area[..words]);
+}
+
+// Word 4 over 64, however many words are lent; then r and word 15.
+fn unsound_writes() {
+    write_altered(80, 4, 65);
+    write_altered(1744, 4, 65);
+    write_altered(1750, 4, 65);
+    write_altered(80, 4, u64::MAX);
+    write_altered(1744, 4, u64::MAX);
+    write_altered(1750, 4, u64::MAX);
+    write_altered(80, 5, 4096);
+    write_altered(80, 15, 1);
+}
+
+// Outputs that are too short by one, and longer than the text.
+fn outputs() {
+    let mut area = [JUNK; 1750];
     let mut less = [0xa5u8; 175];
     let mut more = [0xa5u8; 178];
     prepare(&mut area, 64, 0, 0);
     write(b"output-short", &area, &mut less);
     write(b"output-long", &area, &mut more);
-    write(b"area-short", &short, &mut one);
-    area[5] = 4096;
-    write(b"rounds-over", &area, &mut one);
-    area[5] = 0;
-    area[15] = 1;
-    write(b"area-unsound", &area, &mut one);
 }
 
 fn main() {
@@ -367,7 +423,8 @@ fn main() {
     damaged_counts();
     damaged_levels();
     shifts();
-    short_areas();
-    exact_area();
-    writes();
+    all_limits();
+    few_words();
+    unsound_writes();
+    outputs();
 }

@@ -1,7 +1,7 @@
 -- `closing::close_above` meets its contract.
 use Prim.Native.Nat.{_+_, _-_, _/_}
 use native.Mathlib.Omega.{arith}
-use Rattle.calls.specs.Area.{areaLevels}
+use Rattle.tree.specs.Tree.{mostLevels}
 use Rattle.node.specs.Words.{paramsFrom}
 use Rattle.closing.specs.CloseLaws.{closedUp, Closing, close-start, close-room, close-last, close-root, close-more, close-never, flag-most}
 use Rattle.closing.proofs.close_above.Statement.{statement}
@@ -12,7 +12,7 @@ Inv-loop area params key constants levels outputs log₀ start n₀ i₀ out₀ 
     Closing (paramsFrom key params) (closedUp (paramsFrom key params) levels 2 outputs out₀ area) area log₀ start n k i out log at
 
 abbrev μ-loop : tie.MeasureT-loop
-μ-loop area params key constants levels outputs log₀ start n₀ i₀ out₀ at₀ k₀ log n i out at k = areaLevels + 1 - k
+μ-loop area params key constants levels outputs log₀ start n₀ i₀ out₀ at₀ k₀ log n i out at k = mostLevels + 1 - k
 
 loop-holds : tie.Need-loop-holds Inv-loop μ-loop
 loop-holds c = close-start (c .before .before .before .before .pre)

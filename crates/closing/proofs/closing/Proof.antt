@@ -1,6 +1,7 @@
 -- `closing::closing` meets its contract.
 use mathlib.Core.Path.{_∙_}
 use Rattle.lists.specs.Slices.{words-below}
+use Rattle.calls.specs.AreaLaws.{limit-word}
 use Rattle.calls.specs.Calls.{closedBy}
 use Rattle.climb.specs.OpenArea.{open-ready, params-read}
 use Rattle.climb.specs.ReceiveLaws.{log-written}
@@ -18,7 +19,7 @@ close-levels-requires c κs =
     let a = start .args in
     let area = a .area .now in
     let ready = open-ready (start .pre .0) (made .first-part .result) (words-below area (known .shared-slice-known .given)) (made .first-part .ensures) (omega (arith, made .first-part .ok)) in
-    rw (params .params .ensures) record { ready = ready; long = start .pre .0 .long; room = rw (closed-read area) (start .pre .1) }
+    rw (params .params .ensures) record { ready = ready; long = start .pre .0 .long; own = limit-word area; room = rw (closed-read area) (start .pre .1) }
 
 returns : tie.Need-returns
 returns c =

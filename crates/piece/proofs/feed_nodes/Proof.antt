@@ -2,6 +2,7 @@
 use mathlib.Core.Path.{_∙_}
 use Rattle.lists.specs.Slices.{words-below}
 use Rattle.bits.specs.PieceLaws.{spanned}
+use Rattle.calls.specs.AreaLaws.{limit-word}
 use Rattle.climb.specs.OpenArea.{open-ready}
 use Rattle.piece.specs.PieceLaws.{key-copied, fed-read}
 use native.Mathlib.Omega.{arith}
@@ -18,7 +19,7 @@ feed-bits-requires c κs =
     let k = made .before .before .copy .ensures ∙ key-copied area (start .pre .opened .long) in
     let ready = open-ready (start .pre .opened) (made .first-part .result) (words-below area (params .before .before .before .before .slice-known .given)) (made .first-part .ensures) (omega arith) in
     rw (k, params .params .ensures)
-    record { ready = ready; long = start .pre .opened .long; bits = start .pre .bits; total = start .pre .total; room = rw (fed-read area (spanned (a .piece .now) (a .span))) (start .pre .room) }
+    record { ready = ready; long = start .pre .opened .long; own = limit-word area; bits = start .pre .bits; total = start .pre .total; room = rw (fed-read area (spanned (a .piece .now) (a .span))) (start .pre .room) }
 
 returns : tie.Need-returns
 returns c =

@@ -7,6 +7,9 @@ use native.Mathlib.Omega.{arith}
 use Rattle.stream.proofs.write_open.Statement.{statement}
 use Rattle.stream.proofs.write_open.Tie as tie
 
+slice-write-area : tie.Need-slice-write-area
+slice-write-area c = omega (arith, c .before .before .before .pre .0)
+
 slice-write-area-2 : tie.Need-slice-write-area-2
 slice-write-area-2 c = simp length-set (omega arith)
 
@@ -23,7 +26,9 @@ slice-write-area-6 : tie.Need-slice-write-area-6
 slice-write-area-6 c = simp length-set (omega arith)
 
 part-clear-end : tie.Need-part-clear-end
-part-clear-end c = simp length-set (omega arith)
+part-clear-end c =
+    let start = c .before .before .before in
+    simp length-set (omega (arith, c .words .ensures, start .pre .0))
 
 part-fill-end : tie.Need-part-fill-end
 part-fill-end c = rw (c .before .area .given .1) (simp length-set (omega arith))
@@ -38,17 +43,18 @@ returns c =
     let fill = c .before .before in
     let clear = fill .before .before .before .before in
     let clear-arg = clear .before in
-    let start-2 = clear-arg .before .before .before in
-    let start = start-2 in
+    let words = clear-arg .before in
+    let start = words .before .before .before in
     let zs = clear .clear .ensures ∙ ap (λ (n : ℕ). replicate n 0) (clear-arg .clear-arg .given .2) in
     rw (fill .fill .ensures, zs)
-    (open-written (start .args .area .now) (start .args .key .now) (start .args .d) (start .args .limit) (start .args .rounds) (start .pre .0) (start .pre .1))
+    (open-written (start .args .area .now) (start .args .key .now) (start .args .d) (start .args .limit) (start .args .rounds) (words .words .result) (omega (arith, words .words .ensures))
+    (omega (arith, words .words .ensures, start .pre .0)) (start .pre .1))
 
 pub write-open-spec : {M : Type 1} → statement M
 write-open-spec =
     tie.close
     (tie.spec
-    (λ c. omega arith) slice-write-area-2 slice-write-area-3 slice-write-area-4 slice-write-area-5
-    slice-write-area-6 (λ c. omega arith) (λ c. omega arith) part-clear-end (λ c κs. omega arith)
+    (λ c κs. omega arith) slice-write-area slice-write-area-2 slice-write-area-3 slice-write-area-4 slice-write-area-5
+    slice-write-area-6 (λ c. omega arith) (λ c. omega (arith, c .words .ensures)) part-clear-end (λ c κs. omega arith)
     (λ c. omega arith) (λ c. omega arith) part-fill-end (λ c. omega arith) (λ c κs. omega arith) same-length
     returns)

@@ -1,39 +1,54 @@
 -- `text::read` meets its contract.
-use mathlib.Core.Path.{sym, _∙_}
-use borrow.Author.Tests.{lt-ltb, le-ltb, not-true, not-false}
-use Rattle.text.specs.Text.{readNumber}
-use Rattle.text.specs.ReadLaws.{read-refused}
-use Rattle.text.proofs.CallLaws.{read-done}
+use mathlib.Core.Path.{refl, sym, _∙_}
+use mathlib.Core.Bool.{false}
+use borrow.Author.Tests.{not-true, not-false}
+use lib.ListN.{length-take}
+use Rattle.text.specs.ReadLaws.{number-by, read-refused}
+use Rattle.text.proofs.CallLaws.{read-short, read-done}
 use native.Mathlib.Omega.{arith}
 use borrow.Author.Needs.{needs}
 use Rattle.text.proofs.read.Statement.{statement}
 use Rattle.text.proofs.read.Tie as tie
 
 returns : tie.Need-returns
-unfolding readNumber
 returns c =
-    let a = c .before .before .before .before .args in
-    rw (c .refused .ensures .0, c .refused .ensures .1) (read-refused (a .area .now) (a .text .now) 7 (rw (lt-ltb _ _ (c .before .if1 .taken))) (omega arith))
+    let r = c .before .before .before in
+    let a = r .before .before .before .before .args in
+    let n = sym (r .is-readable .ensures .0) ∙ not-true (r .is-readable .result) (c .before .if1 .taken) in
+    rw (c .refused .ensures .0, c .refused .ensures .1) (read-refused (a .area .now) (a .text .now) 11 (sym (number-by (a .area .now) (a .text .now) false _ n refl)) (omega arith))
 
 returns-2 : tie.Need-returns-2
-unfolding readNumber
 returns-2 c =
-    let a = c .before .before .before .before .before .before .before .before .args in
-    let r = c .before .before .before .is-readable in
-    let n = sym (r .ensures .0) ∙ not-true (r .result) (c .before .if2 .taken) in
-    rw (c .refused2 .ensures .0, c .refused2 .ensures .1) (read-refused (a .area .now) (a .text .now) 11 (rw (le-ltb _ _ (c .before .before .before .before .before .if1 .left), n)) (omega arith))
+    let n = c .before .before in
+    let r = n .before .before .before in
+    let a = r .before .before .before .before .args in
+    let t = not-false (r .is-readable .result) (n .before .if1 .left) in
+    rw (c .refused2 .ensures .0, c .refused2 .ensures .1)
+    (read-refused (a .area .now) (a .text .now) 7
+    (read-short (a .area .now) (a .text .now) (r .is-readable .last .0) (n .words .result) (n .words .ensures) (omega (arith, n .words .ensures)) (sym (r .is-readable .ensures .0) ∙ t) (r .is-readable .ensures .1 t) (c .before .if2 .taken))
+    (omega arith))
+
+part-copy-end : tie.Need-part-copy-end
+part-copy-end c = omega (arith, c .before .before .before .words .ensures)
+
+copy-requires : tie.Need-copy-requires
+copy-requires c κs = rw length-take (omega arith)
 
 returns-3 : tie.Need-returns-3
 returns-3 c =
-    let a = c .before .before .before .before .before .before .before .before .before .before .before .before .before .args in
-    let r = c .before .before .before .before .before .before .before .before .is-readable in
-    let t = not-false (r .result) (c .before .before .before .before .before .before .if2 .left) in
+    let copy = c .before .before .before in
+    let n = copy .before .before .before .before .before in
+    let r = n .before .before .before in
+    let a = r .before .before .before .before .args in
+    let t = not-false (r .is-readable .result) (n .before .if1 .left) in
     rw (c .accepted .ensures .0, c .accepted .ensures .1)
-    (read-done (a .area .now) (a .text .now) (r .last .0) _ (omega arith) (sym (r .ensures .0) ∙ t) (r .ensures .1 t) (omega arith) (c .before .before .before .copy .ensures))
+    (read-done (a .area .now) (a .text .now) (r .is-readable .last .0) (n .words .result) (n .words .ensures) (omega (arith, n .words .ensures)) (sym (r .is-readable .ensures .0) ∙ t) (r .is-readable .ensures .1 t)
+    (copy .copy .last .0) (omega arith) (copy .copy .ensures))
 
 pub read-spec : {M : Type 1} → statement M
 read-spec =
     tie.close
     (tie.spec
-    (λ c κs. search needs) returns (λ c. search needs) (λ c κs. search needs) (λ c κs. search needs) returns-2
-    (λ c. search needs) (λ c κs. search needs) (λ c κs. search needs) (λ c. search needs) returns-3)
+    (λ c. search needs) (λ c κs. search needs) (λ c κs. search needs) returns (λ c. search needs) (λ c κs. search needs)
+    (λ c κs. search needs) returns-2 (λ c. search needs) (λ c. search needs) part-copy-end copy-requires (λ c κs. search needs)
+    (λ c. search needs) returns-3)

@@ -12,7 +12,7 @@ returns c =
 
 returns-2 : tie.Need-returns-2
 returns-2 c =
-    let test = c .before .before .before in
+    let test = c .before in
     let start = test .before .before .before in
     c .open-sound .ensures ∙ sym (levels-open (start .args .area .now) (test .if1 .left))
 
@@ -20,5 +20,4 @@ pub levels-sound-spec : {M : Type 1} → statement M
 levels-sound-spec =
     tie.close
     (tie.spec
-    (λ c. omega arith) (λ c κs. omega arith) returns (λ c. omega arith) (λ c. omega arith)
-    (λ c κs. omega arith) returns-2)
+    (λ c. omega arith) (λ c κs. omega arith) returns (λ c κs. omega arith) returns-2)

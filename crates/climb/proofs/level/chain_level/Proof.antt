@@ -1,7 +1,8 @@
 -- `climb::level::chain_level` meets its contract.
 use native.Mathlib.Omega.{arith}
 use mathlib.Core.Path.{_∙_}
-use Rattle.climb.specs.Levels.{chain-made}
+use Rattle.calls.specs.Area.{emptyLevel}
+use Rattle.climb.specs.Levels.{length-empty, level-still, chain-made}
 use Rattle.climb.proofs.level.chain_level.Statement.{statement}
 use Rattle.climb.proofs.level.chain_level.Tie as tie
 
@@ -12,6 +13,12 @@ returns c =
     let start = clear-level .before .before .before .before in
     join .join .ensures ∙ rw (clear-level .clear-level .ensures) (chain-made (start .pre .0) (start .args .out .now))
 
+join-requires : tie.Need-join-requires
+join-requires c κs =
+    let clear-level = c .before .before .before in
+    let start = clear-level .before .before .before .before in
+    (level-still (start .pre .0) emptyLevel length-empty (clear-level .clear-level .ensures), omega arith, start .pre .1)
+
 pub chain-level-spec : {M : Type 1} → statement M
 chain-level-spec =
-    tie.close (tie.spec (λ c κs. omega arith) (λ c κs. omega arith) (λ c. omega arith) returns)
+    tie.close (tie.spec (λ c κs. omega arith) join-requires (λ c. omega arith) returns)

@@ -1,9 +1,9 @@
 -- `climb::rise::receive` meets its contract.
 use Prim.Native.Nat.{_+_, _-_}
 use native.Mathlib.Omega.{arith}
-use Rattle.calls.specs.Area.{areaLevels}
+use Rattle.tree.specs.Tree.{mostLevels}
 use Rattle.node.specs.Words.{paramsFrom}
-use Rattle.climb.specs.ReceiveLaws.{received, Climb, climb-start, climb-coming, climb-zero, climb-end, climb-part, climb-room, climb-more, climb-none}
+use Rattle.climb.specs.ReceiveLaws.{received, Climb, climb-start, climb-coming, climb-zero, climb-end, climb-joined, climb-part, climb-room, climb-more, climb-none}
 use Rattle.climb.proofs.rise.receive.Statement.{statement}
 use Rattle.climb.proofs.rise.receive.Tie as tie
 
@@ -12,7 +12,7 @@ Inv-loop area₀ params key constants levels outputs log₀ start n₀ i₀ out�
     Climb (paramsFrom key params) (received (paramsFrom key params) levels 2 outputs out₀ area₀) area₀ log₀ start n k i out area log at
 
 abbrev μ-loop : tie.MeasureT-loop
-μ-loop area₀ params key constants levels outputs log₀ start n₀ i₀ out₀ at₀ k₀ area log n i out at k = areaLevels + 1 - k
+μ-loop area₀ params key constants levels outputs log₀ start n₀ i₀ out₀ at₀ k₀ area log n i out at k = mostLevels + 1 - k
 
 loop-holds : tie.Need-loop-holds Inv-loop μ-loop
 loop-holds c = climb-start (c .before .before .before .before .pre)
@@ -42,11 +42,21 @@ returns-2 c =
 make-level-requires : tie.Need-make-level-requires Inv-loop μ-loop
 make-level-requires c κs =
     let test2 = c .before .before in
-    let test = test2 .before .before .before .before .before .before in
+    let join = test2 .before .before .before in
+    let test = join .before .before .before in
     let turn = test .before in
     let at = turn .before in
     let start = at .before .before .before .before .before in
-    (start .pre .ready, omega (arith, climb-room (at .loop .inv) (test .if1 .left) (turn .loop-test .taken) (test2 .if2 .left)))
+    let here = climb-joined (at .loop .inv) (test .if1 .left) (turn .loop-test .taken) (join .join .ensures) in
+    (start .pre .ready, (here, omega (arith, at .loop .inv .small), omega (arith, climb-room (at .loop .inv) (test .if1 .left) (turn .loop-test .taken) (test2 .if2 .left))))
+
+clear-level-requires : tie.Need-clear-level-requires Inv-loop μ-loop
+clear-level-requires c κs =
+    let make-level = c .before .before .before in
+    let join = make-level .before .before .before .before .before .before in
+    let test = join .before .before .before in
+    let turn = test .before in
+    climb-joined (turn .before .loop .inv) (test .if1 .left) (turn .loop-test .taken) (join .join .ensures)
 
 add-at : tie.Need-add-at Inv-loop μ-loop
 add-at c =
@@ -76,5 +86,5 @@ receive-spec =
     (tie.spec
     Inv-loop μ-loop loop-holds (λ c. omega arith) receive-last-requires (λ c. omega arith) (λ c. omega arith)
     returns (λ c. omega arith) (λ c. omega arith) (λ c κs. omega arith) (λ c. omega arith) (λ c. omega arith)
-    returns-2 make-level-requires (λ c κs. omega arith) add-at (λ c. omega arith) (λ c. omega arith)
+    returns-2 make-level-requires clear-level-requires add-at (λ c. omega arith) (λ c. omega arith)
     loop-again (λ c. omega arith) (λ c. omega arith) returns-3)

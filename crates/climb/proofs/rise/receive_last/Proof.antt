@@ -1,5 +1,5 @@
 -- `climb::rise::receive_last` meets its contract.
-use Rattle.climb.specs.ReceiveLaws.{last-held, last-room, last-chained}
+use Rattle.climb.specs.ReceiveLaws.{last-level, last-held, last-room, last-chained}
 use native.Mathlib.Omega.{arith}
 use Rattle.climb.proofs.rise.receive_last.Statement.{statement}
 use Rattle.climb.proofs.rise.receive_last.Tie as tie
@@ -13,8 +13,16 @@ returns c =
 make-level-requires : tie.Need-make-level-requires
 make-level-requires c κs =
     let test = c .before .before in
-    let start = test .before .before .before .before .before .before .before .before .before .before in
-    (start .pre .ready, omega (arith, last-room (start .pre) (test .if1 .left)))
+    let join = test .before .before .before in
+    let start = join .before .before .before .before .before .before .before in
+    (start .pre .ready, (last-level (start .pre) (join .join .ensures), omega (arith, start .pre .small), omega (arith, last-room (start .pre) (test .if1 .left))))
+
+chain-level-requires : tie.Need-chain-level-requires
+chain-level-requires c κs =
+    let make-level = c .before .before .before .before in
+    let join = make-level .before .before .before .before .before .before in
+    let start = join .before .before .before .before .before .before .before in
+    (last-level (start .pre) (join .join .ensures), omega arith)
 
 add-result : tie.Need-add-result
 add-result c =
@@ -36,4 +44,4 @@ receive-last-spec =
     tie.close
     (tie.spec
     (λ c. omega arith) (λ c. omega arith) (λ c κs. omega arith) (λ c. omega arith) returns make-level-requires
-    (λ c. omega arith) (λ c κs. omega arith) add-result (λ c. omega arith) (λ c. omega arith) returns-2)
+    (λ c. omega arith) chain-level-requires add-result (λ c. omega arith) (λ c. omega arith) returns-2)

@@ -1,12 +1,11 @@
 -- `piece::chunk::feed_chunk` meets its contract.
 use Rattle.piece.specs.FeedSteps.{free-le, room-free, room-full, size-pos, base-place}
-use Rattle.piece.specs.ChunkLaws.{chunk-free, chunk-room, chunk-full}
+use Rattle.piece.specs.ChunkLaws.{chunk-free, chunk-room, flushed-long, chunk-full}
 use mathlib.Core.Path.{refl, sym, ap, _∙_}
 use Prim.Native.Nat.{ℕ, _-_}
 use Rattle.lists.specs.Slices.{words-below}
 use Rattle.climb.specs.FlushLaws.{lt-at, le-at}
 use native.Mathlib.Omega.{arith}
-use borrow.Author.Needs.{needs}
 use Rattle.piece.proofs.chunk.feed_chunk.Statement.{statement}
 use Rattle.piece.proofs.chunk.feed_chunk.Tie as tie
 
@@ -43,7 +42,7 @@ flush-requires c κs =
     let test = c .before .before in
     let free-of = test .before in
     let start = free-of .before .before .before .before .before .before in
-    record { ready = start .pre .ready; long = start .pre .part .long; room = chunk-room (start .pre) (le-at (free-of .free-of .ensures) refl (test .if1 .left)) }
+    record { ready = start .pre .ready; long = start .pre .part .long; own = start .pre .own; room = chunk-room (start .pre) (le-at (free-of .free-of .ensures) refl (test .if1 .left)) }
 
 sub-fill-level-2 : tie.Need-sub-fill-level-2
 sub-fill-level-2 c =
@@ -53,13 +52,15 @@ sub-fill-level-2 c =
 fill-level-requires-2 : tie.Need-fill-level-requires-2
 fill-level-requires-2 c κs =
     let size-of = c .before in
-    let test = size-of .before .before .before .before .before .before .before .before in
+    let flush = size-of .before .before .before .before .before in
+    let test = flush .before .before .before in
     let free-of = test .before in
     let start = free-of .before .before .before .before .before .before in
     let a = start .args in
     let S = size-of .size-of .ensures in
-    let r = room-full (a .params .limit) (a .total) (le-at (free-of .free-of .ensures) refl (test .if1 .left)) in (
-      record { long = search needs; low = start .pre .part .low; inside = start .pre .part .inside },
+    let full = le-at (free-of .free-of .ensures) refl (test .if1 .left) in
+    let r = room-full (a .params .limit) (a .total) full in (
+      record { long = flushed-long (start .pre) full (flush .flush .ensures); low = start .pre .part .low; inside = start .pre .part .inside },
       base-place (le-at (sym S) refl (size-pos (a .params .limit) .1)) (le-at refl (r ∙ sym S) (start .pre .most)),
     )
 

@@ -1,5 +1,5 @@
 -- `text::held::has_line`: each return is one of the cases of HeldAt.
-use Rattle.text.proofs.HeldAt.{held-ended, held-first, held-none, held-sequential, held-parallel}
+use Rattle.text.proofs.HeldAt.{held-ended, held-first, held-sequential, held-parallel}
 use native.Mathlib.Omega.{arith}
 use borrow.Author.Needs.{needs}
 use Rattle.text.proofs.held.has_line.Statement.{statement}
@@ -9,21 +9,26 @@ returns : tie.Need-returns
 returns c = held-ended (c .before .before .before .args .area .now) (c .before .before .before .args .level) (c .if1 .taken)
 
 returns-2 : tie.Need-returns-2
-returns-2 c = held-first (c .before .before .before .before .before .before .args .area .now) (c .before .before .before .before .before .before .args .level) (c .before .before .before .if1 .left) (c .if2 .taken)
+returns-2 c =
+    let unended = c .before .before .before in
+    let a = unended .before .before .before .args in
+    held-first (a .area .now) (a .level) (unended .if1 .left) (c .if2 .taken)
 
 returns-3 : tie.Need-returns-3
-returns-3 c = held-none (c .before .before .before .before .before .before .before .args .area .now) (c .before .before .before .before .before .before .before .args .level) (c .before .before .before .before .if1 .left) (omega arith) (omega arith) (c .if3 .taken)
+returns-3 c =
+    let unended = c .before .before .before .before .before in
+    let a = unended .before .before .before .args in
+    rw (c .before .done-blocks .ensures) (held-sequential (a .area .now) (a .level) (unended .if1 .left) (omega arith) (omega arith) (c .if3 .taken))
 
 returns-4 : tie.Need-returns-4
-returns-4 c = rw (c .before .done-blocks .ensures) (held-sequential (c .before .before .before .before .before .before .before .before .before .args .area .now) (c .before .before .before .before .before .before .before .before .before .args .level) (c .before .before .before .before .before .before .if1 .left) (omega arith) (omega arith) (omega arith) (c .if4 .taken))
-
-returns-5 : tie.Need-returns-5
-returns-5 c = rw (c .before .done-blocks .ensures) (held-parallel (c .before .before .before .before .before .before .before .before .before .args .area .now) (c .before .before .before .before .before .before .before .before .before .args .level) (c .before .before .before .before .before .before .if1 .left) (omega arith) (omega arith) (omega arith))
+returns-4 c =
+    let unended = c .before .before .before .before .before in
+    let a = unended .before .before .before .args in
+    rw (c .before .done-blocks .ensures) (held-parallel (a .area .now) (a .level) (unended .if1 .left) (omega arith) (omega arith) (c .if3 .left))
 
 pub has-line-spec : {M : Type 1} → statement M
 has-line-spec =
     tie.close
     (tie.spec
-    (λ c. search needs) returns (λ c. search needs) (λ c. search needs) returns-2 (λ c. search needs)
-    returns-3 (λ c κs. search needs) (λ c. search needs) (λ c. search needs) (λ c. search needs) returns-4
-    returns-5)
+    (λ c. search needs) returns (λ c. search needs) (λ c. search needs) returns-2 (λ c κs. search needs)
+    (λ c. search needs) (λ c. search needs) (λ c. search needs) returns-3 returns-4)

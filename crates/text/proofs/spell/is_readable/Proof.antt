@@ -1,14 +1,14 @@
 -- `text::spell::is_readable` answers by the tests of Readable.
+use mathlib.Core.Path.{ap}
 use mathlib.Core.Bool.{Bool, true, false, cond}
 use mathlib.Core.List.{List}
 use Prim.Native.Nat.{ℕ, _≤_}
 use borrow.Author.Tests.{not-true, not-false}
 use lib.Dec.{eqb}
-use lib.ListN.{getD}
+use lib.ListN.{length, getD}
 use Rattle.text.specs.Text.{roundsBytes, oldRoundsBytes}
 use Rattle.text.specs.FormLaws.{oldEnd}
 use Rattle.text.specs.ReadForms.{formOf}
-use Rattle.text.specs.TextLaws.{length-speltArea}
 use Rattle.text.proofs.Readable.{not-spelt, other-text, decided}
 use native.Mathlib.Omega.{arith}
 use borrow.Author.Needs.{needs}
@@ -38,45 +38,39 @@ returns c =
     let s = p .spell-area in
     not-spelt (w .result) t (s .last .0) (s .result) (w .ensures) (s .ensures) (not-true (s .result) (c .if1 .taken))
 
+-- the words that are lent are enough for every L
 is-sound-requires : tie.Need-is-sound-requires
-is-sound-requires c κs =
-    let p = c .before .before .before .before in
-    let w = p .before .before .width-of in
-    let t = p .before .before .before .before .before .args .text .now in
-    let s = p .spell-area in
-    let e = not-false (s .result) (c .before .if1 .left) in
-    omega (arith, length-speltArea (w .result) (omega (arith, w .ensures, small t)) t (s .last .0) (s .ensures .yes e .0))
+is-sound-requires c κs = omega (arith, ap length (c .before .before .before .before .before .before .before .before .before .pre))
 
 writes-requires : tie.Need-writes-requires
 writes-requires c κs =
     let p = c .before .before .before .before .before .before in
     let w = p .before .before .width-of in
-    let t = p .before .before .before .before .before .args .text .now in
+    let g = p .before .before .before .before .before in
     let s = p .spell-area in
     let e = not-false (s .result) (c .before .before .before .if1 .left) in
-    let y = s .ensures .yes e in
-    (omega (arith, length-speltArea (w .result) (omega (arith, w .ensures, small t)) t (s .last .0) (y .0)), omega (arith, w .ensures, small t), y .1)
+    (omega (arith, ap length (g .pre)), omega (arith, w .ensures, small (g .args .text .now)), s .ensures .yes e .1)
 
 returns-2 : tie.Need-returns-2
 returns-2 c =
     let p = c .before .before .before .before .before .before .before .before in
     let w = p .before .before .width-of in
-    let t = p .before .before .before .before .before .args .text .now in
+    let g = p .before .before .before .before .before in
     let s = p .spell-area in
     let e = not-false (s .result) (c .before .before .before .before .before .if1 .left) in
     let q = c .before .writes in
-    other-text (w .result) t (s .last .0) (s .result) (w .ensures) (s .ensures) (q .result) e (q .ensures) (not-true (q .result) (c .if2 .taken))
+    other-text (w .result) (g .args .text .now) (s .last .0) (s .result) (w .ensures) (s .ensures) e (omega (arith, ap length (g .pre))) (q .result) (q .ensures) (not-true (q .result) (c .if2 .taken))
 
 returns-3 : tie.Need-returns-3
 returns-3 c =
     let p = c .before .before .before .before .before .before .before .before in
     let w = p .before .before .width-of in
-    let t = p .before .before .before .before .before .args .text .now in
+    let g = p .before .before .before .before .before in
     let s = p .spell-area in
     let e = not-false (s .result) (c .before .before .before .before .before .if1 .left) in
     let q = c .before .writes in
     let k = c .before .before .before .is-sound in
-    decided (w .result) t (s .last .0) (s .result) (w .ensures) (s .ensures) (k .result) (q .result) e (k .ensures) (q .ensures) (not-false (q .result) (c .if2 .left))
+    decided (w .result) (g .args .text .now) (s .last .0) (s .result) (w .ensures) (s .ensures) e (omega (arith, ap length (g .pre))) (k .result) (q .result) (k .ensures) (q .ensures) (not-false (q .result) (c .if2 .left))
 
 pub is-readable-spec : {M : Type 1} → statement M
 is-readable-spec =

@@ -3,7 +3,7 @@ use mathlib.Core.Path.{ap}
 use lib.ListN.{length, take}
 use borrow.Author.Tests.{not-true, not-false}
 use Rattle.calls.specs.Area.{headWords}
-use Rattle.text.proofs.Readable.{short-text, head-refused, head-size, wrong-length, levels-ready, spelt-whole}
+use Rattle.text.proofs.Readable.{short-text, head-refused, head-long, own-room, wrong-length, levels-ready, spelt-whole}
 use native.Mathlib.Omega.{arith}
 use borrow.Author.Needs.{needs}
 use Rattle.text.proofs.spell.spell_area.Statement.{statement}
@@ -37,7 +37,7 @@ text-bytes-requires c κs =
     let n = p .before .before .before .head-bytes in
     let g = p .before .before .before .before .before .before in
     let h = p .spell-head in
-    (omega (arith, head-size (g .args .width) (n .result) (g .pre .1) (n .ensures) (g .args .text .now) (h .last .0) (h .result) (g .pre .0) (h .ensures) (not-false (h .result) (c .before .if2 .left))), g .pre .1)
+    (head-long (g .args .width) (n .result) (g .pre .1) (n .ensures) (g .args .text .now) (h .last .0) (h .result) (g .pre .0) (h .ensures) (not-false (h .result) (c .before .if2 .left)), g .pre .1)
 
 returns-3 : tie.Need-returns-3
 returns-3 c =
@@ -48,30 +48,51 @@ returns-3 c =
     let t = c .before .text-bytes in
     wrong-length (g .args .width) (n .result) (g .pre .1) (n .ensures) (g .args .text .now) (h .last .0) (h .result) (g .pre .0) (h .ensures) (not-false (h .result) (c .before .before .before .if2 .left)) (t .result) (t .ensures) (c .if3 .taken)
 
-spell-levels-requires : tie.Need-spell-levels-requires
-spell-levels-requires c κs =
+slice-read-words : tie.Need-slice-read-words
+slice-read-words c =
+    let p = c .before .before .before .before .before .before .before in
+    let n = p .before .before .before .head-bytes in
+    let g = p .before .before .before .before .before .before in
+    let h = p .spell-head in
+    omega (arith, head-long (g .args .width) (n .result) (g .pre .1) (n .ensures) (g .args .text .now) (h .last .0) (h .result) (g .pre .0) (h .ensures) (not-false (h .result) (c .before .before .before .before .if2 .left)))
+
+part-spell-levels-end : tie.Need-part-spell-levels-end
+part-spell-levels-end c =
     let p = c .before .before .before .before .before .before .before .before in
     let n = p .before .before .before .head-bytes in
     let g = p .before .before .before .before .before .before in
     let h = p .spell-head in
-    let t = c .before .before .before .text-bytes in
-    levels-ready (g .args .width) (n .result) (g .pre .1) (n .ensures) (g .args .text .now) (h .last .0) (h .result) (g .pre .0) (h .ensures) (not-false (h .result) (c .before .before .before .before .before .if2 .left)) (t .result) (t .ensures) (c .before .before .if3 .left)
+    own-room (g .args .width) (n .result) (g .pre .1) (n .ensures) (g .args .text .now) (h .last .0) (h .result) (g .pre .0) (h .ensures) (not-false (h .result) (c .before .before .before .before .before .if2 .left)) (c .words .result) (c .words .ensures)
 
-returns-4 : tie.Need-returns-4
-returns-4 c =
-    let p = c .before .before .before .before .before .before .before .before .before .before .before in
+spell-levels-requires : tie.Need-spell-levels-requires
+spell-levels-requires c κs =
+    let k = c .before .before in
+    let t = k .before .before .before in
+    let p = t .before .before .before .before .before in
     let n = p .before .before .before .head-bytes in
     let g = p .before .before .before .before .before .before in
     let h = p .spell-head in
-    let y = not-false (h .result) (c .before .before .before .before .before .before .before .before .if2 .left) in
-    let t = c .before .before .before .before .before .before .text-bytes in
-    let q = c .before .before .spell-levels in
-    spelt-whole (g .args .width) (n .result) (g .pre .1) (n .ensures) (g .args .text .now) (h .last .0) (h .result) (g .pre .0) (h .ensures) y (q .last .0) (q .result) (t .result) (t .ensures) (c .before .before .before .before .before .if3 .left) (q .ensures)
+    levels-ready (g .args .width) (n .result) (g .pre .1) (n .ensures) (g .args .text .now) (h .last .0) (h .result) (g .pre .0) (h .ensures) (not-false (h .result) (t .before .before .if2 .left))
+    (t .text-bytes .result) (k .words .result) (k .words .ensures) (t .text-bytes .ensures) (k .before .before .if3 .left)
+
+returns-4 : tie.Need-returns-4
+returns-4 c =
+    let q = c .before .before in
+    let k = q .before .before .before in
+    let t = k .before .before .before in
+    let p = t .before .before .before .before .before in
+    let n = p .before .before .before .head-bytes in
+    let g = p .before .before .before .before .before .before in
+    let h = p .spell-head in
+    spelt-whole (g .args .width) (n .result) (g .pre .1) (n .ensures) (g .args .text .now) (h .last .0) (h .result) (g .pre .0) (h .ensures) (not-false (h .result) (t .before .before .if2 .left))
+    (t .text-bytes .result) (k .words .result) (k .words .ensures) (t .text-bytes .ensures) (k .before .before .if3 .left)
+    (q .spell-levels .last .0) (q .spell-levels .result) (q .spell-levels .ensures)
 
 pub spell-area-spec : {M : Type 1} → statement M
 spell-area-spec =
     tie.close
     (tie.spec
     (λ c κs. search needs) returns (λ c. search needs) (λ c. search needs) part-spell-head-end spell-head-requires
-    (λ c. search needs) returns-2 text-bytes-requires (λ c. search needs) returns-3 (λ c. search needs)
+    (λ c. search needs) returns-2 text-bytes-requires (λ c. search needs) returns-3 slice-read-words
+    (λ c κs. search needs) (λ c. search needs) (λ c. search needs) part-spell-levels-end (λ c. search needs)
     (λ c. search needs) (λ c. search needs) spell-levels-requires (λ c. search needs) returns-4)

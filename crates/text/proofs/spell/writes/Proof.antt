@@ -5,7 +5,7 @@ use Prim.Native.Nat.{ℕ, _-_, _≤_}
 use borrow.Rule.Slice.PartMut.{midOf, putMid}
 use lib.ListN.{length, replicate}
 use Rattle.text.specs.Text.{roundsBytes, textWith, same}
-use Rattle.calls.specs.Area.{areaWords}
+use Rattle.calls.specs.Area.{Long}
 use Rattle.text.specs.LengthLaws.{mostText}
 use Rattle.text.proofs.PutLevels.{again-room, front-length, front-is, front-room}
 use borrow.Author.Needs.{needs}
@@ -13,7 +13,7 @@ use Rattle.text.proofs.spell.writes.Statement.{statement}
 use Rattle.text.proofs.spell.writes.Tie as tie
 
 -- what is written again has room, and stands in front
-module _ (width : ℕ) (area text : List ℕ) (small : width ≤ roundsBytes) (long : areaWords ≤ length area) (size : length text ≡ length (textWith width area)) where
+module _ (width : ℕ) (area text : List ℕ) (small : width ≤ roundsBytes) (long : Long area) (size : length text ≡ length (textWith width area)) where
   room : length text ≤ length {A = ℕ} (replicate mostText 0)
   room = again-room width area text small long size
 
