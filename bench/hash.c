@@ -12,22 +12,11 @@
 
 enum { D = 256, LIMIT = 64, LONG = 64000000, TURNS = 12 };
 
-static struct param params(void)
-{
-    struct param P;
-
-    memset(&P, 0, sizeof P);
-    P.d = D;
-    P.L = LIMIT;
-    P.r = (unsigned)md6_default_rounds(D, 0).count;
-    return P;
-}
-
 static int time_bytes(size_t bytes, unsigned repeats)
 {
     uint8_t *message = get(bytes, 1), ours[32], theirs[64];
     double best = 0, best_second = 0;
-    struct param P = params();
+    struct param P = plain_params(D, LIMIT, md6_default_rounds(D, 0).count);
     struct tree T;
     unsigned k;
     int same;
@@ -63,7 +52,7 @@ static int hash_from(const uint8_t *message, uint64_t start)
 static unsigned differing(const uint8_t *message)
 {
     uint8_t *front = get(LONG, 1), theirs[64];
-    struct param P = params();
+    struct param P = plain_params(D, LIMIT, md6_default_rounds(D, 0).count);
     struct tree T;
     unsigned bad = 0, start;
     size_t i;

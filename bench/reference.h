@@ -1,6 +1,7 @@
 /*
  * The reference of the benchmarks: tests/second/md6ref.c as it stands, with
- * its main under another name, and clocks. Each driver includes this file.
+ * its main under another name, parameters without a key, and clocks. Each
+ * driver includes this file.
  */
 #include <sys/resource.h>
 
@@ -10,6 +11,18 @@
 #include "../tests/second/md6ref.c"
 #undef main
 #pragma GCC diagnostic pop
+
+/* the second program's parameters without a key */
+static inline struct param plain_params(unsigned d, unsigned limit, uint64_t rounds)
+{
+    struct param P;
+
+    memset(&P, 0, sizeof P);
+    P.d = d;
+    P.L = limit;
+    P.r = (unsigned)rounds;
+    return P;
+}
 
 /* seconds by a clock that is never set back */
 static inline double seconds(void)

@@ -47,11 +47,45 @@ uint64_t md6_hash(const uint8_t *message, size_t message_bytes, uint64_t start, 
                   uint64_t d, uint64_t limit, uint64_t rounds,
                   uint8_t *digest, size_t digest_bytes);
 
+/* The digest that md6_hash gives, layer by layer: every node of a level before any of the next. It works in lent words, 16 for each
+ * level-1 node, of which there is one for each 4,096 bits begun (3,072 if `limit` is 0), and one for the empty message;
+ * md6_layer_words tells how many words. It is the fast way for a host that has them, unless `limit` is 0. The count is the number
+ * of nodes of the tree. U and V of each, level by level and index by index, are written to the log from its first word, two words
+ * a node; md6_layer_log_words tells how many. The words end with, 16 for each index, the output of the highest node of that index.
+ * What is past the words used, past the nodes in the log and past the (d + 7) / 8 bytes of the digest stays, and so does everything
+ * if it is refused. What the words and the log held before does not matter. Refuses, the first that holds:
+ *   5  `start` is above 7, or `start` and `bits` together are over 8 times the message's bytes
+ *   1  d is not 1 to 512
+ *   2  the key has over 64 bytes
+ *   3  `limit` is over 64
+ *   4  `rounds` is over 4,095
+ *   9  `digest` has fewer than (d + 7) / 8 bytes
+ *   7  `words` has fewer than 16 words for each level-1 node
+ *   8  the log has fewer than two words for each node
+ */
+md6_answer md6_layers(const uint8_t *message, size_t message_bytes, uint64_t start, uint64_t bits,
+                      const uint8_t *key, size_t key_bytes,
+                      uint64_t d, uint64_t limit, uint64_t rounds,
+                      uint64_t *words, size_t words_count,
+                      uint64_t *log, size_t log_words,
+                      uint8_t *digest, size_t digest_bytes);
+
+/* As count, the words that md6_layers needs for a message of `bits` bits at height limit `limit`: exactly 16 for each level-1 node.
+ * With that many words it does not answer 7, and with one fewer it does, unless it refuses for a reason that comes before. Refuses:
+ *   3  `limit` is over 64
+ */
+md6_answer md6_layer_words(uint64_t bits, uint64_t limit);
+
+/* As count, the words of log that md6_layers needs for such a message: exactly two for each node of its tree. Refuses:
+ *   3  `limit` is over 64
+ */
+md6_answer md6_layer_log_words(uint64_t bits, uint64_t limit);
+
 /* As count, the default rounds for a digest of d bits under a key of `key_bytes` bytes: without a key 40 + d/4, rounded down;
  * with a key of any byte the larger of 80 and that. Refuses, the first that holds:
  *   1  d is not 1 to 512
  *   2  `key_bytes` is over 64
- * Rounds that a caller gives to md6_hash or md6_open are used as given.
+ * Rounds that a caller gives to md6_hash, md6_layers or md6_open are used as given.
  */
 md6_answer md6_default_rounds(uint64_t d, uint64_t key_bytes);
 

@@ -17,10 +17,13 @@ import shutil
 import sys
 import tempfile
 
-# The ten public calls, each with the source that has it; those of the exports are all that the file exports.
+# The thirteen public calls, each with the source that has it; those of the exports are all that the file exports.
 CALLS = [
     ("hash", "lib", "hash"),
     ("hash", "lib", "default_rounds"),
+    ("layers", "lib", "layers"),
+    ("layers", "lib", "layer_words"),
+    ("layers", "lib", "layer_log_words"),
     ("stream", "lib", "open"),
     ("stream", "lib", "feed"),
     ("stream", "close", "end"),

@@ -4,6 +4,7 @@ import sys
 
 SLICES = {"&[u8]": "const uint8_t *", "&mut [u8]": "uint8_t *", "&[u64]": "const uint64_t *", "&mut [u64]": "uint64_t *"}
 SIZES = {"8": "_bytes", "64": "_words"}
+LENT_WORDS = {"words": "words_count"}  # a slice that is itself called words
 
 
 def exported(source):
@@ -15,7 +16,7 @@ def exported(source):
             n, t = [x.strip() for x in p.split(":", 1)]
             if t in SLICES:
                 c.append(SLICES[t] + n)
-                c.append("size_t " + n + SIZES[re.search(r"u(\d+)", t)[1]])
+                c.append("size_t " + LENT_WORDS.get(n, n + SIZES[re.search(r"u(\d+)", t)[1]]))
             elif t == "u64":
                 c.append("uint64_t " + n)
             else:
@@ -54,6 +55,7 @@ if "--self" in sys.argv:
         (h, s.replace("limit: u64,\n    rounds: u64,", "rounds: u64,\n    limit: u64,", 1), n),
         (h.replace("uint64_t d, uint64_t limit", "uint64_t limit, uint64_t d", 1), s, n),
         (h.replace("const uint8_t *text", "uint8_t *text", 1), s, n),
+        (h, s.replace("words: &mut [u64],\n    log: &mut [u64],", "log: &mut [u64],\n    words: &mut [u64],", 1), n),
     ]
     missed = [i for i, w in enumerate(wrong) if w == tuple(files) or not faults(*w)[0]]
     print("self-test: %d faults put in, %s" % (len(wrong), "not found: %s" % missed if missed else "each found"))

@@ -6,36 +6,40 @@
  * as it was painted tells how far the call went, with its parameters and return address. What an empty call touches is taken off.
  * Only what is touched counts: a frame may be larger than what a call writes to it.
  *
- * The inputs are those that go deep: trees and chains of up to 7 levels, feeds and ends that make a node at each of 27, the longest
- * text, and short areas, which may not cost more; with few rounds and with ROUNDS, which are 4,095 unless they are given (255 for an archive from before M-108, which also
- * refuses the text of the other form). md6_hash goes down the tree level by level and needs more for each; what it would need for
- * 27 levels, which no message in memory has, is worked out from that and said to be.
+ * The inputs are those that go deep: trees and chains of up to 7 levels, whole and layer by layer, feeds and ends that make a node
+ * at each of 27, the longest text, and short areas, which may not cost more; with few rounds and with ROUNDS, which are 4,095 unless
+ * they are given (255 for an archive from before M-108, which also refuses the text of the other form). md6_hash goes down the tree
+ * level by level and needs more for each; what it would need for 27 levels, which no message in memory has, is worked out from that
+ * and said to be.
  */
 #include <ucontext.h>
 
 #include "form.h"
 
-enum { STACK_WORDS = 1 << 17, MESSAGE_BYTES = 1 << 20, MEMORY_LEVELS = 7, LOG_WORDS = 1 << 13 };
+enum { STACK_WORDS = 1 << 17, MESSAGE_BYTES = 1 << 20, MEMORY_LEVELS = 7, LOG_WORDS = 1 << 13, LAYER_ROOM = 1 << 16 };
 
 /* The most bytes of stack that each call may take, the figures of docs/C.md. Those of md6_hash are for one level; each level more
  * may take A_LEVEL. */
-enum call { HASH, DEFAULT_ROUNDS, AREA_WORDS, OPEN, FEED, END, TELL, WRITE, READ, CALLS };
+enum call { HASH, LAYERS, LAYER_WORDS, LAYER_LOG_WORDS, DEFAULT_ROUNDS, AREA_WORDS, OPEN, FEED, END, TELL, WRITE, READ, CALLS };
 static const struct { const char *name; size_t most; } calls[CALLS] = {
-    [HASH] = { "md6_hash", 12288 },
+    [HASH] = { "md6_hash", 14336 },
+    [LAYERS] = { "md6_layers", 13312 },
+    [LAYER_WORDS] = { "md6_layer_words", 512 },
+    [LAYER_LOG_WORDS] = { "md6_layer_log_words", 512 },
     [DEFAULT_ROUNDS] = { "md6_default_rounds", 512 },
     [AREA_WORDS] = { "md6_area_words", 512 },
     [OPEN] = { "md6_open", 512 },
-    [FEED] = { "md6_feed", 9216 },
+    [FEED] = { "md6_feed", 11776 },
     [END] = { "md6_end", 10752 },
     [TELL] = { "md6_log_words", 512 },
     [WRITE] = { "md6_write", 512 },
     [READ] = { "md6_read", 42496 },
 };
-enum { A_LEVEL = 1792 };
+enum { A_LEVEL = 1280 };
 
 /* what is lent to the calls, and their answer */
 static uint8_t message[MESSAGE_BYTES + 1], digest[64], text[MD6_TEXT_BYTES];
-static uint64_t area[MD6_AREA_WORDS], kept[MD6_AREA_WORDS], log_words[LOG_WORDS], start, bits;
+static uint64_t area[MD6_AREA_WORDS], kept[MD6_AREA_WORDS], log_words[LOG_WORDS], layer_words[LAYER_ROOM], start, bits;
 static size_t text_bytes;
 static struct params p;
 static md6_answer answer;
@@ -50,6 +54,21 @@ static void no_call(void)
 static void hash_call(void)
 {
     answer.number = md6_hash(message, sizeof message, start, bits, p.key, p.key_bytes, p.d, p.limit, p.rounds, digest, sizeof digest);
+}
+
+static void layers_call(void)
+{
+    answer = md6_layers(message, sizeof message, start, bits, p.key, p.key_bytes, p.d, p.limit, p.rounds, layer_words, LAYER_ROOM, log_words, LOG_WORDS, digest, sizeof digest);
+}
+
+static void layer_words_call(void)
+{
+    answer = md6_layer_words(bits, p.limit);
+}
+
+static void layer_log_words_call(void)
+{
+    answer = md6_layer_log_words(bits, p.limit);
 }
 
 static void default_rounds_call(void)
@@ -202,6 +221,28 @@ static void hashes(void)
     expect(step <= A_LEVEL, "a level of md6_hash takes more of the stack than it may");
 }
 
+/* layer by layer: one node, a chain, 1 MB with the last level sequential and with 7 levels, none of which is; then what is told for
+ * the longest message */
+static void layers(void)
+{
+    start = 3;
+    p.limit = 64;
+    bits = 4096;
+    measure(LAYERS, layers_call, "4,096 bits, L = 64, 1 level", 0);
+    bits = 8 * (uint64_t)MESSAGE_BYTES;
+    measure(LAYERS, layers_call, "1 MB, L = 64, 7 levels", 0);
+    p.limit = 0;
+    measure(LAYERS, layers_call, "1 MB, L = 0", 0);
+    p.limit = 2;
+    measure(LAYERS, layers_call, "1 MB, L = 2, 3 levels", 0);
+    bits = 8 * sizeof message;
+    measure(LAYERS, layers_call, "more bits than there are", 5);
+    p.limit = 64;
+    bits = UINT64_MAX;
+    measure(LAYER_WORDS, layer_words_call, "the longest message", 0);
+    measure(LAYER_LOG_WORDS, layer_log_words_call, "the longest message", 0);
+}
+
 /* feeds and ends: a bit that makes a node at each level that can have one, a long piece, an end at each of 27 levels */
 static void streams(void)
 {
@@ -294,6 +335,7 @@ int main(int argc, char **argv)
     random_bytes(p.key, sizeof p.key);
     printf("%-64s%5s%4" PRIu64 "%5s%4" PRIu64 "%9s\n", "bytes of stack", "r =", rounds[0], "r =", rounds[1], "at most");
     hashes();
+    layers();
     streams();
     others();
     short_areas();

@@ -50,7 +50,7 @@ impl Area {
     pub const LEVEL: usize = 64;
 
     // The words of an output.
-    pub const OUTPUT: usize = Block::OUTPUT_BITS as usize / 64;
+    pub const OUTPUT: usize = Block::OUTPUT_WORDS as usize;
 
     // The first word past level 1.
     pub const FIRST_END: usize = Area::HEAD + Area::LEVEL;

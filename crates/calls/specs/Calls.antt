@@ -9,7 +9,7 @@ use Rattle.lists.specs.Part.{put}
 use Rattle.bits.specs.Bits.{bits, spell}
 use Rattle.bits.specs.Piece.{Piece, pieceBits, bitsTest}
 use Rattle.tree.specs.Tree.{Params, Node, blockBits, sequentialBits, outputBits, words, keyWords, node, output, lastOr, noNode, digestBytes, rootDigest}
-use Rattle.refusals.specs.Refusals.{firstRefusal, answerOf, Told, limitTest, paramTests, outputTest}
+use Rattle.refusals.specs.Refusals.{firstRefusal, answerOf, Told, toldFor, paramTests, outputTest}
 use Rattle.calls.specs.Area.{blockWords, outputWords, areaLevels, areaWords, ownLevels, ownWords, phaseOf, totalOf, compressionsOf, paramsOf, levelWords, levelsOf, withLevels, emptyLevel, emptyLevels, doneBlocks, heldBits, heldParallel, heldSequential, sound}
 
 -- ---- one bit more
@@ -259,7 +259,4 @@ logWordsOf area n =
 
 -- M-109: the words of an area for an L; "3, 0: L over 64"
 unfoldable pub areaWordsOf : ℕ → Told
-areaWordsOf limit =
-    answerOf (firstRefusal (limitTest limit ∷ []))
-    record { number = 0; count = areaWords limit }
-    (λ k. record { number = k; count = 0 })
+areaWordsOf limit = toldFor limit (areaWords limit)

@@ -3,19 +3,19 @@
 use mathlib.Core.Path.{_≡_, refl, sym, ap, _∙_, subst}
 use mathlib.Core.Bool.{Bool}
 use mathlib.Core.List.{List, [], _∷_, _++_, append-nil}
-use Prim.Native.Nat.{ℕ, zero, suc, _+_, _-_, _*_, _/_, _%_, _≤_, _<_}
+use Prim.Native.Nat.{ℕ, zero, suc, _+_, _-_, _*_, _/_, _%_, _≤_, _<_, zero-le}
 use native.Mathlib.Nat.{zero-add, add-zero, add-comm}
 use native.Mathlib.Numerals.{add-one}
 use native.Mathlib.Omega.{arith}
 use lib.Dec.{T, ltb, ltb→lt}
 use lib.ListN.{length, getD, set, take, drop, length-set, length-drop, replicate}
-use lib.Seq.{paste, paste-suc, drop-paste, getD-take, getD-drop, drop-drop, drop-cons, drop-set-add, take-suc-set, take-take, length-take-le, drop-append-le}
+use lib.Seq.{paste, paste-suc, take-paste, drop-paste, take-all, getD-take, getD-drop, drop-drop, drop-cons, drop-set-add, take-suc-set, take-take, length-take-le, drop-append-le}
 use Rattle.lists.specs.Table.{every, at}
 use Rattle.lists.specs.Take.{drop-take}
 use Rattle.compress.specs.Compress.{shiftsR, shiftsT, word, grown, compressed}
 use Rattle.constants.specs.Constants.{S}
-use Rattle.compress.specs.CompressLaws.{length-grown, grown-suc}
-use Rattle.compress.specs.Buffer.{putAt, putRound, before, after, Advances}
+use Rattle.compress.specs.CompressLaws.{length-grown, grown-zero, grown-suc}
+use Rattle.compress.specs.Buffer.{newWord, putAt, putRound, before, after, Advances}
 
 -- ---- a loop that copies s to the front of d
 
@@ -82,7 +82,7 @@ module _ (xs A : List ℕ) (i t : ℕ) (low : 89 ≤ i) (e : before i xs ≡ dro
 
     put-window : (s r l : ℕ) → s ≡ S (t / 16) → r ≡ getD shiftsR (t % 16) 0 → l ≡ getD shiftsT (t % 16) 0
         → before (i + 1) (putAt i s r l xs) ≡ drop (suc t) (A ++ (word (89 + t) A ∷ []))
-    unfolding putAt word
+    unfolding putAt newWord word
     put-window s r l hs hr hl =
         let z : 89 + t - 89 ≡ t = omega arith in
         slide _ ∙ ap (λ (v : ℕ). drop (suc t) (A ++ (v ∷ [])))
@@ -125,13 +125,18 @@ module _ (N xs : List ℕ) (i q : ℕ) (size : length N ≡ 89) (low : 89 ≤ i)
       let t₁ : 16 * q + 16 ≡ 16 * (q + 1) = omega arith in
       steps 16 (omega arith) ∙ ap (λ (k : ℕ). after k N) t₁
 
+-- the buffer begins with the window: no round is done
+pub loaded : (d N : List ℕ) → length N ≡ 89 → before 89 (paste d 0 N 89) ≡ after (16 * 0) N
+loaded d N size = take-paste d 0 N 89 zero-le (omega arith) ∙ take-all 89 N (omega arith) ∙ rw grown-zero
+
 -- the number of rounds that are done, in other words
-pub reworded : {p q r i k : ℕ} {xs ys : List ℕ} → q ≡ r → Advances p q i xs k ys → Advances p r i xs k ys
-reworded {p} {q} {r} {i} {k} {xs} {ys} e f = subst (λ (m : ℕ). Advances p m i xs k ys) e f
+pub reworded : {lanes p q r i k : ℕ} {xs ys : List ℕ} → q ≡ r → Advances lanes p q i xs k ys → Advances lanes p r i xs k ys
+reworded {lanes} {p} {q} {r} {i} {k} {xs} {ys} e f = subst (λ (m : ℕ). Advances lanes p m i xs k ys) e f
 
 -- rounds after rounds
-pub onward : {p q r i j k : ℕ} {xs ys zs : List ℕ} → Advances p q i xs j ys → Advances q r j ys k zs → Advances p r i xs k zs
-onward f g = record { rule = λ N size e. g .rule N size (f .rule N size e) }
+pub onward : {lanes p q r i m k : ℕ} {xs ys zs : List ℕ} → Advances lanes p q i xs m ys → Advances lanes q r m ys k zs
+    → Advances lanes p r i xs k zs
+onward f g = record { rule = λ j h N size e. g .rule j h N size (f .rule j h N size e) }
 
 -- ---- the output: the 16 words before place i
 

@@ -1,14 +1,16 @@
 // The compression function of MD6. Document 01, "Compression".
 ghost use mathlib.Core.Path.{_≡_};
-ghost use Prim.Native.Nat.{ℕ, _+_, _-_, _≤_, _<_, min};
+ghost use Prim.Native.Nat.{ℕ, _+_, _-_, _*_, _≤_, _<_, min};
 ghost use lib.ListN.{length, drop};
 ghost use lib.Seq.{paste};
 ghost use Rattle.constants.specs.Constants.{RoundTable, tableEntries, partEntries};
 ghost use Rattle.compress.specs.Compress.{Q, compressed};
 ghost use Rattle.compress.specs.Report.{reportStep};
-ghost use Rattle.compress.specs.Buffer.{putAt, putRound, before, Placed, Advances};
+ghost use Rattle.compress.specs.Buffer.{newWord, putAt, putRound, lane, Lanes, before, Sized, Placed, Advances};
 use constants::PART;
 use constants::PARTS;
+
+mod two_lanes; // two_lanes.rt: a buffer of two lanes
 
 // Q: the first 960 bits of the fraction of the square root of 6.
 const Q_WORDS: [u64; 15] = [
@@ -64,26 +66,34 @@ fn step(s: u64, an: u64, a0: u64, a1: u64, a2: u64, a3: u64, a4: u64, r: u64, l:
     x3 ^ (x3 << l)
 }
 
-// Writes word i of the buffer from the words before it.
+// The word to be written at place p of a buffer, from those before it in its lane.
+fn new_word(a: &[u64], lanes: usize, p: usize, s: u64, r: u64, t: u64) -> u64
+    requires { ⌜ (1 ≤ lanes) × (lanes ≤ 2) × (lanes * 89 ≤ p) × (p < length (now a)) × (r < 64) × (t < 64) ⌝ }
+    ensures { λ x. ⌜ x ≡ newWord lanes p s r t (now (a .entry)) ⌝ }
+{
+    step(
+        s,
+        a[p - lanes * 89],
+        a[p - lanes * 17],
+        a[p - lanes * 18],
+        a[p - lanes * 21],
+        a[p - lanes * 31],
+        a[p - lanes * 67],
+        r,
+        t,
+    )
+}
+
+// Writes word i of the only lane.
 fn add_word(a: &mut [u64], i: usize, s: u64, r: u64, t: u64)
     requires { ⌜ (89 ≤ i) × (i < length (now a)) × (r < 64) × (t < 64) ⌝ }
     ensures { λ _. ⌜ now (a .exit) ≡ putAt i s r t (now (a .entry)) ⌝ }
 {
-    a[i] = step(
-        s,
-        a[i - 89],
-        a[i - 17],
-        a[i - 18],
-        a[i - 21],
-        a[i - 31],
-        a[i - 67],
-        r,
-        t,
-    );
+    a[i] = new_word(a, 1, i, s, r, t);
 }
 
-// Writes the 16 words of a round from i on.
-fn round(a: &mut [u64], i: usize, s: u64)
+// Writes the 16 words of a round from i on, of the only lane.
+fn one_lane_round(a: &mut [u64], i: usize, s: u64)
     requires { ⌜ (89 ≤ i) × (i + 16 ≤ length (now a)) ⌝ }
     ensures { λ _. ⌜ now (a .exit) ≡ putRound 16 i s (now (a .entry)) ⌝ }
 {
@@ -93,6 +103,18 @@ fn round(a: &mut [u64], i: usize, s: u64)
     while j < ROUND {
         add_word(a, i + j, s, rs[j], ts[j]);
         j += 1;
+    }
+}
+
+// Writes the 16 words of a round from word i on, of every lane.
+fn round(a: &mut [u64], lanes: usize, i: usize, s: u64)
+    requires { ⌜ Sized lanes (now a) × (89 ≤ i) × (i + 16 ≤ 345) ⌝ }
+    ensures { λ _. ⌜ Lanes lanes (putRound 16 i s) (now (a .entry)) (now (a .exit)) ⌝ }
+{
+    if lanes == 1 {
+        one_lane_round(a, i, s);
+    } else {
+        two_lanes::round(a, i, s);
     }
 }
 
@@ -108,15 +130,15 @@ fn move_to_front(a: &mut [u64], b: usize, n: usize)
     }
 }
 
-// Where the next round is written: at, or 89 after the last 89 words of a full buffer were moved to its front.
-fn next_place(a: &mut [u64], at: usize) -> usize
-    requires { ⌜ Placed (now a) at ⌝ }
-    ensures { λ r. ⌜ Placed (now (a .exit)) r × (r + 16 ≤ 345) × (before r (now (a .exit)) ≡ before at (now (a .entry))) ⌝ }
+// Where the next round is written: at, or 89 after the last 89 words of each lane of a full buffer were moved to its front.
+fn next_place(a: &mut [u64], lanes: usize, at: usize) -> usize
+    requires { ⌜ Placed lanes (now a) at ⌝ }
+    ensures { λ r. ⌜ Placed lanes (now (a .exit)) r × (r + 16 ≤ 345) × ((j : ℕ) → j < lanes → before r (lane lanes j (now (a .exit))) ≡ before at (lane lanes j (now (a .entry)))) ⌝ }
 {
     if at < BUFFER {
         at
     } else {
-        move_to_front(a, WRITTEN, WINDOW);
+        move_to_front(a, lanes * WRITTEN, lanes * WINDOW);
         WINDOW
     }
 }
@@ -129,15 +151,15 @@ fn least(a: usize, b: usize) -> usize
 }
 
 // So many rounds with the first constants of a part, written from `at` on. The place after them.
-fn some_rounds(a: &mut [u64], at: usize, part: &[u64], n: usize) -> usize
-    requires { ⌜ Placed (now a) at × (n ≤ length (now part)) ⌝ }
-    ensures { λ r. ⌜ Placed (now (a .exit)) r × ((q : ℕ) → RoundTable q (now (part .entry)) → Advances q (q + n) at (now (a .entry)) r (now (a .exit))) ⌝ }
+fn some_rounds(a: &mut [u64], lanes: usize, at: usize, part: &[u64], n: usize) -> usize
+    requires { ⌜ Placed lanes (now a) at × (n ≤ length (now part)) ⌝ }
+    ensures { λ r. ⌜ Placed lanes (now (a .exit)) r × ((q : ℕ) → RoundTable q (now (part .entry)) → Advances lanes q (q + n) at (now (a .entry)) r (now (a .exit))) ⌝ }
 {
     let mut place = at;
     let mut k = 0;
     while k < n {
-        place = next_place(a, place);
-        round(a, place, part[k]);
+        place = next_place(a, lanes, place);
+        round(a, lanes, place, part[k]);
         place += ROUND;
         k += 1;
     }
@@ -146,9 +168,9 @@ fn some_rounds(a: &mut [u64], at: usize, part: &[u64], n: usize) -> usize
 
 // The rounds after the first 273, if there are any: the next part is fetched when they come to it. The place after them. The first
 // test says again what the loop's says, so that the compiler leaves out the loop where it is not needed.
-fn later_rounds(a: &mut [u64], at: usize, rounds: usize) -> usize
-    requires { ⌜ Placed (now a) at × (rounds ≤ tableEntries) ⌝ }
-    ensures { λ r. ⌜ Placed (now (a .exit)) r × Advances (min rounds partEntries) rounds at (now (a .entry)) r (now (a .exit)) ⌝ }
+fn later_rounds(a: &mut [u64], lanes: usize, at: usize, rounds: usize) -> usize
+    requires { ⌜ Placed lanes (now a) at × (rounds ≤ tableEntries) ⌝ }
+    ensures { λ r. ⌜ Placed lanes (now (a .exit)) r × Advances lanes (min rounds partEntries) rounds at (now (a .entry)) r (now (a .exit)) ⌝ }
 {
     if rounds <= PART {
         return at;
@@ -162,24 +184,56 @@ fn later_rounds(a: &mut [u64], at: usize, rounds: usize) -> usize
         }
         let s = constants::part(part);
         let n = least(rounds - done, PART);
-        place = some_rounds(a, place, &s, n);
+        place = some_rounds(a, lanes, place, &s, n);
         part += 1;
     }
     place
 }
 
-// The compression function: so many rounds on a window. The constants of the first 273 rounds are lent; more rounds fetch theirs.
+// So many rounds on the windows at the front of the lanes. The place after them. The constants of the first 273 rounds are lent;
+// more rounds fetch theirs.
+fn all_rounds(a: &mut [u64], lanes: usize, first: &[u64], rounds: usize) -> usize
+    requires { ⌜ Sized lanes (now a) × RoundTable 0 (now first) × (length (now first) ≡ partEntries) × (rounds ≤ tableEntries) ⌝ }
+    ensures { λ r. ⌜ Placed lanes (now (a .exit)) r × Advances lanes 0 rounds 89 (now (a .entry)) r (now (a .exit)) ⌝ }
+{
+    let n = least(rounds, PART);
+    let at = some_rounds(a, lanes, WINDOW, first, n);
+    later_rounds(a, lanes, at, rounds)
+}
+
+// The compression function: so many rounds on a window.
 pub fn compress(window: &[u64; WINDOW], first: &[u64], rounds: usize) -> [u64; ROUND]
     requires { ⌜ RoundTable 0 (now first) × (length (now first) ≡ partEntries) × (rounds ≤ tableEntries) ⌝ }
     ensures { λ c. ⌜ c ≡ compressed rounds (now (window .entry)) ⌝ }
 {
     let mut a = [0u64; BUFFER];
     words::copy(&mut a, 0, window);
-    let n = least(rounds, PART);
-    let mut at = some_rounds(&mut a, WINDOW, first, n);
-    at = later_rounds(&mut a, at, rounds);
+    let at = all_rounds(&mut a, 1, first, rounds);
     let mut c = [0u64; ROUND];
     let e = at - ROUND;
     words::copy(&mut c, 0, &a[e..at]);
     c
+}
+
+// The outputs of two windows.
+pub struct Two {
+    pub first: [u64; ROUND],
+    pub second: [u64; ROUND],
+}
+
+// The compression function on two windows at a time, one in each lane.
+pub fn compress_two(one: &[u64; WINDOW], other: &[u64; WINDOW], first: &[u64], rounds: usize) -> Two
+    requires { ⌜ RoundTable 0 (now first) × (length (now first) ≡ partEntries) × (rounds ≤ tableEntries) ⌝ }
+    ensures { λ c. ⌜ (c .first ≡ compressed rounds (now (one .entry))) × (c .second ≡ compressed rounds (now (other .entry))) ⌝ }
+{
+    let mut a = [0u64; 2 * BUFFER];
+    two_lanes::put_window(&mut a, 0, one);
+    two_lanes::put_window(&mut a, 1, other);
+    let at = all_rounds(&mut a, 2, first, rounds);
+    let first_output = two_lanes::output(&a, 0, at);
+    let second_output = two_lanes::output(&a, 1, at);
+    Two {
+        first: first_output,
+        second: second_output,
+    }
 }

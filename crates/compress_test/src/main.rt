@@ -103,27 +103,37 @@ fn first_example(first: &[u64])
     print_all(0, &w, first);
 }
 
-// A node of C.2, with the key "abcde12345": its words are printed, and its output is returned.
-fn keyed(node: usize, u: u64, v: u64, block: &[u64; 64], first: &[u64]) -> [u64; 16]
+// A window of C.2, with the key "abcde12345".
+fn keyed(u: u64, v: u64, block: &[u64; 64]) -> [u64; 89] {
+    window_of(0x6162636465313233, 0x3435000000000000, u, v, block)
+}
+
+// The leaves of C.2, whose words are printed, and the block of the root over them. They are compressed two at a time, so that the
+// root's window, which the report prints, has the outputs of both.
+fn leaves(first: &[u64]) -> [u64; 64]
     requires { ⌜ RoundTable 0 (now first) × (length (now first) ≡ partEntries) ⌝ }
 {
-    let w = window_of(0x6162636465313233, 0x3435000000000000, u, v, block);
-    print_all(node, &w, first);
-    compress::compress(&w, first, 5)
+    let mut left = [0u64; 64];
+    fill(&mut left, 0);
+    let one = keyed(0x0100000000000000, 0x000540000000a0e0, &left);
+    print_all(1, &one, first);
+    let mut right = [0u64; 64];
+    fill(&mut right[..11], 64);
+    let other = keyed(0x0100000000000001, 0x00054000d400a0e0, &right);
+    print_all(2, &other, first);
+    let two = compress::compress_two(&one, &other, first, 5);
+    let c = two.first;
+    let d = two.second;
+    joined(&c, &d)
 }
 
 // C.2: 600 bytes, d = 224, r = 5: two leaves, and the root over their outputs.
 fn second_example(first: &[u64])
     requires { ⌜ RoundTable 0 (now first) × (length (now first) ≡ partEntries) ⌝ }
 {
-    let mut left = [0u64; 64];
-    fill(&mut left, 0);
-    let c = keyed(1, 0x0100000000000000, 0x000540000000a0e0, &left, first);
-    let mut right = [0u64; 64];
-    fill(&mut right[..11], 64);
-    let d = keyed(2, 0x0100000000000001, 0x00054000d400a0e0, &right, first);
-    let above = joined(&c, &d);
-    keyed(3, 0x0200000000000000, 0x000540108000a0e0, &above, first);
+    let above = leaves(first);
+    let root = keyed(0x0200000000000000, 0x000540108000a0e0, &above);
+    print_all(3, &root, first);
 }
 
 // A node of C.3, of which the report prints only the window and the output: U and V, the output before it, and so many

@@ -9,9 +9,13 @@ use Rattle.bits.specs.Piece.{Piece, pieceBits, bitsTest}
 use Rattle.tree.specs.Tree.{Params, digestBytes, digest, order}
 use Rattle.refusals.specs.Refusals.{firstRefusal, answerOf, Told, sizeTests, paramTests, outputTest}
 
--- "Whole message 5, 1, 2, 3, 4, 9"; 0 if it is accepted
+-- "Whole message 5, 1, 2, 3, 4, 9"
+abbrev pub hashTests : Piece → Params → List ℕ → List (Bool × ℕ)
+hashTests message P out = bitsTest message ∷ paramTests P ++ (outputTest (digestBytes (P .d)) out ∷ [])
+
+-- the number of the first that holds, and 0 if none does: then it is accepted
 unfoldable pub hashNumber : Piece → Params → List ℕ → ℕ
-hashNumber message P out = firstRefusal (bitsTest message ∷ paramTests P ++ (outputTest (digestBytes (P .d)) out ∷ []))
+hashNumber message P out = firstRefusal (hashTests message P out)
 
 -- the number, the count, and the output on exit
 pub record Hashed : Type 0 where

@@ -42,7 +42,7 @@ pub fn default_rounds(d: u64, keylen: u64) -> Answer
 }
 
 // The number that refuses the whole-message call, and otherwise 0.
-fn hash_number(message: &[u8], span: Span, key: &[u8], params: Params, digest: &[u8]) -> u64
+pub fn hash_number(message: &[u8], span: Span, key: &[u8], params: Params, digest: &[u8]) -> u64
     requires { ⌜ params .keylen ≡ length (now key) ⌝ }
     ensures { λ r. ⌜ r ≡ hashNumber (spanned (now (message .entry)) span) (withKey (now (key .entry)) params) (now (digest .entry)) ⌝ }
 {

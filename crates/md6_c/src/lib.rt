@@ -1,6 +1,7 @@
 // The face for a host program in C (include/md6.h).
 ghost use mathlib.Core.Path.{_≡_};
 ghost use Rattle.hash.specs.Hash.{Hashed, hashOf, defaultRoundsOf};
+ghost use Rattle.layers.specs.Layers.{layersOf, layerWordsOf, layerLogWordsOf};
 ghost use Rattle.calls.specs.Calls.{areaWordsOf, openOf, feedOf, endOf, logWordsOf};
 ghost use Rattle.text.specs.Text.{writeOf, readOf};
 
@@ -20,6 +21,52 @@ pub extern "C" fn md6_hash(
 {
     let answer = hash::hash(message, start, bits, key, d, limit, rounds, digest);
     answer.number
+}
+
+// The digest of a whole message, from its start bit on, layer by layer in lent words, with a log of its nodes.
+#[no_mangle]
+pub extern "C" fn md6_layers(
+    message: &[u8],
+    start: u64,
+    bits: u64,
+    key: &[u8],
+    d: u64,
+    limit: u64,
+    rounds: u64,
+    words: &mut [u64],
+    log: &mut [u64],
+    digest: &mut [u8],
+) -> refusals::Answer
+    ensures { λ o. ⌜ record { number = o .number; count = o .count; words = now (words .exit); log = now (log .exit); digest = now (digest .exit) } ≡ layersOf (record { bytes = now (message .entry); start = start; count = bits }) (record { key = now (key .entry); d = d; limit = limit; rounds = rounds }) (now (words .entry)) (now (log .entry)) (now (digest .entry)) ⌝ }
+{
+    layers::layers(
+        message,
+        start,
+        bits,
+        key,
+        d,
+        limit,
+        rounds,
+        words,
+        log,
+        digest,
+    )
+}
+
+// Tells how many words md6_layers needs for so many bits and a height limit.
+#[no_mangle]
+pub extern "C" fn md6_layer_words(bits: u64, limit: u64) -> refusals::Answer
+    ensures { λ o. ⌜ record { number = o .number; count = o .count } ≡ layerWordsOf bits limit ⌝ }
+{
+    layers::layer_words(bits, limit)
+}
+
+// Tells how many words of log it needs for them.
+#[no_mangle]
+pub extern "C" fn md6_layer_log_words(bits: u64, limit: u64) -> refusals::Answer
+    ensures { λ o. ⌜ record { number = o .number; count = o .count } ≡ layerLogWordsOf bits limit ⌝ }
+{
+    layers::layer_log_words(bits, limit)
 }
 
 // Tells the default rounds for a digest size and a key length.

@@ -52,12 +52,14 @@ module _ {k : List ℕ} {params : declared.Params} {constants : List ℕ} (ready
   unfolding paramsFrom
   v-made z p = rw (length-numbers 8 (params .keylen) (bitsOf 64 k), length-replicate {A = ℕ} (params .keylen) 0)
 
-  pub words-made : (place : Place) (block : List ℕ) → FieldsFit place block → Below (2 ^ 64) block
-      → compressed (params .rounds) (windowOf k (nodeU (place .level) (place .index)) (nodeV (paramsFrom k params) (place .z) (place .p)) block) ≡ nodeWords (paramsFrom k params) (place .level) (place .index) (place .z) (place .p) block
+  pub words-made : (place : Place) (block w : List ℕ) → FieldsFit place block → Below (2 ^ 64) block
+      → w ≡ windowOf k (nodeU (place .level) (place .index)) (nodeV (sized params) (place .z) (place .p)) block
+      → compressed (params .rounds) w ≡ nodeWords (paramsFrom k params) (place .level) (place .index) (place .z) (place .p) block
   unfolding nodeWords paramsFrom
-  words-made place block f below =
+  words-made place block w f below e =
       let P : Params = paramsFrom k params in
       let N : Node = node P (place .level) (place .index) (place .z) (place .p) block in
-      ap (λ (K : List ℕ). compressed (P .rounds) (windowOf K (N .u) (N .v) block)) (sym (ready .key))
+      ap (compressed (params .rounds)) (e ∙ ap (λ (v : ℕ). windowOf k (N .u) v block) (v-made (place .z) (place .p)))
+      ∙ ap (λ (K : List ℕ). compressed (P .rounds) (windowOf K (N .u) (N .v) block)) (sym (ready .key))
       ∙ sym (words-output (P .rounds) N (length-keyWords (P .key)) (f .4)
       (record { k = keyWords-below (P .key); u = nodeU-below (place .level) (place .index) (f .0) (f .1); v = nodeV-below P (place .z) (place .p) valid (f .2) (f .3); block = below }))

@@ -1,9 +1,12 @@
-// One node, and what the whole-message call and the stream share: blocks, K and the digest, how many nodes a tree has.
+// One node, and what the whole-message call, the stream and the call by layers share: blocks, K and the digest, how many nodes a tree has.
 ghost use mathlib.Core.Path.{_≡_};
-ghost use Prim.Native.Nat.{_+_, _-_, _*_, _<_, _^_};
-ghost use lib.ListN.{replicate};
+ghost use Prim.Native.Nat.{_<_, _^_};
+ghost use lib.ListN.{length, replicate};
+ghost use Rattle.compress.specs.Compress.{windowOf};
+ghost use Rattle.refusals.specs.RefusalLaws.{InRange};
 ghost use Rattle.tree.specs.Tree.{blockBits, sequentialBits, nodeU, nodeV};
 ghost use Rattle.node.specs.Words.{sized, nodeWords, FieldsFit, paramsFrom, Ready};
+use compress::Two;
 use refusals::Params;
 
 pub mod count; // count.rt: how many blocks something fills, and how many nodes a tree has
@@ -34,8 +37,10 @@ impl Block {
 
     pub const SEQUENTIAL_BYTES: u64 = Block::SEQUENTIAL_BITS / 8;
 
-    // The bits of the output that a block is compressed to.
+    // The bits of the output that a block is compressed to, and its words.
     pub const OUTPUT_BITS: u64 = 1024;
+
+    pub const OUTPUT_WORDS: u64 = Block::OUTPUT_BITS / 64;
 
     // A block that holds nothing.
     pub fn new() -> Self
@@ -75,7 +80,23 @@ pub fn node_v(params: Params, z: u64, p: u64) -> u64
     ((high * 65536 + p) * 256 + params.keylen) * 4096 + params.d
 }
 
-// The 16 words of the node with this place and block: the window is Q, K, U, V and the block.
+// The window of the node with this place and block: Q, K, U, V and the block.
+fn window(params: Params, k: &[u64], place: Place, block: &[u64]) -> [u64; 89]
+    requires { ⌜ InRange (params .keylen) (params .d) (params .limit) (params .rounds) × (length (now k) ≡ 8) ⌝ }
+    requires { ⌜ FieldsFit place (now block) ⌝ }
+    ensures { λ w. ⌜ w ≡ windowOf (now (k .entry)) (nodeU (place .level) (place .index)) (nodeV (sized params) (place .z) (place .p)) (now (block .entry)) ⌝ }
+{
+    let q = compress::q_words();
+    let mut w = [0u64; 89];
+    words::copy(&mut w, 0, &q);
+    words::copy(&mut w, 15, k);
+    w[23] = node_u(place.level, place.index);
+    w[24] = node_v(params, place.z, place.p);
+    words::copy(&mut w, 25, block);
+    w
+}
+
+// The 16 words of the node with this place and block.
 pub fn compress_node(
     params: Params,
     k: &[u64],
@@ -87,12 +108,25 @@ pub fn compress_node(
     requires { ⌜ FieldsFit place (now block) ⌝ }
     ensures { λ r. ⌜ r ≡ nodeWords (paramsFrom (now (k .entry)) params) (place .level) (place .index) (place .z) (place .p) (now (block .entry)) ⌝ }
 {
-    let q = compress::q_words();
-    let mut window = [0u64; 89];
-    words::copy(&mut window, 0, &q);
-    words::copy(&mut window, 15, k);
-    window[23] = node_u(place.level, place.index);
-    window[24] = node_v(params, place.z, place.p);
-    words::copy(&mut window, 25, block);
-    compress::compress(&window, constants, params.rounds as usize)
+    let w = window(params, k, place, block);
+    compress::compress(&w, constants, params.rounds as usize)
+}
+
+// The words of two nodes of one tree, made together.
+pub fn compress_two(
+    params: Params,
+    k: &[u64],
+    constants: &[u64],
+    one: Place,
+    one_block: &[u64],
+    other: Place,
+    other_block: &[u64],
+) -> Two
+    requires { ⌜ Ready (now k) params (now constants) ⌝ }
+    requires { ⌜ FieldsFit one (now «one_block») × FieldsFit other (now «other_block») ⌝ }
+    ensures { λ r. ⌜ (r .first ≡ nodeWords (paramsFrom (now (k .entry)) params) (one .level) (one .index) (one .z) (one .p) (now («one_block» .entry))) × (r .second ≡ nodeWords (paramsFrom (now (k .entry)) params) (other .level) (other .index) (other .z) (other .p) (now («other_block» .entry))) ⌝ }
+{
+    let w = window(params, k, one, one_block);
+    let v = window(params, k, other, other_block);
+    compress::compress_two(&w, &v, constants, params.rounds as usize)
 }

@@ -20,7 +20,7 @@ use Rattle.node.specs.NodeLaws.{paste-at}
 use Rattle.lists.specs.Replicate.{drop-replicate}
 use Rattle.lists.specs.Take.{drop-take}
 
-take-min : {A : Type 0} (a b : ℕ) (l : List A) → take a (take b l) ≡ take (min a b) l
+pub take-min : {A : Type 0} (a b : ℕ) (l : List A) → take a (take b l) ≡ take (min a b) l
 take-min zero b l = let e : min 0 b ≡ 0 = omega arith in rw e
 take-min (suc a) zero l = let e : min (suc a) 0 ≡ 0 = omega arith in rw e
 take-min (suc a) (suc b) [] = let e : min (suc a) (suc b) ≡ suc (min a b) = omega arith in rw e

@@ -25,7 +25,7 @@ use Rattle.node.specs.WordLaws.{output-words}
 -- ---- the words of a block
 
 -- a block of n words cut out of padded bits
-part-words : (n size p : ℕ) (X : List Bool) (j : ℕ) → n * 64 ≡ size → size * j ≤ length X → size * j + size ≤ length X + p
+pub part-words : (n size p : ℕ) (X : List Bool) (j : ℕ) → n * 64 ≡ size → size * j ≤ length X → size * j + size ≤ length X + p
     → words n (drop (size * j) (X ++ replicate p false)) ≡ words n (messagePart size X j)
 part-words n size p X j e h g =
     let B : List Bool = drop (size * j) (X ++ replicate p false) in

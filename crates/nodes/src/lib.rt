@@ -1,10 +1,8 @@
 // The nodes of a message: the value of each, its 16 words, worked out from the nodes one level below.
 ghost use mathlib.Core.Path.{_≡_};
 ghost use mathlib.Core.List.{_++_};
-ghost use Prim.Native.Nat.{suc, _+_, _-_, _*_, _≤_, _<_};
-ghost use lib.Dec.{eqb};
+ghost use Prim.Native.Nat.{_+_, _-_, _*_, _<_};
 ghost use lib.ListN.{length};
-ghost use Rattle.bits.specs.Bits.{digit};
 ghost use Rattle.tree.specs.Tree.{words, sequentialBits};
 ghost use Rattle.bits.specs.Piece.{pieceBits};
 ghost use Rattle.bits.specs.PieceLaws.{spanned, Fits};
@@ -16,7 +14,7 @@ use node::Block;
 use node::Place;
 use refusals::Params;
 
-pub mod shape; // shape.rt: how many levels a tree has, and how many nodes each
+pub mod shape; // shape.rt: how many levels a tree has, how many nodes each, and what a node has by its index
 
 // The value of a node at level 1: its block is filled with message bits.
 fn leaf(
@@ -183,17 +181,6 @@ fn sequential_value(
     node::compress_node(params, k, constants, Place { level, index, z, p }, &block)
 }
 
-// z of the sequential node at an index: 1 at the last.
-fn last_flag(index: u64, nodes: u64) -> u64
-    requires { ⌜ index < nodes ⌝ }
-    ensures { λ r. ⌜ (r ≡ digit (eqb (suc index) nodes)) × (r ≤ 1) ⌝ }
-{
-    if index + 1 == nodes {
-        return 1;
-    }
-    0
-}
-
 // The value of the sequential level's last node, along the chain.
 fn sequential(message: &[u8], span: Span, params: Params, k: &[u64], constants: &[u64]) -> [u64; 16]
     requires { ⌜ Given (spanned (now message) span) (now k) params (now constants) ⌝ }
@@ -203,7 +190,7 @@ fn sequential(message: &[u8], span: Span, params: Params, k: &[u64], constants: 
     let mut last = [0u64; 16];
     let mut i: u64 = 0;
     while i < nodes {
-        let z = last_flag(i, nodes);
+        let z = shape::last_flag(i, nodes);
         let next = sequential_value(message, span, params, k, constants, i, z, &last);
         last = next;
         i += 1;

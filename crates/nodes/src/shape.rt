@@ -1,6 +1,8 @@
-// How many levels a tree has, and how many nodes each.
+// How many levels a tree has, how many nodes each, and what a node has by its index: how much it takes, and z.
 ghost use mathlib.Core.Path.{_≡_};
-ghost use Prim.Native.Nat.{_+_, _-_, _*_, _≤_, _<_};
+ghost use Prim.Native.Nat.{suc, _+_, _-_, _*_, _≤_, _<_};
+ghost use lib.Dec.{eqb};
+ghost use Rattle.bits.specs.Bits.{digit};
 ghost use Rattle.tree.specs.Count.{levelNodes};
 ghost use Rattle.nodes.specs.Value.{held, sequentialNodes, topLevel};
 use node::Block;
@@ -58,4 +60,15 @@ pub fn top_level(limit: u64, bits: u64) -> u64
         level += 1;
     }
     level
+}
+
+// 1 at the last index of so many nodes, and 0 at any other: z at the sequential level.
+pub fn last_flag(index: u64, nodes: u64) -> u64
+    requires { ⌜ index < nodes ⌝ }
+    ensures { λ r. ⌜ (r ≡ digit (eqb (suc index) nodes)) × (r ≤ 1) ⌝ }
+{
+    if index + 1 == nodes {
+        return 1;
+    }
+    0
 }

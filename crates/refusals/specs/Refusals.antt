@@ -25,7 +25,7 @@ pub record Told : Type 0 where
   pub number : ℕ
   pub count : ℕ
 
--- ---- tests that several calls share
+-- ---- tests that several calls share, and an answer by one of them
 
 -- the sizes of digest and key: "1, 0: d not 1 to 512", then "2, 0: key over 64 bytes"
 abbrev pub sizeTests : ℕ → ℕ → List (Bool × ℕ)
@@ -34,6 +34,13 @@ sizeTests d keyBytes = (ltb d 1, 1) ∷ (ltb mostDigestBits d, 1) ∷ (ltb mostK
 -- "3, 0: L over 64"
 abbrev pub limitTest : ℕ → Bool × ℕ
 limitTest limit = (ltb mostLimit limit, 3)
+
+-- what a call that tells a number for an L answers: it refuses by 3 alone
+abbrev pub toldFor : ℕ → ℕ → Told
+toldFor limit count =
+    answerOf (firstRefusal (limitTest limit ∷ []))
+    record { number = 0; count = count }
+    (λ k. record { number = k; count = 0 })
 
 -- the sizes, then L and, since M-108, "Number 4 is now for r over 4,095", in that order
 abbrev pub rangeTests : ℕ → ℕ → ℕ → ℕ → List (Bool × ℕ)

@@ -5,11 +5,10 @@ use mathlib.Core.List.{List, _∷_, _++_}
 use Prim.Native.Nat.{ℕ, zero, suc, _+_, _-_, _*_, _/_, _%_, _^_, _≤_, _<_}
 use native.Mathlib.Omega.{arith}
 use lib.Dec.{eqb}
-use lib.ListN.{length, take, drop, getD, set, replicate}
-use lib.Seq.{drop-drop, take-all}
+use lib.ListN.{length, drop, getD, set, replicate}
+use lib.Seq.{drop-drop}
 use Rattle.lists.specs.Part.{put}
 use Rattle.bits.specs.Bits.{bitsOf, numbers}
-use Rattle.bits.specs.BitsLaws.{bitsOf-numbers}
 use Rattle.tree.specs.Tree.{Params, Node, node, output, lastOr, noNode, digestBytes, blockBits, sequentialBits, outputBits}
 use Rattle.tree.specs.TreeLaws.{length-output-node}
 use Rattle.tree.specs.Count.{treeNodes-bound}
@@ -19,7 +18,7 @@ use Rattle.calls.specs.CallLaws.{EndPassed}
 use Rattle.calls.specs.Machine
 use Rattle.calls.specs.Close
 use Rattle.calls.specs.AreaLaws.{length-levelWords, levels-split, flatten-empty}
-use Rattle.calls.specs.Widths.{length-joined}
+use Rattle.calls.specs.Widths.{words-bits, length-joined}
 use Rattle.climb.specs.ReceiveLaws.{length-outWords}
 use Rattle.climb.specs.OpenArea.{OpenArea, size-read}
 use Rattle.stream.specs.NumberLaws.{count-left}
@@ -79,11 +78,6 @@ sized-root P (suc n) T area long = rw (levels-split area) (go (eqb (doneBlocks b
         rw (Machine.closing-many P n T ws (levelsUp area 2) e)
         (sized-above P area long (ownLevels area + 1 - 2) n 2 2 (doneBlocks blockBits T) (outWords P y) y (omega arith) (length-outWords P y)
         (length-output-node P (P .rounds) 1 (doneBlocks blockBits T) 0 (blockBits - heldBits blockBits T) ws size))
-
-words-bits : (P : Params) (m : Node) → length (output (P .rounds) m) ≡ outputBits → bitsOf 64 (outWords P m) ≡ output (P .rounds) m
-unfolding outWords
-words-bits P m h =
-    bitsOf-numbers 64 16 (output (P .rounds) m) (omega arith) ∙ take-all outputBits (output (P .rounds) m) (omega arith)
 
 -- ---- the digest
 

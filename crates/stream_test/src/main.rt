@@ -54,28 +54,6 @@ const REFUSED_COUNTS: [u64; 10] = [
     18446744073709551608,
 ];
 
-// What follows a word of the log: V stands after U, and ends the line.
-fn print_between(i: usize) {
-    if i % 2 == 0 {
-        io::write_all(STDOUT_FILENO, b" ");
-        return;
-    }
-    io::write_all(STDOUT_FILENO, b"\n");
-}
-
-// Writes the first words of a log, a node a line.
-fn print_nodes(log: &[u64], words: usize) {
-    let mut i = 0;
-    while i < log.len() {
-        if words <= i {
-            return;
-        }
-        io::print_hex(STDOUT_FILENO, log[i], 16);
-        print_between(i);
-        i += 1;
-    }
-}
-
 // Copies as many words as both have.
 fn copy(to: &mut [u64], from: &[u64]) {
     let mut i = 0;
@@ -86,14 +64,6 @@ fn copy(to: &mut [u64], from: &[u64]) {
         to[i] = from[i];
         i += 1;
     }
-}
-
-// The log words of so many nodes, if they are few.
-fn node_words(count: u64) -> usize {
-    if count < 1000 {
-        return 2 * count as usize;
-    }
-    2000
 }
 
 // The words of an area, by the height limit that it has in word 4.
@@ -107,13 +77,13 @@ fn own_words(area: &[u64]) -> usize {
 // Writes what a call answered and what it changed. The log was filled before.
 fn report(number: u64, count: u64, area: &[u64], before: &[u64], log: &[u64]) {
     let filled = [FILL; 64];
-    let words = node_words(count);
+    let words = test_print::node_words(count);
     test_print::answer(number, count);
     test_print::same(area, before, 0);
     test_print::same(area, before, own_words(area));
     test_print::same(log, &filled, words);
     io::write_all(STDOUT_FILENO, b"\n");
-    print_nodes(log, words);
+    test_print::rows(log, words, 2);
 }
 
 fn open(area: &mut [u64], key: &[u8], d: u64, limit: u64, rounds: u64) {

@@ -1,6 +1,6 @@
-// What the test programs lend and print: the words of an area; bytes in hexadecimal, the number and the count that a call answered,
-// and whether lent words are as before.
-ghost use Prim.Native.Nat.{_≤_};
+// What the test programs lend and print: the words of an area; bytes and rows of words in hexadecimal, the number and the count that
+// a call answered, and whether lent words are as before.
+ghost use Prim.Native.Nat.{_≤_, _<_};
 use libc::STDOUT_FILENO;
 
 // The words of an area for a height limit, by document 02, M-109: 16, and 64 times the smaller of L + 1 and 27.
@@ -55,4 +55,38 @@ pub fn same(words: &[u64], before: &[u64], from: usize) {
         return;
     }
     io::write_all(STDOUT_FILENO, b" changed");
+}
+
+// The log words of so many nodes, if they are few.
+pub fn node_words(count: u64) -> usize {
+    if count < 1000 {
+        return 2 * count as usize;
+    }
+    2000
+}
+
+// What follows a word: the last of a row ends the line.
+fn between(i: usize, width: usize)
+    requires { ⌜ 0 < width ⌝ }
+{
+    if i % width == width - 1 {
+        io::write_all(STDOUT_FILENO, b"\n");
+        return;
+    }
+    io::write_all(STDOUT_FILENO, b" ");
+}
+
+// Writes the first words, in rows of so many: a log in rows of two, a node a line.
+pub fn rows(words: &[u64], count: usize, width: usize)
+    requires { ⌜ 0 < width ⌝ }
+{
+    let mut i = 0;
+    while i < words.len() {
+        if count <= i {
+            return;
+        }
+        io::print_hex(STDOUT_FILENO, words[i], 16);
+        between(i, width);
+        i += 1;
+    }
 }

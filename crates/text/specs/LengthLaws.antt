@@ -1,19 +1,19 @@
 -- Laws: the length of a text: the bytes of the first two lines, and of a line for each level that has one.
-use mathlib.Core.Path.{_≡_, refl, ap, _∙_}
+use mathlib.Core.Path.{_≡_, refl, _∙_}
 use mathlib.Core.Bool.{Bool, true, false}
 use mathlib.Core.List.{List, [], _∷_, _++_}
-use Prim.Native.Nat.{ℕ, zero, suc, _+_, _*_, _/_, _≤_}
+use Prim.Native.Nat.{ℕ, zero, suc, _+_, _*_, _≤_}
 use native.Mathlib.Omega.{arith}
-use lib.Dec.{eqb}
-use lib.ListN.{length, replicate, length-append, length-map, length-replicate}
-use Rattle.tree.specs.Tree.{blockBits, mostLevels}
-use Rattle.calls.specs.Area.{Hold, headWords, blockWords, Long, phaseOf, totalOf, kOf, doneBlocks, parallelHold, holdsAbove, openHolds, holdsFor, levelWords, levelsFrom, levelsOf, paramsOf, areaLevels, ownLevels}
+use lib.ListN.{length, length-append, length-map}
+use Rattle.tree.specs.Tree.{mostLevels}
+use Rattle.calls.specs.Area.{headWords, blockWords, Long, phaseOf, totalOf, kOf, holdsFor, levelWords, levelsFrom, levelsOf, paramsOf, areaLevels, ownLevels}
 use Rattle.digits.specs.Digits.{hexDigits, wordDigits}
 use Rattle.text.specs.Text.{Field, line1Fields, fieldDigits, line1, line2, levelLine, hasLine, heldLevels, heldOf, levelLines, textWith, textOf, roundsBytes, line1Bytes, line2Bytes, levelBytes, headBytes}
 use Rattle.digits.specs.DigitLaws.{length-digits, length-wordDigits}
 use Rattle.text.specs.FieldLaws.{length-fields}
 use Rattle.text.specs.LayoutLaws.{length-keyOf}
 use Rattle.calls.specs.AreaLaws.{length-levelWords}
+use Rattle.calls.specs.MoreLevels.{holds-length}
 
 pub length-line1 : (fs : List Field) (area : List ℕ) → length (line1 fs area) ≡ line1Bytes fs
 length-line1 fs area = rw (length-append (fieldDigits fs area) (10 ∷ []), length-fields fs area)
@@ -43,25 +43,8 @@ lines-le [] = omega arith
 lines-le (true ∷ hs) = omega (arith, lines-le hs)
 lines-le (false ∷ hs) = omega (arith, lines-le hs)
 
-length-holdsAbove : (k n i : ℕ) → length (holdsAbove k n i) ≡ k
-length-holdsAbove zero n i = refl
-length-holdsAbove (suc k) zero i = ap suc (length-replicate k (parallelHold 0))
-length-holdsAbove (suc k) (suc n) i = ap suc (length-holdsAbove k n (i / 4))
-
-length-openHolds : (k limit T : ℕ) → length (openHolds k limit T) ≡ k
-length-openHolds zero limit T = refl
-length-openHolds (suc k) zero T = ap suc (length-replicate k (parallelHold 0))
-length-openHolds (suc k) (suc n) T = ap suc (length-holdsAbove k n (doneBlocks blockBits T))
-
-pub length-holdsFor : (k phase limit T : ℕ) → length (holdsFor k phase limit T) ≡ k
-length-holdsFor k phase limit T = by (eqb phase 2)
-  where
-    by : (t : Bool) → length {A = Hold} (elim t [ true ↦ replicate k (parallelHold 0) | false ↦ openHolds k limit T ]) ≡ k
-    by true = length-replicate k (parallelHold 0)
-    by false = length-openHolds k limit T
-
 pub length-heldLevels : (phase limit T : ℕ) → length (heldLevels phase limit T) ≡ areaLevels limit
-length-heldLevels phase limit T = length-map (holdsFor (areaLevels limit) phase limit T) hasLine ∙ length-holdsFor (areaLevels limit) phase limit T
+length-heldLevels phase limit T = length-map (holdsFor (areaLevels limit) phase limit T) hasLine ∙ holds-length (areaLevels limit) phase limit T
 
 pub length-held : (area : List ℕ) → length (heldOf area) ≡ ownLevels area
 length-held area = length-heldLevels (phaseOf area) (paramsOf area .limit) (totalOf area)

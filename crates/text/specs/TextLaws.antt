@@ -3,7 +3,7 @@ use mathlib.Core.Path.{_≡_, refl, sym, ap, _∙_}
 use mathlib.Core.Bool.{Bool, true, false}
 use mathlib.Core.List.{List, [], _∷_, _++_, map, append-assoc, append-nil, flatten}
 use mathlib.Core.Option.{Option, some, Option·some-injective}
-use Prim.Native.Nat.{ℕ, suc, _+_, _*_, _^_, _≤_, _<_}
+use Prim.Native.Nat.{ℕ, suc, _*_, _^_, _≤_, _<_}
 use native.Mathlib.Omega.{arith}
 use lib.ListN.{length, take, drop, getD, set, replicate, length-append, length-map, length-take}
 use lib.Seq.{drop-at, drop-drop, getD-take, getD-set-same, getD-set-other, length-take-le}
@@ -22,8 +22,9 @@ use Rattle.digits.specs.DigitLaws.{pow-16, spelt-lt, drop-digits, length-speltW
 use Rattle.text.specs.FieldLaws.{fieldSizes, sizes-word, FieldsFit, told, fields-back, spelt-parts, Spells, fields-spelt}
 use Rattle.text.specs.LayoutLaws.{head-words, length-keyOf}
 use Rattle.calls.specs.AreaLaws.{length-levelsOf, limit-word}
+use Rattle.calls.specs.MoreLevels.{holds-length}
 use Rattle.text.specs.HeldLaws.{Ranges, ranges, Fit, none, line, bare, fit-levels}
-use Rattle.text.specs.LengthLaws.{length-line1, length-line2, length-levelLine, length-holdsFor, length-held}
+use Rattle.text.specs.LengthLaws.{length-line1, length-line2, length-levelLine, length-held}
 use Rattle.text.specs.Terms.{SoundArea}
 use Rattle.text.specs.FormLaws.{in-front}
 
@@ -89,7 +90,7 @@ spells-back w area s i =
     let g = ranges area (s .is-sound) in
     let h : headWords ≤ length area = omega (arith, s .long) in
     let n : length (holdsFor (ownLevels area) (phaseOf area) (paramsOf area .limit) (totalOf area)) ≡ length (levelsOf area) =
-    length-holdsFor (ownLevels area) (phaseOf area) (paramsOf area .limit) (totalOf area) ∙ sym (length-levelsOf area) in
+    holds-length (ownLevels area) (phaseOf area) (paramsOf area .limit) (totalOf area) ∙ sym (length-levelsOf area) in
     let fit = fit-levels area n (levelsOf-widths area (s .long)) (levelsOf-words area (s .words)) (g .levels) in
     let head : speltHead fs (line1 fs area ++ (line2 area ++ ls)) ≡ some (take headWords area) = head-back w area ls (s .words) h g i in
     let rest : drop (headBytes w) (line1 fs area ++ (line2 area ++ ls)) ≡ ls =

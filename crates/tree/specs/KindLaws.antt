@@ -25,7 +25,7 @@ some-inj e = cc
 lastOnly-last : (n j x : ℕ) → suc j ≡ n → lastOnly n j x ≡ x
 lastOnly-last n j x e = rw (eq-eqb (suc j) n e)
 
-first-chain : words 16 noChain ≡ replicate 16 0
+pub first-chain : words 16 noChain ≡ replicate 16 0
 unfolding noChain numbers
 first-chain = refl
 

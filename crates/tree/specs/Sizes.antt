@@ -1,5 +1,5 @@
 -- Definitions: how many nodes a tree has, by formulas on the number of bits and the height limit. That the tree has so many is a theorem
--- (Count). The area's word 14 is such a number.
+-- (Count). The area's word 14 is such a number, and the log words that are told for the call by layers are twice such a number.
 use mathlib.Core.Bool.{cond}
 use Prim.Native.Nat.{ℕ, zero, suc, _+_}
 use lib.Dec.{eqb}

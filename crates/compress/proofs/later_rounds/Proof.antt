@@ -10,19 +10,19 @@ use Rattle.compress.proofs.later_rounds.Statement.{statement}
 use Rattle.compress.proofs.later_rounds.Tie as tie
 
 abbrev Inv-loop : tie.InvT-loop
-Inv-loop a₀ at rounds place₀ part₀ a place part =
-    (1 ≤ part) × (part ≤ tableParts) × Placed a place × Advances (min rounds partEntries) (min rounds (partEntries * part)) at a₀ place a
+Inv-loop a₀ lanes at rounds place₀ part₀ a place part =
+    (1 ≤ part) × (part ≤ tableParts) × Placed lanes a place × Advances lanes (min rounds partEntries) (min rounds (partEntries * part)) at a₀ place a
 
 abbrev μ-loop : tie.MeasureT-loop
-μ-loop a₀ at rounds place₀ part₀ a place part = tableParts - part
+μ-loop a₀ lanes at rounds place₀ part₀ a place part = tableParts - part
 
 returns : tie.Need-returns Inv-loop μ-loop
 returns c =
     let all : min (c .before .before .args .rounds) partEntries ≡ c .before .before .args .rounds = omega arith in
-    (c .before .before .pre .0, reworded all (record { rule = λ N size e. e }))
+    (c .before .before .pre .0, reworded all (record { rule = λ j h N size e. e }))
 
 loop-holds : tie.Need-loop-holds Inv-loop μ-loop
-loop-holds c = (search needs, search needs, search needs, record { rule = λ N size e. e })
+loop-holds c = (search needs, search needs, search needs, record { rule = λ j h N size e. e })
 
 returns-2 : tie.Need-returns-2 Inv-loop μ-loop
 returns-2 c =

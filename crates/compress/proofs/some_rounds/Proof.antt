@@ -6,38 +6,42 @@ use native.Mathlib.Omega.{arith}
 use lib.ListN.{getD}
 use borrow.Author.Needs.{needs}
 use Rattle.constants.specs.Constants.{S, RoundTable}
-use Rattle.compress.specs.Buffer.{putRound, before, after, Placed, Advances}
+use Rattle.compress.specs.Buffer.{putRound, before, after, lane, Placed, Advances}
 use Rattle.compress.proofs.Laws.{round-window}
+use Rattle.compress.proofs.LaneLaws.{length-apart}
 use Rattle.compress.proofs.some_rounds.Statement.{statement}
 use Rattle.compress.proofs.some_rounds.Tie as tie
 
 abbrev Inv-loop : tie.InvT-loop
-Inv-loop a₀ at part n place₀ k₀ a place k =
-    (k ≤ n) × Placed a place × ((q : ℕ) → RoundTable q part → Advances q (q + k) at a₀ place a)
+Inv-loop a₀ lanes at part n place₀ k₀ a place k =
+    (k ≤ n) × Placed lanes a place × ((q : ℕ) → RoundTable q part → Advances lanes q (q + k) at a₀ place a)
 
 abbrev μ-loop : tie.MeasureT-loop
-μ-loop a₀ at part n place₀ k₀ a place k = n - k
+μ-loop a₀ lanes at part n place₀ k₀ a place k = n - k
 
 loop-holds : tie.Need-loop-holds Inv-loop μ-loop
 loop-holds c =
-    (search needs, search needs, λ q t. record { rule = λ N size e. rw (add-zero q) e })
+    (search needs, search needs, λ q t. record { rule = λ j h N size e. rw (add-zero q) e })
 
 loop-again : tie.Need-loop-again Inv-loop μ-loop
 loop-again c =
     let m = c .before .before .before .before .before .before .before in
     let z = m .before .before .before in
     let start = z .before .before .before in
+    let lanes = start .args .lanes in
     let k = z .loop .k in
     let place = m .next-place .result in
     let a = m .next-place .last .0 in (
       search needs,
       (search needs, search needs, search needs, omega arith),
       λ q t. record {
-        rule = λ N size e.
+        rule = λ j h N size e.
+            let words = lane lanes j a in
             let more : q + k + 1 ≡ q + (k + 1) = omega arith in
             let s : getD (start .args .part .now) k 0 ≡ S (q + k) = t .rule k (omega arith) in
-            ap (before (place + 16)) (c .before .before .round .ensures ∙ ap (λ (v : ℕ). putRound 16 place v a) s)
-            ∙ round-window N a place (q + k) size (omega arith) (omega arith) (m .next-place .ensures .2 ∙ z .loop .inv .2 q t .rule N size e)
+            ap (before (place + 16)) (c .before .before .round .ensures j h ∙ ap (λ (v : ℕ). putRound 16 place v words) s)
+            ∙ round-window N words place (q + k) size (omega arith) (omega (arith, length-apart lanes j 345 a))
+            (m .next-place .ensures .2 j h ∙ z .loop .inv .2 q t .rule j h N size e)
             ∙ ap (λ (r : ℕ). after (16 * r) N) more;
       },
     )

@@ -1,11 +1,11 @@
--- `nodes::last_flag` meets its contract.
+-- `shape::last_flag` meets its contract.
 use borrow.Author.Tests.{eq-eqb, ne-eqb}
 use Prim.Native.Nat.{suc}
 use mathlib.Core.Path.{_≡_, refl}
 use native.Mathlib.Omega.{arith}
 use borrow.Author.Needs.{needs}
-use Rattle.nodes.proofs.last_flag.Statement.{statement}
-use Rattle.nodes.proofs.last_flag.Tie as tie
+use Rattle.nodes.proofs.shape.last_flag.Statement.{statement}
+use Rattle.nodes.proofs.shape.last_flag.Tie as tie
 
 returns : tie.Need-returns
 returns c = let e : suc (c .before .args .index) ≡ c .before .args .nodes = omega arith in (rw (eq-eqb (suc (c .before .args .index)) (c .before .args .nodes) e) refl, omega arith)

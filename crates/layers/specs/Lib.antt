@@ -1,0 +1,9 @@
+pub mod Layers
+pub mod LayerExamples
+pub mod LayerTerms
+pub mod Laid
+pub mod LayerLaws
+pub mod Steps
+pub mod CallLaws
+pub mod Highest
+pub mod RefusalRows
