@@ -18,8 +18,9 @@ extern "C" {
 #endif
 
 /* Sizes to lend: the words of a stream's area, by its height limit, and of the longest area, enough for every limit; the most words
- * of log that an end needs; the most bytes of a suspended text. MD6_LEVELS is the most levels that a tree has. MD6_AREA_WORDS_FOR is
- * a constant expression if its limit is one: 80 for 0, and MD6_AREA_WORDS from 26 on; it evaluates its limit twice. */
+ * of log that an end or a close needs; the most bytes of a suspended text. MD6_LEVELS is the most levels that a tree has.
+ * MD6_AREA_WORDS_FOR is a constant expression if its limit is one: 80 for 0, and MD6_AREA_WORDS from 26 on; it evaluates its limit
+ * twice. */
 #define MD6_LEVELS 27
 #define MD6_AREA_WORDS_FOR(limit) (16 + 64 * ((limit) < MD6_LEVELS ? (limit) + 1 : MD6_LEVELS))
 #define MD6_AREA_WORDS (16 + 64 * MD6_LEVELS)
@@ -132,6 +133,28 @@ md6_answer md6_feed(uint64_t *area, size_t area_words,
 md6_answer md6_end(uint64_t *area, size_t area_words,
                    uint8_t *digest, size_t digest_bytes,
                    uint64_t *log, size_t log_words);
+
+/* Previews a stream: the digest that md6_end would write now, to the first (d + 7) / 8 bytes of `digest`; the bytes past them stay.
+ * The area is only read, so that the stream is open as it was. No node is logged, and the count is 0. Refuses, the first that holds:
+ *   7   the area is short or unsound
+ *   10  the stream has ended
+ *   9   `digest` has fewer than (d + 7) / 8 bytes
+ */
+md6_answer md6_preview(const uint64_t *area, size_t area_words,
+                       uint8_t *digest, size_t digest_bytes);
+
+/* Closes a stream: ends it, with the area, the log and the count as md6_end leaves them, but only if `digest`, the figure, is byte for
+ * byte, length included, what md6_preview would write now. The figure is only read, and no digest is written; MD6_END_LOG_WORDS words
+ * of log are always enough. Feeds since the preview are allowed: the close goes by the longer message. Refuses, the first that holds,
+ * and the stream is then open as it was, if it was open:
+ *   7   the area is short or unsound
+ *   10  the stream has ended
+ *   8   the log has fewer than two words for each node
+ *   14  the figure differs: in a byte, in a spare bit behind the last of the d bits, or in its length, which is to be (d + 7) / 8 bytes
+ */
+md6_answer md6_close(uint64_t *area, size_t area_words,
+                     const uint8_t *digest, size_t digest_bytes,
+                     uint64_t *log, size_t log_words);
 
 /* As count, the words of log that a feed of `bits` bits to this area needs: exactly two for each node that it would make. With
  * that many words md6_feed does not answer 8, and with one fewer it does, unless it refuses the feed for another reason. The

@@ -17,7 +17,7 @@ import shutil
 import sys
 import tempfile
 
-# The thirteen public calls, each with the source that has it; those of the exports are all that the file exports.
+# The fifteen public calls, each with the source that has it; those of the exports are all that the file exports.
 CALLS = [
     ("hash", "lib", "hash"),
     ("hash", "lib", "default_rounds"),
@@ -26,7 +26,9 @@ CALLS = [
     ("layers", "lib", "layer_log_words"),
     ("stream", "lib", "open"),
     ("stream", "lib", "feed"),
-    ("stream", "close", "end"),
+    ("stream", "ending", "end"),
+    ("stream", "ending", "preview"),
+    ("stream", "ending", "close"),
     ("stream", "lib", "level"),
     ("stream", "lib", "log_words"),
     ("stream", "lib", "area_words"),
@@ -975,8 +977,8 @@ def self_test(root):
         ),
         (
             "another function passed on as the end",
-            [(source, r"^pub use close::end;", "pub use number::end;")],
-            "crates/stream/src/lib.rt does not pass on end of close.rt",
+            [(source, r"^pub use ending::end;", "pub use number::end;")],
+            "crates/stream/src/lib.rt does not pass on end of ending.rt",
         ),
         (
             "a row missing in the table",

@@ -55,6 +55,7 @@ if "--self" in sys.argv:
         (h, s.replace("limit: u64,\n    rounds: u64,", "rounds: u64,\n    limit: u64,", 1), n),
         (h.replace("uint64_t d, uint64_t limit", "uint64_t limit, uint64_t d", 1), s, n),
         (h.replace("const uint8_t *text", "uint8_t *text", 1), s, n),
+        (h.replace("const uint8_t *digest", "uint8_t *digest", 1), s, n),
         (h, s.replace("words: &mut [u64],\n    log: &mut [u64],", "log: &mut [u64],\n    words: &mut [u64],", 1), n),
     ]
     missed = [i for i, w in enumerate(wrong) if w == tuple(files) or not faults(*w)[0]]

@@ -8,6 +8,7 @@
  * leaves the words past them as they were, whatever they hold. Other limits in word 4 make the area short or unsound, at any length.
  * Each area ends at a page that may not be touched, or begins after one.
  */
+#include "ending.h"
 #include "form.h"
 
 enum { AREAS = 300, LOG_WORDS = 256, PIECE_BYTES = 1100, HEAD_WORDS = 16 };
@@ -77,6 +78,19 @@ static md6_answer end_call(uint64_t *area, size_t words, struct outcome *out)
     return md6_end(area, words, out->digest, sizeof out->digest, out->log, LOG_WORDS);
 }
 
+static md6_answer preview_call(uint64_t *area, size_t words, struct outcome *out)
+{
+    return md6_preview(area, words, out->digest, sizeof out->digest);
+}
+
+/* with the right figure of the area that is lent, by the model; one that is short, unsound or ended has none */
+static md6_answer close_call(uint64_t *area, size_t words, struct outcome *out)
+{
+    struct ending e = ending_of(area, words);
+
+    return md6_close(area, words, e.digest, e.bytes, out->log, LOG_WORDS);
+}
+
 static md6_answer tell_call(uint64_t *area, size_t words, struct outcome *out)
 {
     (void)out;
@@ -96,7 +110,8 @@ static const struct call {
     uint64_t ended;     /* the number that it gets from an area that has ended */
 } calls[] = {
     { "md6_open", open_call, 1, 0 }, { "md6_read", read_call, 1, 0 }, { "md6_feed", feed_call, 0, 10 }, { "md6_end", end_call, 0, 10 },
-    { "md6_log_words", tell_call, 0, 10 }, { "md6_write", write_call, 0, 0 },
+    { "md6_preview", preview_call, 0, 10 }, { "md6_close", close_call, 0, 10 }, { "md6_log_words", tell_call, 0, 10 },
+    { "md6_write", write_call, 0, 0 },
 };
 enum { CALLS = sizeof calls / sizeof *calls };
 

@@ -81,6 +81,22 @@ static inline int area_intact(const struct guarded *area, uint64_t limit)
     return guarded_intact(area);
 }
 
+/* a copy of the first bytes of an area, which ends at a page that may not be touched */
+static inline struct guarded copy_of(const struct guarded *area, size_t length)
+{
+    struct guarded copy = guarded_new(length, 1);
+
+    memcpy(copy.bytes, area->bytes, length);
+    return copy;
+}
+
+/* says whether an area, which stands beside a page that may not be touched, can be written or only read: then a write anywhere in it
+ * stops the program, as a read past its end does anyhow */
+static inline void let_write(const struct guarded *area, int written)
+{
+    expect(mprotect(area->base, area->room, written ? PROT_READ | PROT_WRITE : PROT_READ) == 0, "the access to an area");
+}
+
 static inline md6_answer open_area(const struct guarded *area, const struct params *p)
 {
     return md6_open(lent_words(area), word_count(area), p->key, p->key_bytes, p->d, p->limit, p->rounds);

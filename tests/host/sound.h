@@ -148,7 +148,7 @@ static inline int is_sound(const uint64_t *area)
     return 1;
 }
 
-/* The number that an area of so many words gives by itself to a feed, an end or a telling: 7 if it is short, which it also is
+/* The number that an area of so many words gives by itself to a feed, an end, a preview, a close or a telling: 7 if it is short, which it also is
  * without a word 4, or unsound, 10 if it has ended, or 0. M-109: "Soundness, every call on an area and the untouched tail go by
  * this length." */
 static inline uint64_t area_number(const uint64_t *area, size_t words)

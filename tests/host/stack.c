@@ -6,21 +6,24 @@
  * as it was painted tells how far the call went, with its parameters and return address. What an empty call touches is taken off.
  * Only what is touched counts: a frame may be larger than what a call writes to it.
  *
- * The inputs are those that go deep: trees and chains of up to 7 levels, whole and layer by layer, feeds and ends that make a node
- * at each of 27, the longest text, and short areas, which may not cost more; with few rounds and with ROUNDS, which are 4,095 unless
- * they are given (255 for an archive from before M-108, which also refuses the text of the other form). md6_hash goes down the tree
+ * The inputs are those that go deep: trees and chains of up to 7 levels, whole and layer by layer, feeds, ends, previews and closes that
+ * make a node at each of 27, the longest text, and short areas, which may not cost more; with few rounds and with ROUNDS, which are
+ * 4,095 unless they are given (255 for an archive from before M-108, which also refuses the text of the other form). md6_hash goes down the tree
  * level by level and needs more for each; what it would need for 27 levels, which no message in memory has, is worked out from that
  * and said to be.
  */
 #include <ucontext.h>
 
+#include "ending.h"
 #include "form.h"
 
 enum { STACK_WORDS = 1 << 17, MESSAGE_BYTES = 1 << 20, MEMORY_LEVELS = 7, LOG_WORDS = 1 << 13, LAYER_ROOM = 1 << 16 };
 
 /* The most bytes of stack that each call may take, the figures of docs/C.md. Those of md6_hash are for one level; each level more
  * may take A_LEVEL. */
-enum call { HASH, LAYERS, LAYER_WORDS, LAYER_LOG_WORDS, DEFAULT_ROUNDS, AREA_WORDS, OPEN, FEED, END, TELL, WRITE, READ, CALLS };
+enum call {
+    HASH, LAYERS, LAYER_WORDS, LAYER_LOG_WORDS, DEFAULT_ROUNDS, AREA_WORDS, OPEN, FEED, END, PREVIEW, CLOSE, TELL, WRITE, READ, CALLS
+};
 static const struct { const char *name; size_t most; } calls[CALLS] = {
     [HASH] = { "md6_hash", 14336 },
     [LAYERS] = { "md6_layers", 13312 },
@@ -30,7 +33,9 @@ static const struct { const char *name; size_t most; } calls[CALLS] = {
     [AREA_WORDS] = { "md6_area_words", 512 },
     [OPEN] = { "md6_open", 512 },
     [FEED] = { "md6_feed", 11776 },
-    [END] = { "md6_end", 10752 },
+    [END] = { "md6_end", 11264 },
+    [PREVIEW] = { "md6_preview", 11264 },
+    [CLOSE] = { "md6_close", 11776 },
     [TELL] = { "md6_log_words", 512 },
     [WRITE] = { "md6_write", 512 },
     [READ] = { "md6_read", 42496 },
@@ -42,6 +47,7 @@ static uint8_t message[MESSAGE_BYTES + 1], digest[64], text[MD6_TEXT_BYTES];
 static uint64_t area[MD6_AREA_WORDS], kept[MD6_AREA_WORDS], log_words[LOG_WORDS], layer_words[LAYER_ROOM], start, bits;
 static size_t text_bytes;
 static struct params p;
+static struct ending ending;
 static md6_answer answer;
 
 /* the rounds with which each input is tried */
@@ -95,6 +101,22 @@ static void feed_call(void)
 static void end_call(void)
 {
     answer = md6_end(area, words_for(p.limit), digest, sizeof digest, log_words, LOG_WORDS);
+}
+
+static void preview_call(void)
+{
+    answer = md6_preview(area, words_for(p.limit), digest, sizeof digest);
+}
+
+static void close_call(void)
+{
+    answer = md6_close(area, words_for(p.limit), ending.digest, ending.bytes, log_words, LOG_WORDS);
+}
+
+/* a figure of the right length that differs */
+static void other_close_call(void)
+{
+    answer = md6_close(area, words_for(p.limit), message, ending.bytes, log_words, LOG_WORDS);
 }
 
 static void tell_call(void)
@@ -154,13 +176,15 @@ static size_t taken(void (*call)(void))
     return bytes > empty ? bytes - empty : 0;
 }
 
-/* what a call takes with few rounds and with the most; the larger of the two is answered */
+/* what a call takes with few rounds and with the most, each of which gives another figure for a close; the larger of the two is
+ * answered */
 static size_t taken_by_rounds(void (*call)(void), uint64_t number, size_t bytes[2])
 {
     int i;
 
     for (i = 0; i < 2; i++) {
         p.rounds = kept[5] = rounds[i];
+        ending = ending_of(kept, words_for(p.limit));
         bytes[i] = taken(call);
         expect(answer.number == number, "the number of a call on its own stack");
     }
@@ -243,8 +267,8 @@ static void layers(void)
     measure(LAYER_LOG_WORDS, layer_log_words_call, "the longest message", 0);
 }
 
-/* feeds and ends: a bit that makes a node at each level that can have one, a long piece, an end at each of 27 levels */
-static void streams(void)
+/* feeds: a bit that makes a node at each level that can have one, and a long piece */
+static void feeds(void)
 {
     p.limit = 64;
     sound_area(kept, &p, UINT64_C(1) << 62);
@@ -261,15 +285,31 @@ static void streams(void)
     measure(FEED, feed_call, "300,001 bits, L = 0", 0);
     bits = 8 * sizeof message;
     measure(FEED, feed_call, "more bits than there are", 5);
-    measure(END, end_call, "L = 0", 0);
+}
+
+/* every call that makes the last nodes */
+static void end_calls(const char *input)
+{
+    measure(END, end_call, input, 0);
+    measure(PREVIEW, preview_call, input, 0);
+    measure(CLOSE, close_call, input, 0);
+}
+
+/* ends, previews and closes of a chain, of no message, and with a node at each of 27 levels */
+static void ends(void)
+{
+    p.limit = 0;
+    sound_area(kept, &p, 5000);
+    end_calls("L = 0");
     p.limit = 64;
     sound_area(kept, &p, 0);
-    measure(END, end_call, "nothing was fed", 0);
+    end_calls("nothing was fed");
     sound_area(kept, &p, UINT64_MAX);
-    measure(END, end_call, "27 levels", 0);
+    end_calls("27 levels");
     p.limit = 26;
     sound_area(kept, &p, UINT64_MAX);
-    measure(END, end_call, "27 levels, the last one sequential", 0);
+    end_calls("27 levels, the last one sequential");
+    measure(CLOSE, other_close_call, "another figure", 14);
 }
 
 /* the text of the area that is kept, in the new form */
@@ -295,6 +335,8 @@ static void short_areas(void)
     kept[4] = 1;
     measure(FEED, feed_call, "L = 1 in 80 words", 7);
     measure(END, end_call, "L = 1 in 80 words", 7);
+    measure(PREVIEW, preview_call, "L = 1 in 80 words", 7);
+    measure(CLOSE, close_call, "L = 1 in 80 words", 7);
     measure(WRITE, write_call, "L = 1 in 80 words", 7);
     spell(text + L_AT, 1, 1);
     measure(READ, read_call, "a text of L = 0 with L = 1 in it", 11);
@@ -336,7 +378,8 @@ int main(int argc, char **argv)
     printf("%-64s%5s%4" PRIu64 "%5s%4" PRIu64 "%9s\n", "bytes of stack", "r =", rounds[0], "r =", rounds[1], "at most");
     hashes();
     layers();
-    streams();
+    feeds();
+    ends();
     others();
     short_areas();
     printf("%" PRIu64 " wrong\n", bad);

@@ -11,16 +11,23 @@
  * they are moved to the front. The edges of number 5 are tried on areas of every kind, and random calls on damaged areas:
  * whatever is refused must change nothing. An area is opened at every edge of its parameters, and streams run at those of r.
  *
+ * Streams are previewed and closed between the pieces, at the end, and on all these areas, with logs and outputs of just enough, too
+ * few and more, and with figures that are right, that differ in any way, and that were right before a feed. The digest and the log that
+ * they must give are worked out in ending.h, which is compared with the second program's tree wherever there is a message.
+ *
  * Areas have just the words that L asks, or others past them, which must stay, and stand beside a page that may not be touched.
  */
-#include "sound.h"
+#include "ending.h"
 
-enum { CUTTINGS = 2000, EDGE_CUTTINGS = 20, SOUND = 3000, TELLINGS = 10, DAMAGED = 2000, MESSAGE_BYTES = 9000, LOG_WORDS = 4096 };
+enum { CUTTINGS = 2000, EDGE_CUTTINGS = 20, SOUND = 3000, TELLINGS = 10, ENDINGS = 20, DAMAGED = 2000 };
+enum { MESSAGE_BYTES = 9000, LOG_WORDS = 4096 };
 
 /* what ran: feeds with just the told words, those of them before which one word fewer was refused, and those that began inside
  * the byte where the one before ended; sound areas; tellings on them that were accepted and that were refused by 6; tellings on
- * damaged areas by number; edges of number 5 by number; opens by number; pieces at every reach */
-static uint64_t fed, fed_short, shared, sound, told_accepted, told_past, told_damaged[11], edge_numbers[11], opened[11], reached;
+ * damaged areas by number; edges of number 5 by number; opens by number; pieces at every reach; closes with the figure from before a
+ * feed */
+static uint64_t fed, fed_short, shared, sound, told_accepted, told_past, told_damaged[11];
+static uint64_t edge_numbers[11], opened[11], reached, late_figures;
 
 /* the node lines of the second program's tree, as words U, V, in order */
 static size_t second_log(const struct tree *T, int level, uint64_t i, uint64_t *log, size_t at)
@@ -61,15 +68,14 @@ static size_t second_tree(const struct params *p, const uint8_t *message, uint64
     return at;
 }
 
-/* The told log words. The area, which stands beside a page that may not be touched, can only be read meanwhile: a write anywhere
- * in it, or a read past its end, stops the program. */
+/* the told log words; the area can only be read meanwhile */
 static md6_answer tell(const struct guarded *area, uint64_t bits)
 {
     md6_answer o;
 
-    expect(mprotect(area->base, area->room, PROT_READ) == 0, "an area that can only be read");
+    let_write(area, 0);
     o = md6_log_words(lent_words(area), word_count(area), bits);
-    expect(mprotect(area->base, area->room, PROT_READ | PROT_WRITE) == 0, "an area that can be written again");
+    let_write(area, 1);
     expect(o.number == 0 || o.count == 0, "a refused telling has a count");
     return o;
 }
@@ -199,20 +205,6 @@ static size_t feed_copied(const struct guarded *area, const struct message *m, u
     return logged;
 }
 
-/* feeds a message in pieces cut at random, and answers how many words of log that gave */
-static size_t feed_cut(const struct guarded *area, const struct message *m, uint64_t *joined)
-{
-    uint64_t at = 0, n;
-    size_t logged = 0;
-
-    for (; at < m->bits; at += n) {
-        n = pick_piece(m->bits - at);
-        logged += (below(3) == 0 ? feed_copied : feed_in_place)(area, m, m->first + at, n, joined + logged,
-                                                               LOG_WORDS - MD6_END_LOG_WORDS - logged);
-    }
-    return logged;
-}
-
 /* the digest and the log of a message that was fed are md6_hash's, at its start bit, and the second program's, at the front */
 static void fed_right(const struct params *p, const struct message *m, const uint8_t *digest, const uint64_t *joined, size_t logged)
 {
@@ -229,6 +221,71 @@ static void fed_right(const struct params *p, const struct message *m, const uin
     expect(logged == words && memcmp(joined, expected, 8 * words) == 0, "log");
 }
 
+/* Previews and closes after the first bits of a message, as the second program has their digest, and their log behind that of the feeds.
+ * The stream goes on, and what its end would have come to is answered. */
+static struct ending end_so_far(const struct guarded *area, const struct params *p, const struct message *m, uint64_t bits,
+                                uint64_t *joined, size_t logged)
+{
+    struct ending e = ending_of(lent_words(area), word_count(area));
+    struct message so_far = { m->bytes, m->first, bits };
+
+    memcpy(joined + logged, e.log, 8 * e.words);
+    fed_right(p, &so_far, e.digest, joined, logged + e.words);
+    try_ending(area, &e);
+    return e;
+}
+
+/* A close with the figure of a preview before the last feed, which is refused unless it is that of the longer message too: short digests
+ * may be, and with no bits it is no longer. */
+static void late_close(const struct guarded *area, const struct ending *before)
+{
+    struct ending e = ending_of(lent_words(area), word_count(area));
+    struct guarded figure = make_figure(before, 8 * before->bytes, RIGHT);
+
+    if (close_number(&e, &figure, MD6_END_LOG_WORDS) == 14) {
+        close_right(area, &e, &figure, MD6_END_LOG_WORDS);
+        late_figures++;
+    }
+    guarded_free(&figure);
+}
+
+/* feeds a message in pieces cut at random, and answers how many words of log that gave */
+static size_t feed_cut(const struct guarded *area, const struct params *p, const struct message *m, uint64_t *joined)
+{
+    struct ending before;
+    uint64_t at = 0, n;
+    size_t logged = 0;
+
+    for (; at < m->bits; at += n) {
+        int ending = below(8) == 0;
+
+        if (ending)
+            before = end_so_far(area, p, m, at, joined, logged);
+        n = pick_piece(m->bits - at);
+        logged += (below(3) == 0 ? feed_copied : feed_in_place)(area, m, m->first + at, n, joined + logged,
+                                                               LOG_WORDS - MD6_END_LOG_WORDS - logged);
+        if (ending)
+            late_close(area, &before);
+    }
+    return logged;
+}
+
+/* Ends a stream by an end or, as at the turn of a reel, by a preview and a close with the digest that this gave; answers the words of
+ * log. */
+static size_t end_or_close(const struct guarded *area, uint8_t *digest, size_t bytes, uint64_t log[MD6_END_LOG_WORDS])
+{
+    md6_answer o;
+
+    if (below(2) == 0)
+        o = end_area(area, digest, bytes, log);
+    else {
+        expect(md6_preview(lent_words(area), word_count(area), digest, bytes).number == 0, "a preview before a close");
+        o = md6_close(lent_words(area), word_count(area), digest, (size_t)(lent_words(area)[3] + 7) / 8, log, MD6_END_LOG_WORDS);
+    }
+    expect(o.number == 0 && lent_words(area)[0] == 2, "an end or a close");
+    return 2 * (size_t)o.count;
+}
+
 static void one_cutting(struct params p)
 {
     static uint64_t joined[LOG_WORDS];
@@ -239,10 +296,9 @@ static void one_cutting(struct params p)
     md6_answer o = open_area(&area, &p);
 
     expect(o.number == 0 && o.count == 0, "open");
-    logged = feed_cut(&area, &m, joined);
-    o = end_area(&area, digest, (size_t)(p.d + 7) / 8, joined + logged);
-    expect(o.number == 0, "end");
-    fed_right(&p, &m, digest, joined, logged + 2 * (size_t)o.count);
+    logged = feed_cut(&area, &p, &m, joined);
+    logged += end_or_close(&area, digest, (size_t)(p.d + 7) / 8, joined + logged);
+    fed_right(&p, &m, digest, joined, logged);
     expect(area_intact(&area, p.limit) && guarded_intact(&m.bytes), "wrote outside the area or the message, or to the area's tail");
     guarded_free(&area);
     guarded_free(&m.bytes);
@@ -334,6 +390,19 @@ static const struct row { uint64_t bits, limit, d; } rows[] = {
     { 16385, 64, 8 }, { 0, 0, 8 }, { 3073, 0, 8 }, { 12288, 1, 8 }, { 12289, 1, 8 },
 };
 
+/* previews and closes of a row after so many of its bits, as the second program has their last nodes and their digest */
+static void row_ending(const struct guarded *area, const struct params *p, const uint8_t *ones, uint64_t bits, size_t logged)
+{
+    static uint64_t expected[LOG_WORDS];
+    struct ending e = ending_of(lent_words(area), word_count(area));
+    uint8_t digest[64];
+    size_t words = second_tree(p, ones, bits, expected, digest) - logged;
+
+    expect(e.number == 0 && e.words == words && memcmp(e.log, expected + logged, 8 * words) == 0, "the last nodes of a row");
+    expect(memcmp(e.digest, digest, e.bytes) == 0, "the digest of a row before its end");
+    try_ending(area, &e);
+}
+
 /* a row fed whole, bit by bit, or cut once at a bit: its log and digest are the second program's tree's */
 static void one_row(const struct row *row, uint64_t first, uint64_t step)
 {
@@ -345,7 +414,6 @@ static void one_row(const struct row *row, uint64_t first, uint64_t step)
     uint8_t digest[2], second[64];
     uint64_t at;
     size_t logged = 0, words;
-    md6_answer o;
 
     memset(ones, 0xff, sizeof ones);
     expect(open_area(&area, &p).number == 0, "open of a row");
@@ -354,11 +422,14 @@ static void one_row(const struct row *row, uint64_t first, uint64_t step)
         if (piece.span.bits > row->bits - at)
             piece.span.bits = row->bits - at;
         logged += feed_told(&area, &piece, joined + logged, LOG_WORDS - MD6_END_LOG_WORDS - logged);
+        /* at every cut, and bit by bit at some of them */
+        if (step != 1 || at % 64 == 0)
+            row_ending(&area, &p, ones, at + piece.span.bits, logged);
     }
-    o = end_area(&area, digest, sizeof digest, joined + logged);
-    logged += 2 * (size_t)o.count;
+    row_ending(&area, &p, ones, row->bits, logged);
     words = second_tree(&p, ones, row->bits, expected, second);
-    expect(o.number == 0 && logged == words && memcmp(joined, expected, 8 * words) == 0, "log of a row");
+    logged += end_or_close(&area, digest, sizeof digest, joined + logged);
+    expect(logged == words && memcmp(joined, expected, 8 * words) == 0, "log of a row");
     expect(memcmp(digest, second, (size_t)(p.d + 7) / 8) == 0, "digest of a row");
     guarded_free(&area);
 }
@@ -402,6 +473,14 @@ static void one_telling(const struct guarded *area, uint64_t limit, uint64_t tot
     }
 }
 
+/* a preview and a close of whatever words; they stay */
+static void end_any(const struct guarded *area)
+{
+    struct ending e = ending_of(lent_words(area), word_count(area));
+
+    try_ending(area, &e);
+}
+
 /* tellings on a sound area, and then a feed of so many bits with just the told words, which are answered */
 static size_t one_sound(const struct params *p, uint64_t total, uint64_t bits)
 {
@@ -419,6 +498,8 @@ static size_t one_sound(const struct params *p, uint64_t total, uint64_t bits)
     words = feed_told(&area, &piece, log, LOG_WORDS);
     expect(words == 2 * (made(p->limit, total + bits) - made(p->limit, total)), "words of a feed to a sound area");
     one_telling(&area, p->limit, total + bits, pick_told(UINT64_MAX - total - bits));
+    if (below(8) == 0)
+        end_any(&area);
     expect(area_intact(&area, p->limit), "wrote outside a sound area, or to its tail");
     guarded_free(&area);
     sound++;
@@ -452,8 +533,8 @@ static void random_sound(void)
     one_sound(&p, total, pick_piece(UINT64_MAX - total));
 }
 
-/* The areas on which each edge of number 5 is tried, with the number that comes before 5 there, or 0. Level 1 of the open ones is
- * full, so that any bit makes a node and needs a log. */
+/* The areas on which each edge of number 5 and every kind of preview and close is tried, with the number that comes before 5 there, or
+ * 0. Level 1 of the open ones is full, so that any bit makes a node and needs a log. */
 enum { FULL, LATE, ENDED, UNSOUND, SHORT, EDGE_AREAS };
 static struct edge_area {
     uint64_t total, number;
@@ -465,15 +546,6 @@ static struct edge_area {
     [UNSOUND] = { .total = 8192, .number = 7 },
     [SHORT] = { .total = 8192, .number = 7 },
 };
-
-/* a copy of the first bytes of an area, which ends at a page that may not be touched */
-static struct guarded copy_of(const struct guarded *area, size_t length)
-{
-    struct guarded copy = guarded_new(length, 1);
-
-    memcpy(copy.bytes, area->bytes, length);
-    return copy;
-}
 
 static void make_edge_areas(void)
 {
@@ -540,6 +612,18 @@ static void feed_edges(void)
     quiet_feed(&edge_areas[FULL].area, &none, 0, 5);
     for (i = 0; i < EDGE_AREAS; i++)
         guarded_free(&edge_areas[i].area);
+}
+
+/* every kind of preview and of close on each of the areas: 7, 10, and in the open ones 9 and 8, 14 */
+static void ending_edges(void)
+{
+    size_t i;
+
+    make_edge_areas();
+    for (i = 0; i < EDGE_AREAS; i++) {
+        try_every_ending(&edge_areas[i].area);
+        guarded_free(&edge_areas[i].area);
+    }
 }
 
 /* the same bits twice: from a start bit on, and moved to the front of bytes of their own; the bits beside them are random, and
@@ -697,23 +781,34 @@ static void told_as_fed(const struct guarded *area)
     told_damaged[number]++;
 }
 
-/* a random feed or end, of a log and an output of random lengths */
-static md6_answer random_call(const struct guarded *area, uint64_t *log, uint8_t digest[64])
+/* a random feed, of a log of so many words */
+static md6_answer random_feed(const struct guarded *area, uint64_t *log, size_t log_words)
 {
     static uint8_t bytes[2048];
     struct piece piece = { bytes, { sizeof bytes, below(4) == 0 ? next() >> below(64) : below(STARTS), next() } };
-    size_t log_words = (size_t)below(80);
 
-    if (below(2) == 0)
-        return md6_end(lent_words(area), word_count(area), digest, (size_t)below(65), log, log_words);
     if (below(2) == 0)
         piece.span.bits = below(8 * sizeof bytes + 20);
     random_bytes(bytes, sizeof bytes);
     return feed(area, &piece, log, log_words);
 }
 
-/* tellings and a call on an area that is damaged or short, or now and then is not: a refusal changes nothing, and nothing else
- * changes a word past those that L asks */
+/* a random feed, end, preview or close, of a log and an output or figure of random lengths */
+static md6_answer random_call(const struct guarded *area, uint64_t *log, uint8_t digest[64])
+{
+    size_t log_words = (size_t)below(80), bytes = (size_t)below(65);
+
+    switch (below(6)) {
+    case 0: return md6_preview(lent_words(area), word_count(area), digest, bytes);
+    case 1: return md6_close(lent_words(area), word_count(area), digest, bytes, log, log_words);
+    case 2:
+    case 3: return md6_end(lent_words(area), word_count(area), digest, bytes, log, log_words);
+    default: return random_feed(area, log, log_words);
+    }
+}
+
+/* tellings, a preview, a close and another call on an area that is damaged or short, or now and then is not: a refusal changes nothing,
+ * and nothing else changes a word past those that L asks */
 static void one_damage(void)
 {
     static uint64_t kept[MOST_WORDS], log[LOG_WORDS], kept_log[LOG_WORDS];
@@ -726,6 +821,7 @@ static void one_damage(void)
     if (below(4) == 0)
         area = cut_off(&area);
     told_as_fed(&area);
+    end_any(&area);
     random_bytes((uint8_t *)log, sizeof log);
     random_bytes(digest, sizeof digest);
     memcpy(kept, area.bytes, area.length);
@@ -749,7 +845,7 @@ int main(int argc, char **argv)
     uint64_t seed = begin(argc, argv);
     unsigned i;
 
-    printf("seed %" PRIu64 ": %d cuttings, %d random sound areas, %d calls on damaged areas\n", seed, CUTTINGS, SOUND, DAMAGED);
+    printf("seed %" PRIu64 ": %d cuttings, %d random sound areas, %d damaged areas\n", seed, CUTTINGS, SOUND, DAMAGED);
     all_rows();
     for (i = 0; i < CUTTINGS; i++)
         one_cutting(pick_params());
@@ -759,6 +855,8 @@ int main(int argc, char **argv)
     for (i = 0; i < SOUND; i++)
         random_sound();
     feed_edges();
+    for (i = 0; i < ENDINGS; i++)
+        ending_edges();
     for (i = 0; i < 3; i++)
         every_reach(limits[i]);
     for (i = 0; i < DAMAGED; i++)
@@ -774,9 +872,16 @@ int main(int argc, char **argv)
     printf("opens: %" PRIu64 " refused by 7, %" PRIu64 " by 1, %" PRIu64 " by 2, %" PRIu64 " by 3, %" PRIu64 " by 4, %" PRIu64 " accepted\n",
            opened[7], opened[1], opened[2], opened[3], opened[4], opened[0]);
     printf("%" PRIu64 " pieces at every start bit and every reach of a block\n", reached);
+    printf("previews: %" PRIu64 " refused by 7, %" PRIu64 " by 10, %" PRIu64 " by 9, %" PRIu64 " accepted\n",
+           previewed[7], previewed[10], previewed[9], previewed[0]);
+    printf("closes: %" PRIu64 " refused by 7, %" PRIu64 " by 10, %" PRIu64 " by 8, of which %" PRIu64 " with a wrong figure, ",
+           closed[7], closed[10], closed[8], short_and_wrong);
+    printf("%" PRIu64 " by 14, of which %" PRIu64 " with that from before a feed, %" PRIu64 " accepted\n", closed[14], late_figures, closed[0]);
     expect(fed_short > 0 && told_past > 0 && told_damaged[0] > 0 && told_damaged[7] > 0 && told_damaged[10] > 0,
            "a kind of telling that never came about");
     expect(shared > 0 && edge_numbers[6] > 0 && edge_numbers[8] > 0, "a kind of feed that never came about");
+    expect(late_figures > 0, "a figure from before a feed, which never came about");
+    endings_came();
     printf("%" PRIu64 " wrong\n", bad);
     return bad != 0;
 }

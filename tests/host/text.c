@@ -11,11 +11,12 @@
  *
  * Suspensions at every edge, the edges of r, each damage of a text that can be named, in both forms, and mixtures of the two.
  * Random runs of 200 calls: feeds cut at random, lent where they stand in the message, from the byte on in which the one before
- * ended, or copied to any start bit; log words told, refused calls, suspensions into a dirty area, by a text of either form; the
- * digest at the end is compared with md6_hash's and the second program's of the joined message. Sound areas of any total, which
- * no message in memory reaches, up to the longest text. Then damaged texts of both forms: whatever is read must write back to
- * itself, or to itself with r's high byte, and whatever is refused must change nothing.
+ * ended, or copied to any start bit; log words told, previews, refused calls, suspensions into a dirty area, by a text of either form;
+ * the digest of the end, or of the preview before the close, is compared with md6_hash's and the second program's of the joined message.
+ * Sound areas of any total, which no message in memory reaches, up to the longest text. Then damaged texts of both forms: whatever is
+ * read must write back to itself, or to itself with r's high byte, and whatever is refused must change nothing.
  */
+#include "ending.h"
 #include "form.h"
 
 enum { RUNS = 300, CALLS = 200, AREAS = 3000, DAMAGED = 100000, MESSAGE_BYTES = 100000, PIECE_BYTES = 1100, LOG_WORDS = 256 };
@@ -101,6 +102,14 @@ static void read_right(const uint8_t *text, size_t n, const uint64_t *area, cons
     refused_by(7, text, n, below(2) == 0 ? words - 1 : (size_t)below(words), "a good text and a short area");
 }
 
+/* a close that is refused: the log is long enough, and the figure has no byte */
+static void refused_close(const struct guarded *area)
+{
+    uint64_t log[MD6_END_LOG_WORDS], number = lent_words(area)[0] == 2 ? 10 : 14;
+
+    expect(md6_close(lent_words(area), word_count(area), NULL, 0, log, MD6_END_LOG_WORDS).number == number, "a refused close");
+}
+
 /* calls that are refused, and so may stand within a suspension */
 static void refused_calls(const struct guarded *area)
 {
@@ -113,6 +122,8 @@ static void refused_calls(const struct guarded *area)
     expect(md6_feed(lent_words(area), word_count(area), &byte, 1, 8, 0, log, 2).number == (ended ? 10 : 5), "feed from bit 8 on");
     if (ended || a[1] > 0)              /* otherwise it would be accepted */
         expect(md6_log_words(a, word_count(area), UINT64_MAX).number == (ended ? 10 : 6), "a refused telling");
+    expect(md6_preview(a, word_count(area), &byte, 0).number == (ended ? 10 : 9), "a refused preview");
+    refused_close(area);
 }
 
 /* Writes the stream and reads it into another area, sometimes by the text that it would have had before M-108; the other area takes
@@ -198,18 +209,35 @@ static void feed_some(struct run *r)
     r->total += fed ? bits : 0;
 }
 
+/* a preview and a close of any kind; the stream goes on */
+static void preview_some(struct run *r)
+{
+    struct ending e = ending_of(lent_words(&r->area), word_count(&r->area));
+
+    expect(e.number == (r->ended ? 10 : 0), "the area of a run");
+    try_ending(&r->area, &e);
+}
+
+/* an end, or a preview and a close with the figure that it gave, which is the digest of the run; once the stream has ended all are
+ * refused, and the digest stays */
 static void end_run(struct run *r)
 {
-    uint64_t log[MD6_END_LOG_WORDS];
+    uint64_t log[MD6_END_LOG_WORDS], *area = lent_words(&r->area), number = r->ended ? 10 : 0;
+    size_t words = word_count(&r->area), bytes = (size_t)(r->p.d + 7) / 8;
 
-    expect(end_area(&r->area, r->digest, (size_t)(r->p.d + 7) / 8, log).number == (r->ended ? 10 : 0), "end");
+    if (below(2) == 0)
+        expect(md6_end(area, words, r->digest, bytes, log, MD6_END_LOG_WORDS).number == number, "end");
+    else {
+        expect(md6_preview(area, words, r->digest, bytes).number == number, "preview");
+        expect(md6_close(area, words, r->digest, bytes, log, MD6_END_LOG_WORDS).number == number, "close");
+    }
     r->ended = 1;
 }
 
 /* one call, or a suspension; an end now and then if the run is late */
 static void one_call(struct run *r, int late)
 {
-    switch (below(9)) {
+    switch (below(10)) {
     case 0:
         suspend(&r->area);
         break;
@@ -222,6 +250,9 @@ static void one_call(struct run *r, int late)
         break;
     case 3:
         tell_much(&r->area, r->total, r->ended);
+        break;
+    case 4:
+        preview_some(r);
         break;
     default:
         feed_some(r);

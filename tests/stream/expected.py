@@ -7,7 +7,8 @@ the last bit, so all but the last of each level. Bits from a start bit on are cu
 given to it as one message. Refusals are those of document 01's table, numbers 4, 5 and 7 as document 02 has them, and change
 nothing. Told log words are those of document 02, M-103: two for each node that the feed would make; what is past the second
 program is counted level by level, by document 01's "Tree". An area has the words that M-109 gives for its L, those lent past
-them are as they were after every call, and whatever they hold no call answers otherwise.
+them are as they were after every call, and whatever they hold no call answers otherwise. What a preview writes is the digest
+of the message fed so far, and a close is an end if it is given just that, by M-106.
 """
 import functools
 import subprocess
@@ -16,6 +17,7 @@ import sys
 ONES = b"\xff" * 4096
 KEY = b"key"
 CUT = bytes((85 + 73 * i) % 256 for i in range(513))
+FILL = int("a5" * 8, 16)
 
 
 @functools.lru_cache(None)
@@ -79,6 +81,15 @@ def refused_end(number, room):
     return refused(number) + ["a5" * room]
 
 
+def refused_preview(number, room):
+    return telling(number) + ["a5" * room]
+
+
+def output(digest, room):
+    """Document 01: "Output bytes past the digest or text stay"."""
+    return [digest + "a5" * (room - len(digest) // 2)]
+
+
 class Stream:
     """What a stream of one message, open from its first bit on, must log."""
 
@@ -96,10 +107,32 @@ class Stream:
         fresh, self.logged = nodes[self.logged:], len(nodes)
         return [answer(0, len(fresh), "changed" if bits else "same")] + fresh
 
+    def digest(self):
+        return self.tree()[1]
+
+    def last_nodes(self):
+        """What an end or an accepted close answers, and the nodes that it makes."""
+        fresh = self.tree()[0][self.logged:]
+        return [answer(0, len(fresh), "changed")] + fresh
+
     def end(self, room):
-        nodes, digest = self.tree()
-        fresh = nodes[self.logged:]
-        return [answer(0, len(fresh), "changed")] + fresh + [digest + "a5" * (room - len(digest) // 2)]
+        return self.last_nodes() + output(self.digest(), room)
+
+    def preview(self, room):
+        """Document 02, M-106: "it refuses 7, 10, 9, has count 0 and writes no log"; of an open, sound area."""
+        if 2 * room < len(self.digest()):
+            return refused_preview(9, room)
+        return telling(0) + output(self.digest(), room)
+
+    def close(self, figure, words):
+        """M-106: "14, the figure differs, last in the order 7, 10, 8, 14"; of an open, sound area."""
+        if words < 2 * (len(self.tree()[0]) - self.logged):
+            return refused(8)
+        return refused(14) if figure != bytes.fromhex(self.digest()) else self.last_nodes()
+
+    def end_and_close(self):
+        """An end and a close with the right figure, then word 0, the nodes, and that both left the same words."""
+        return self.end(3) + self.close(bytes.fromhex(self.digest()), 54) + [f"2 {len(self.tree()[0])} same"]
 
 
 OPENED = [answer(0, 0, "changed")]
@@ -118,22 +151,33 @@ def opened(*arguments):
 
 def row(limit, d, *pieces):
     stream = Stream(b"", d, limit)
-    lines = list(OPENED)
+    lines = OPENED + stream.preview(3)
     for bits in pieces:
-        lines += stream.feed(bits)
+        lines += stream.feed(bits) + stream.preview(3)
     return lines + stream.end(3)
 
 
+WHOLE = [(64, 8, 0), (64, 8, 4096), (64, 8, 4097), (64, 8, 16384), (64, 9, 16384), (64, 8, 16385),
+         (0, 8, 0), (0, 8, 3073), (1, 8, 12288), (1, 8, 12289)]
+
+
 def whole_rows():
-    rows = [(64, 8, 0), (64, 8, 4096), (64, 8, 4097), (64, 8, 16384), (64, 9, 16384), (64, 8, 16385),
-            (0, 8, 0), (0, 8, 3073), (1, 8, 12288), (1, 8, 12289)]
-    return [line for limit, d, bits in rows for line in row(limit, d, bits, 0, 0, 0)]
+    return [line for limit, d, bits in WHOLE for line in row(limit, d, bits, 0, 0, 0)]
 
 
 def cut_rows():
     rows = [(64, 8, 1, 4095, 0, 0), (64, 8, 1, 4095, 1, 0), (64, 8, 1, 4095, 1, 12287), (64, 9, 1, 4095, 1, 12287),
             (64, 8, 1, 4095, 1, 12288), (0, 8, 3071, 1, 1, 0), (1, 8, 1, 4095, 1, 8191), (1, 8, 1, 4095, 1, 8192)]
     return [line for r in rows for line in row(*r)]
+
+
+def closed_row(limit, d, bits):
+    stream = Stream(b"", d, limit)
+    return OPENED + stream.feed(bits) + stream.end_and_close()
+
+
+def closed_rows():
+    return [line for r in WHOLE for line in closed_row(*r)]
 
 
 def with_rounds(rounds):
@@ -156,14 +200,15 @@ def opens():
 
 
 def unsound(count, number=7, room=3, shown=0):
-    return (telling(number) + refused(number) + refused_end(number, room) + [str(shown)]) * count
+    lines = telling(number) + refused(number) + refused_preview(number, room) + refused(number) + refused_end(number, room)
+    return (lines + [str(shown)]) * count
 
 
 def sound(limit, bits, message, rounds=0):
     """A byte `a` is fed after so many bits; the message has both."""
     stream = Stream(KEY, 8, limit, message, rounds)
     stream.feed(bits)
-    return told(limit, bits, 8) + stream.feed(8) + stream.end(3) + ["64"]
+    return told(limit, bits, 8) + stream.feed(8) + stream.preview(3) + stream.close(b"", 54) + stream.end(3) + ["64"]
 
 
 def altered(limit, bits, at):
@@ -205,9 +250,10 @@ def stream_in(words, limit):
     """M-109: "Showing a level that the area lacks gives the empty part." An area that was not opened shows none."""
     lines = opened(words, 0, 24, limit, 9)
     if lines != OPENED:
-        return lines + telling(7) + refused(7) + shown(-1) + refused_end(7, 3)
+        lines += telling(7) + refused(7) + shown(-1) + refused_preview(7, 3) + refused_end(7, 3) + refused(7)
+        return lines + [f"{FILL} {FILL} same"]
     stream = Stream(b"", 24, limit, rounds=9)
-    return lines + told(limit, 0, 16385) + stream.feed(16385) + shown(limit) + stream.end(3)
+    return lines + told(limit, 0, 16385) + stream.feed(16385) + shown(limit) + stream.preview(3) + stream.end_and_close()
 
 
 def shortened(words, limit):
@@ -290,8 +336,10 @@ def long_stream():
     limit, total = 64, 2 ** 64 - 2
     lines = told(limit, total, 2) + refused(6) + refused(5) + told(limit, total, 1) + [answer(0, 0, "changed")]
     total += 1
-    lines += told(limit, total, 0) + told(limit, total, 1) + refused(6) + refused_end(8, 3)
-    lines += [answer(0, 27, "changed")] + last_nodes(limit, total, True) + ["00a5a5", str(sum(level_sizes(limit, total)))]
+    lines += told(limit, total, 0) + told(limit, total, 1) + refused(6) + telling(0) + output("00", 3)
+    lines += refused_end(8, 3) + refused(8)
+    closed = [answer(0, 27, "changed")] + last_nodes(limit, total, True)
+    lines += closed + output("00", 3) + closed + [f"2 {sum(level_sizes(limit, total))} same"]
     return lines + telling(10)
 
 
@@ -356,7 +404,34 @@ def ordered_refusals():
     return [line for number in (8, 6, 5, 10, 7) for line in refused(number)]
 
 
-print("\n".join(whole_rows() + cut_rows() + rounds_edges() + opens() + all_lengths() + unsound(14) + other_limits()
+def refused_closes():
+    """The digest is ff80. After the close all calls are refused by 10; with word 15 set by 7."""
+    stream = Stream(b"", 9, 64)
+    lines = OPENED + stream.feed(16384)
+    wrong = [bytes.fromhex(figure) for figure in ("", "ff", "ff8000", "7f80", "ff00", "7f00", "ffc0", "ff81")]
+    right = bytes.fromhex("ff80")
+    lines += [line for words in (4, 3) for figure in wrong for line in stream.close(figure, words)]
+    lines += stream.close(right, 3) + stream.preview(1) + stream.preview(2) + stream.close(right, 4)
+    return lines + refused(10) + unsound(1, 10, 3, 64) + unsound(1, 10, 0, 64) + unsound(1, 7, 0)
+
+
+def fed_between():
+    """M-106: "Feeds between the two are allowed; then the close goes by the longer message"."""
+    stream = Stream(b"", 8, 64)
+    lines = OPENED + stream.feed(4096) + stream.preview(3) + stream.feed(1) + stream.close(b"\xff", 54)
+    return lines + stream.preview(3) + stream.close(b"\x00", 54)
+
+
+def longest_figure():
+    stream = Stream(KEY, 512, 64, rounds=9)
+    lines = OPENED + stream.feed(4097) + stream.preview(63) + stream.preview(64) + stream.preview(65)
+    right = bytes.fromhex(stream.digest())
+    figures = [right[:i] + bytes([right[i] ^ 1]) + right[i + 1:] for i in range(64)] + [right[1:], right + b"\xa5", right]
+    return lines + [line for figure in figures for line in stream.close(figure, 54)]
+
+
+print("\n".join(whole_rows() + cut_rows() + closed_rows() + rounds_edges() + opens() + all_lengths() + unsound(14) + other_limits()
                 + altered_levels() + sound_areas() + unsound(3, 7, 0) + short_logs() + told_edges() + told_longest() + most_nodes()
                 + long_stream() + starts() + [pieces(bits) for bits in (1, 3, 9, 19, 171, 513, 1026, 4104)]
-                + logged([(CUT, 0, 4093), (CUT[511:], 5, 5), (CUT[512:], 2, 6)]) + start_edges() + ordered_refusals()))
+                + logged([(CUT, 0, 4093), (CUT[511:], 5, 5), (CUT[512:], 2, 6)]) + start_edges() + ordered_refusals()
+                + refused_closes() + fed_between() + longest_figure()))

@@ -6,33 +6,16 @@ use Prim.Native.Nat.{ℕ, zero, suc, _+_, _-_, _*_, _/_, _%_, _^_, _≤_, _<_}
 use native.Mathlib.Nat.{mod-eq-of-lt, mod-lt, zero-mul}
 use native.Mathlib.Omega.{arith}
 use lib.Dec.{eqb}
-use lib.Bits.{bitOr, or-add-and, and-le-l, and-le-r}
+use lib.Bits.{bitOr}
 use lib.Pow.{pow-add, pow-pos, split, low, shl-lt}
 use lib.ListN.{length, drop, getD, drop-of-length-le}
 use lib.Seq.{drop-cons, drop-drop, drop-append-le}
-use borrow.Author.Tests.{eq-eqb, ne-eqb, eqb-true, eqb-false}
+use borrow.Author.Tests.{eq-eqb, ne-eqb}
+use Rattle.lists.specs.SameLaws.{or-zero}
 use Rattle.bits.specs.Bits.{bits, bitsOf, spell}
 use Rattle.bits.specs.BitsLaws.{length-bits, length-bitsOf, bitsOf-drop, spell-from, spell-bits, spell-drop}
 use Rattle.calls.specs.Area.{allFalse}
 use Rattle.area.specs.LevelTests.{emptyFrom}
-
--- ---- tests
-
--- two numbers joined by `|` are zero if both are
-or-zero : (a b : ℕ) → eqb (bitOr a b) 0 ≡ (eqb a 0 && eqb b 0)
-or-zero a b = by (eqb a 0) (eqb b 0) refl refl
-  where
-    by : (p q : Bool) → eqb a 0 ≡ p → eqb b 0 ≡ q → eqb (bitOr a b) 0 ≡ (p && q)
-    by true true e f =
-        let x = eqb-true a 0 e in
-        let y = eqb-true b 0 f in
-        eq-eqb (bitOr a b) 0 (omega (arith, or-add-and a b))
-    by true false e f =
-        let y = eqb-false b 0 f in
-        ne-eqb (bitOr a b) 0 (λ z. omega (arith, or-add-and a b, and-le-l a b, and-le-r a b))
-    by false q e f =
-        let x = eqb-false a 0 e in
-        ne-eqb (bitOr a b) 0 (λ z. omega (arith, or-add-and a b, and-le-l a b, and-le-r a b))
 
 -- ---- bits that are all false
 

@@ -9,11 +9,11 @@ use native.Mathlib.Omega.{arith}
 use borrow.Author.Tests.{le-ltb, le-leb, lt-leb}
 use lib.Dec.{leb}
 use lib.ListN.{length, length-append}
-use Rattle.tree.specs.Tree.{Params, order}
-use Rattle.refusals.specs.Refusals.{firstRefusal}
+use Rattle.tree.specs.Tree.{Params, order, digestBytes, digest}
+use Rattle.refusals.specs.Refusals.{firstRefusal, outputTest}
 use Rattle.tree.specs.Sizes.{treeNodes}
 use Rattle.calls.specs.Area.{areaLevels, ownLevels, ownWords, totalOf, paramsOf, levelWords, levelsOf, emptyLevels, openCount, sound, Long}
-use Rattle.calls.specs.Calls.{feedBits, fedBits, feedNumber, closedBy, endNumber, logWordsNumber, shown, levelOf, openTests, totalTest, feedTests, endTests}
+use Rattle.calls.specs.Calls.{feedBits, fedBits, feedNumber, closedBy, endNumber, nodesDigest, previewNumber, closeTests, closeNumber, logWordsNumber, shown, levelOf, openTests, totalTest, feedTests, endTests}
 use Rattle.calls.specs.CallLaws.{OpenArea, open-tests}
 use Rattle.calls.specs.Marks.{allNodes, settled}
 use Rattle.calls.specs.Machine
@@ -22,7 +22,7 @@ use Rattle.lists.specs.And.{and-intro}
 use Rattle.bits.specs.Piece.{Piece, pieceBits}
 use Rattle.calls.specs.AreaLaws.{length-levelsOf}
 use Rattle.calls.specs.Sound.{state-size}
-use Rattle.calls.specs.Stands.{state-settled, state-all, Stands, Closed, stands-sound, closed-sound}
+use Rattle.calls.specs.Stands.{state-settled, state-all, Stands, Closed, stands-sound, closed-sound, stands-digest}
 
 -- ---- the count of word 14 is a number of nodes
 
@@ -54,6 +54,16 @@ module _ {P : Params} {M : List Bool} {area : List ℕ} (s : Stands P M area) wh
   pub end-tests : (out log : List ℕ) → endNumber area out log ≡ firstRefusal (endTests (P .d) (length (closedBy area)) out log)
   unfolding endNumber
   end-tests out log = open-tests opened (endTests (paramsOf area .d) (length (closedBy area)) out log) ∙ rw (s .head .params)
+
+  -- nor a preview or a close
+  pub preview-tests : (out : List ℕ) → previewNumber area out ≡ firstRefusal (outputTest (digestBytes (P .d)) out ∷ [])
+  unfolding previewNumber
+  preview-tests out = open-tests opened (outputTest (digestBytes (paramsOf area .d)) out ∷ []) ∙ rw (s .head .params)
+
+  pub close-tests : (figure log : List ℕ) → closeNumber area figure log ≡ firstRefusal (closeTests (length (closedBy area)) (digest P M) figure log)
+  unfolding closeNumber
+  close-tests figure log =
+      open-tests opened (closeTests (length (closedBy area)) (nodesDigest area (closedBy area)) figure log) ∙ rw (stands-digest s)
 
   -- nor telling log words
   pub logWords-tests : (n : ℕ) → logWordsNumber area n ≡ firstRefusal (totalTest (length M) n ∷ [])
@@ -87,6 +97,14 @@ module _ {P : Params} {M : List Bool} {area : List ℕ} (s : Closed P M area) wh
   pub end-ended : (out log : List ℕ) → endNumber area out log ≡ 10
   unfolding endNumber
   end-ended out log = ended-tests (endTests (paramsOf area .d) (length (closedBy area)) out log)
+
+  pub preview-ended : (out : List ℕ) → previewNumber area out ≡ 10
+  unfolding previewNumber
+  preview-ended out = ended-tests (outputTest (digestBytes (paramsOf area .d)) out ∷ [])
+
+  pub close-ended : (figure log : List ℕ) → closeNumber area figure log ≡ 10
+  unfolding closeNumber
+  close-ended figure log = ended-tests (closeTests (length (closedBy area)) (nodesDigest area (closedBy area)) figure log)
 
   pub logWords-ended : (n : ℕ) → logWordsNumber area n ≡ 10
   unfolding logWordsNumber

@@ -3,28 +3,30 @@
 -- read do: AlikeTexts of `text`.
 use mathlib.Core.Path.{_≡_, refl, sym, ap, _∙_, subst}
 use mathlib.Core.Bool.{Bool, true, false, _&&_}
-use mathlib.Core.List.{List, [], _∷_, _++_, flatten}
-use Prim.Native.Nat.{ℕ, zero, suc, _+_, _≤_, _<_}
+use mathlib.Core.List.{List, [], _∷_, _++_}
+use Prim.Native.Nat.{ℕ, _+_, _≤_, _<_}
 use native.Mathlib.Omega.{arith}
 use borrow.Author.Tests.{ltb-true, ltb-false, lt-ltb, le-ltb, le-leb, leb-true}
 use lib.Dec.{ltb, leb}
-use lib.ListN.{length, take, drop, set, replicate, length-take, length-set, length-replicate}
+use lib.ListN.{length, take, set, replicate, length-take, length-set, length-replicate}
 use lib.Seq.{take-take, take-all, take-set-lt}
 use Rattle.lists.specs.And.{and-parts}
 use Rattle.lists.specs.Take.{take-drop-take}
 use Rattle.bits.specs.Piece.{Piece, pieceBits}
 use Rattle.tree.specs.Tree.{Params, Node}
 use Rattle.refusals.specs.Refusals.{firstRefusal, paramTests}
+use Rattle.refusals.specs.RefusalLaws.{alike-by}
 use Rattle.calls.specs.Area.{headWords, blockWords, areaWords, ownLevels, ownWords, Long, totalOf, compressionsOf, paramsOf, levelStart, levelWords, levelsOf, withLevels, emptyLevel, emptyLevels, sound}
-use Rattle.calls.specs.Calls.{Made, Opened, Fed, Finished, openTests, feedTests, endTests, totalTest, shortTest, openNumber, openOf, fedBits, feedNumber, fedArea, feedOf, closedBy, endNumber, endedArea, digestOut, endOf, shown, levelOf, logWordsNumber, logWordsOf}
+use Rattle.calls.specs.Calls.{Made, openTests, feedTests, endTests, totalTest, openNumber, openOf, fedBits, feedNumber, fedArea, feedOf, closedBy, endNumber, endedArea, digestOut, endOf, nodesDigest, previewOf, closeTests, closeNumber, closeOf, shown, levelOf, logWordsNumber, logWordsOf}
 use Rattle.calls.specs.Rows.{AllLen}
 use Rattle.calls.specs.AreaLaws.{params-set, front-withLevels}
 use Rattle.calls.specs.Sound.{empty-widths}
-use Rattle.calls.specs.CallLaws.{open-number, open-accepted, open-refused, feed-number, feed-accepted, feed-refused, feed-passed, end-number, end-accepted, end-refused, end-passed}
 use Rattle.calls.specs.Widths.{Wide, wide-levels, wide-bits}
 use Rattle.calls.specs.Stands.{opened-alike}
+use Rattle.calls.specs.LogWords.{end-enough}
+use Rattle.calls.specs.Previews.{preview-as-end}
 use Rattle.calls.specs.Moved.{SameParts, same-front, same-sound, alike-long, front-long, front-params}
-use Rattle.calls.specs.Terms.{SameFront, OpenedAlike, FedAlike, FinishedAlike}
+use Rattle.calls.specs.Terms.{SameFront, OpenedAlike, FedAlike, FinishedAlike, ClosedAlike}
 
 -- ---- short areas
 
@@ -57,17 +59,11 @@ by-length Q same long x y e = by (ltb (length x) (ownWords x)) refl
 -- ---- open
 
 pub open-alike : (x y : List ℕ) (P : Params) → SameFront (P .limit) x y → OpenedAlike (P .limit) (openOf x P) (openOf y P)
-unfolding openNumber
-open-alike x y P e = by (openNumber x P) refl
+unfolding openNumber openOf
+open-alike x y P e = alike-by (OpenedAlike (P .limit)) number (refl, refl, opened-alike x y P) (λ k. (refl, refl, e))
   where
     number : openNumber x P ≡ openNumber y P
     number = ap (λ (b : Bool). firstRefusal (paramTests P ++ ((b, 7) ∷ []))) (shorter-alike (areaWords (P .limit)) x y e)
-
-    by : (k : ℕ) → openNumber x P ≡ k → OpenedAlike (P .limit) (openOf x P) (openOf y P)
-    by zero h =
-        rw (open-accepted x P h, open-accepted y P (sym number ∙ h)) (refl, refl, opened-alike x y P)
-    by (suc k) h =
-        rw (← open-refused x P (suc k) (sym h) (omega arith), ← open-refused y P (suc k) (sym h ∙ number) (omega arith)) (refl, refl, e)
 
 -- ---- the tests, and the nodes
 
@@ -153,8 +149,10 @@ module _ (x y : List ℕ) (h : Long x) (e : SameFront (paramsOf x .limit) x y) w
 -- ---- feed
 
 feed-long : (piece : Piece) (log x y : List ℕ) → Long x → SameFront (paramsOf x .limit) x y → FedAlike (paramsOf x .limit) (feedOf x piece log) (feedOf y piece log)
-unfolding feedNumber fedBits
-feed-long piece log x y h e = by (feedNumber x piece log) refl
+unfolding feedNumber feedOf fedBits
+feed-long piece log x y h e =
+    alike-by (FedAlike (paramsOf x .limit)) number
+    (rw (← made) (refl, refl, refl, fed-left x y h e (piece .count) (fedBits x (pieceBits piece)) (wide .widths) (wide .size))) (λ k. (refl, refl, refl, e))
   where
     made : fedBits x (pieceBits piece) ≡ fedBits y (pieceBits piece)
     made = fed-alike x y h e (pieceBits piece)
@@ -167,13 +165,6 @@ feed-long piece log x y h e = by (feedNumber x piece log) refl
     wide : Wide (paramsOf x .limit) (fedBits x (pieceBits piece) .levels)
     wide = wide-bits (paramsOf x) (paramsOf x .limit) (totalOf x) (pieceBits piece) (levelsOf x) (wide-levels x h)
 
-    by : (k : ℕ) → feedNumber x piece log ≡ k → FedAlike (paramsOf x .limit) (feedOf x piece log) (feedOf y piece log)
-    by zero z =
-        rw (feed-accepted x piece log z, feed-accepted y piece log (sym number ∙ z), ← made)
-        (refl, refl, refl, fed-left x y h e (piece .count) (fedBits x (pieceBits piece)) (wide .widths) (wide .size))
-    by (suc k) z =
-        rw (← feed-refused x piece log (suc k) (sym z) (omega arith), ← feed-refused y piece log (suc k) (sym z ∙ number) (omega arith)) (refl, refl, refl, e)
-
 pub feed-alike : (x y : List ℕ) (piece : Piece) (log : List ℕ) → SameFront (paramsOf x .limit) x y →
     FedAlike (paramsOf x .limit) (feedOf x piece log) (feedOf y piece log)
 feed-alike x y piece log =
@@ -182,8 +173,10 @@ feed-alike x y piece log =
 -- ---- end
 
 end-long : (out log x y : List ℕ) → Long x → SameFront (paramsOf x .limit) x y → FinishedAlike (paramsOf x .limit) (endOf x out log) (endOf y out log)
-unfolding endNumber
-end-long out log x y h e = by (endNumber x out log) refl
+unfolding endNumber endOf
+end-long out log x y h e =
+    alike-by (FinishedAlike (paramsOf x .limit)) number
+    (rw (← made) (refl, refl, digest-alike x y h e (closedBy x) out, refl, ended-left x y h e (closedBy x))) (λ k. (refl, refl, refl, refl, e))
   where
     made : closedBy x ≡ closedBy y
     made = closed-alike x y h e
@@ -192,16 +185,37 @@ end-long out log x y h e = by (endNumber x out log) refl
     number =
         tests-alike x y h e (endTests (paramsOf x .d) (length (closedBy x)) out log) ∙ rw (made, same x y h e .params) refl
 
-    by : (k : ℕ) → endNumber x out log ≡ k → FinishedAlike (paramsOf x .limit) (endOf x out log) (endOf y out log)
-    by zero z =
-        rw (end-accepted x out log z, end-accepted y out log (sym number ∙ z), ← made)
-        (refl, refl, digest-alike x y h e (closedBy x) out, refl, ended-left x y h e (closedBy x))
-    by (suc k) z =
-        rw (← end-refused x out log (suc k) (sym z) (omega arith), ← end-refused y out log (suc k) (sym z ∙ number) (omega arith)) (refl, refl, refl, refl, e)
-
 pub end-alike : (x y out log : List ℕ) → SameFront (paramsOf x .limit) x y → FinishedAlike (paramsOf x .limit) (endOf x out log) (endOf y out log)
 end-alike x y out log =
     by-length (λ (x y : List ℕ). FinishedAlike (paramsOf x .limit) (endOf x out log) (endOf y out log)) (λ z. (refl, refl, refl, refl, refl)) (end-long out log) x y
+
+-- ---- preview and close
+
+-- a preview answers as an end whose log has words enough
+pub preview-alike : (x y out : List ℕ) → SameFront (paramsOf x .limit) x y → previewOf x out ≡ previewOf y out
+preview-alike x y out e =
+    let log : List ℕ = replicate 54 0 in
+    let a = end-alike x y out log e in
+    let p : (z : List ℕ) → previewOf z out ≡ record { number = endOf z out log .number; count = 0; digest = endOf z out log .digest } =
+    λ z. preview-as-end z out log (end-enough z out log (omega arith)) in
+    p x ∙ rw (a .0, a .2) (sym (p y))
+
+close-long : (figure log x y : List ℕ) → Long x → SameFront (paramsOf x .limit) x y → ClosedAlike (paramsOf x .limit) (closeOf x figure log) (closeOf y figure log)
+unfolding closeNumber closeOf
+close-long figure log x y h e =
+    alike-by (ClosedAlike (paramsOf x .limit)) number
+    (rw (← made) (refl, refl, refl, ended-left x y h e (closedBy x))) (λ k. (refl, refl, refl, e))
+  where
+    made : closedBy x ≡ closedBy y
+    made = closed-alike x y h e
+
+    number : closeNumber x figure log ≡ closeNumber y figure log
+    number =
+        tests-alike x y h e (closeTests (length (closedBy x)) (nodesDigest x (closedBy x)) figure log) ∙ rw (made, same x y h e .params) refl
+
+pub close-alike : (x y figure log : List ℕ) → SameFront (paramsOf x .limit) x y → ClosedAlike (paramsOf x .limit) (closeOf x figure log) (closeOf y figure log)
+close-alike x y figure log =
+    by-length (λ (x y : List ℕ). ClosedAlike (paramsOf x .limit) (closeOf x figure log) (closeOf y figure log)) (λ z. (refl, refl, refl, refl)) (close-long figure log) x y
 
 -- ---- show a level, and log words
 

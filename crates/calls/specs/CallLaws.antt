@@ -5,15 +5,16 @@ use mathlib.Core.List.{List, [], _∷_, _++_}
 use Prim.Native.Nat.{ℕ, _+_, _-_, _*_, _^_, _≤_, _<_}
 use native.Mathlib.Omega.{arith}
 use borrow.Author.Tests.{ltb-false, eqb-false, not-false, le-ltb, ne-eqb}
-use lib.ListN.{length, take, drop, replicate}
+use lib.ListN.{length, take, drop, replicate, length-append, length-drop}
 use lib.Seq.{take-at}
+use Rattle.lists.specs.SameLaws.{same-eq}
 use Rattle.bits.specs.Piece.{Piece, pieceBits}
 use Rattle.bits.specs.PieceLaws.{Fits, bits-there}
 use Rattle.tree.specs.Tree.{Params, Node, digestBytes}
-use Rattle.refusals.specs.Refusals.{Told, firstRefusal, paramTests}
+use Rattle.refusals.specs.Refusals.{Told, firstRefusal, paramTests, outputTest}
 use Rattle.refusals.specs.RefusalLaws.{testAt, passed-by, passed, second-part, answer-number, answer-refused}
 use Rattle.calls.specs.Area.{areaWords, ownWords, Long, phaseOf, totalOf, paramsOf, sound}
-use Rattle.calls.specs.Calls.{Made, nodeLog, logged, openNumber, openedArea, openOf, fedBits, feedNumber, fedArea, feedOf, closedBy, endNumber, endedArea, digestOut, endOf, shortTest, openTests, Opened, Fed, totalTest, feedTests, Finished, endTests, logWordsNumber, logWordsOf}
+use Rattle.calls.specs.Calls.{Made, nodeLog, logged, openNumber, openedArea, openOf, fedBits, feedNumber, fedArea, feedOf, closedBy, endNumber, endedArea, digestOut, endOf, shortTest, openTests, Opened, Fed, totalTest, feedTests, Finished, endTests, Previewed, previewNumber, previewOf, ClosedWith, closeTests, closeNumber, closeOf, nodesDigest, logWordsNumber, logWordsOf}
 
 -- ---- the log
 
@@ -28,6 +29,9 @@ nodeLog-append (x ∷ xs) ys = ap (λ (l : List ℕ). x .u ∷ x .v ∷ l) (node
 -- the words of the log that a call wrote
 pub logged-front : (nodes : List Node) (log : List ℕ) → take (2 * length nodes) (logged nodes log) ≡ nodeLog nodes
 logged-front nodes log = take-at (nodeLog nodes) (drop (2 * length nodes) log) (2 * length nodes) (length-nodeLog nodes)
+
+pub length-logged : (nodes : List Node) (log : List ℕ) → 2 * length nodes ≤ length log → length (logged nodes log) ≡ length log
+length-logged nodes log h = simp (length-append, length-drop) (omega (arith, length-nodeLog nodes))
 
 -- ---- an area that is long enough, sound and open
 
@@ -128,6 +132,62 @@ end-passed area out log e =
     let p = passed-by 0 (openTests area) (endTests (paramsOf area .d) (length (closedBy area)) out log) refl e in
     let q = passed (endTests (paramsOf area .d) (length (closedBy area)) out log) refl (p .1) in
     record { opened = open-area area (p .0); output = ltb-false _ _ (q 0); room = ltb-false _ _ (q 1) }
+
+-- ---- preview
+
+pub preview-number : (area out : List ℕ) → previewOf area out .number ≡ previewNumber area out
+unfolding previewOf
+preview-number area out = answer-number (λ (x : Previewed). x .number) (previewNumber area out) _ _ refl (λ k. refl)
+
+pub preview-accepted : (area out : List ℕ) → previewNumber area out ≡ 0
+    → previewOf area out ≡ record { number = 0; count = 0; digest = digestOut area (closedBy area) out }
+unfolding previewOf
+preview-accepted area out e = rw e refl
+
+pub preview-refused : (area out : List ℕ) (k : ℕ) → k ≡ previewNumber area out → (k ≡ 0 → ⊥) → record { number = k; count = 0; digest = out } ≡ previewOf area out
+unfolding previewOf
+preview-refused area out k = answer-refused k (previewNumber area out) _ (λ k. record { number = k; count = 0; digest = out })
+
+pub record PreviewPassed (area out : List ℕ) : Type 0 where
+  pub opened : OpenArea area
+  pub output : digestBytes (paramsOf area .d) ≤ length out
+
+pub preview-passed : (area out : List ℕ) → previewNumber area out ≡ 0 → PreviewPassed area out
+unfolding previewNumber
+preview-passed area out e =
+    let later : List (Bool × ℕ) = outputTest (digestBytes (paramsOf area .d)) out ∷ [] in
+    let p = passed-by 0 (openTests area) later refl e in
+    record { opened = open-area area (p .0); output = ltb-false _ _ (passed later refl (p .1) 0) }
+
+-- ---- close
+
+pub close-number : (area figure log : List ℕ) → closeOf area figure log .number ≡ closeNumber area figure log
+unfolding closeOf
+close-number area figure log = answer-number (λ (x : ClosedWith). x .number) (closeNumber area figure log) _ _ refl (λ k. refl)
+
+pub close-accepted : (area figure log : List ℕ) → closeNumber area figure log ≡ 0 → closeOf area figure log ≡
+    (let nodes : List Node = closedBy area in record { number = 0; count = length nodes; area = endedArea area nodes; log = logged nodes log })
+unfolding closeOf
+close-accepted area figure log e = rw e refl
+
+pub close-refused : (area figure log : List ℕ) (k : ℕ) → k ≡ closeNumber area figure log → (k ≡ 0 → ⊥) →
+    record { number = k; count = 0; area = area; log = log } ≡ closeOf area figure log
+unfolding closeOf
+close-refused area figure log k = answer-refused k (closeNumber area figure log) _ (λ k. record { number = k; count = 0; area = area; log = log })
+
+pub record ClosePassed (area figure log : List ℕ) : Type 0 where
+  pub opened : OpenArea area
+  pub room : 2 * length (closedBy area) ≤ length log
+  pub is-figure : nodesDigest area (closedBy area) ≡ figure
+
+pub close-passed : (area figure log : List ℕ) → closeNumber area figure log ≡ 0 → ClosePassed area figure log
+unfolding closeNumber
+close-passed area figure log e =
+    let digest : List ℕ = nodesDigest area (closedBy area) in
+    let later : List (Bool × ℕ) = closeTests (length (closedBy area)) digest figure log in
+    let p = passed-by 0 (openTests area) later refl e in
+    let q = passed later refl (p .1) in
+    record { opened = open-area area (p .0); room = ltb-false _ _ (q 0); is-figure = same-eq digest figure (not-false _ (q 1)) }
 
 -- ---- log words
 

@@ -1,11 +1,12 @@
 -- Definitions: what each call on an area answers: number, count and all that was lent, on exit. Document 01, "The stream's area" and the
--- table of numbers; document 02, M-103, M-104 and M-109.
+-- table of numbers; document 02, M-103, M-104, M-106 and M-109.
 use mathlib.Core.Bool.{Bool, true, false, not, _&&_}
 use mathlib.Core.List.{List, [], _∷_, _++_, flatten}
 use Prim.Native.Nat.{ℕ, zero, suc, _+_, _-_, _*_, _/_, _%_, _^_}
 use lib.Dec.{eqb, leb, ltb}
 use lib.ListN.{length, drop, getD, set, replicate}
 use Rattle.lists.specs.Part.{put}
+use Rattle.lists.specs.Same.{same}
 use Rattle.bits.specs.Bits.{bits, spell}
 use Rattle.bits.specs.Piece.{Piece, pieceBits, bitsTest}
 use Rattle.tree.specs.Tree.{Params, Node, blockBits, sequentialBits, outputBits, words, keyWords, node, output, lastOr, noNode, digestBytes, rootDigest}
@@ -220,9 +221,13 @@ endNumber area out log = firstRefusal (openTests area ++ endTests (paramsOf area
 unfoldable pub endedArea : List ℕ → List Node → List ℕ
 endedArea area nodes = withLevels (set (set area 0 2) 14 (compressionsOf area + length nodes)) (emptyLevels (ownLevels area))
 
+-- the digest of an area whose end makes these nodes, the root last
+abbrev pub nodesDigest : List ℕ → List Node → List ℕ
+nodesDigest area nodes = rootDigest (paramsOf area) (lastOr noNode nodes)
+
 -- "Output bytes past the digest or text stay."
 unfoldable pub digestOut : List ℕ → List Node → List ℕ → List ℕ
-digestOut area nodes out = rootDigest (paramsOf area) (lastOr noNode nodes) ++ drop (digestBytes (paramsOf area .d)) out
+digestOut area nodes out = nodesDigest area nodes ++ drop (digestBytes (paramsOf area .d)) out
 
 unfoldable pub endOf : List ℕ → List ℕ → List ℕ → Finished
 endOf area out log =
@@ -230,6 +235,55 @@ endOf area out log =
     answerOf (endNumber area out log)
     record { number = 0; count = length nodes; area = endedArea area nodes; digest = digestOut area nodes out; log = logged nodes log }
     (λ k. record { number = k; count = 0; area = area; digest = out; log = log })
+
+-- ---- preview (digest out)
+
+pub record Previewed : Type 0 where
+  pub number : ℕ
+  pub count : ℕ
+  pub digest : List ℕ
+
+-- document 02, M-106: "it refuses 7, 10, 9"
+unfoldable pub previewNumber : List ℕ → List ℕ → ℕ
+previewNumber area out = firstRefusal (openTests area ++ (outputTest (digestBytes (paramsOf area .d)) out ∷ []))
+
+-- "A preview writes the digest that end would and leaves the area unchanged, open as it was; it .. has count 0 and writes no log":
+-- the area is lent to it only to be read, and a log is not lent
+unfoldable pub previewOf : List ℕ → List ℕ → Previewed
+previewOf area out =
+    answerOf (previewNumber area out)
+    record { number = 0; count = 0; digest = digestOut area (closedBy area) out }
+    (λ k. record { number = k; count = 0; digest = out })
+
+-- ---- close (a figure, the digest that is given)
+
+pub record ClosedWith : Type 0 where
+  pub number : ℕ
+  pub count : ℕ
+  pub area : List ℕ
+  pub log : List ℕ
+
+-- M-106: "14, the figure differs": it is not "byte for byte, length included, the one a preview would write"
+abbrev pub figureTest : List ℕ → List ℕ → Bool × ℕ
+figureTest digest figure = (not (same digest figure), 14)
+
+-- "last in the order 7, 10, 8, 14 for closing": after the tests of the area, those of a close that makes so many nodes, for an area
+-- with that digest
+abbrev pub closeTests : ℕ → List ℕ → List ℕ → List ℕ → List (Bool × ℕ)
+closeTests nodes digest figure log = logTest nodes log ∷ figureTest digest figure ∷ []
+
+unfoldable pub closeNumber : List ℕ → List ℕ → List ℕ → ℕ
+closeNumber area figure log =
+    let nodes : List Node = closedBy area in
+    firstRefusal (openTests area ++ closeTests (length nodes) (nodesDigest area nodes) figure log)
+
+-- "Closing is given a digest and ends the area, with log and count as end does, only if it is .. the one a preview would write"
+unfoldable pub closeOf : List ℕ → List ℕ → List ℕ → ClosedWith
+closeOf area figure log =
+    let nodes : List Node = closedBy area in
+    answerOf (closeNumber area figure log)
+    record { number = 0; count = length nodes; area = endedArea area nodes; log = logged nodes log }
+    (λ k. record { number = k; count = 0; area = area; log = log })
 
 -- ---- show a level
 

@@ -13,7 +13,7 @@ use Rattle.tree.specs.Tree.{Params}
 use Rattle.refusals.specs.Refusals.{firstRefusal, paramTests}
 use Rattle.refusals.specs.RefusalLaws.{in-range}
 use Rattle.calls.specs.Area.{totalOf, keyBytesOf, paramsOf, emptyLevels, openCount, soundParams, sound, areaLevels}
-use Rattle.calls.specs.Calls.{openNumber, openedArea, openOf, feedNumber, feedOf, endNumber, endOf}
+use Rattle.calls.specs.Calls.{openNumber, openedArea, openOf, feedNumber, feedOf, endNumber, endOf, closeOf}
 use Rattle.calls.specs.Machine
 use Rattle.calls.specs.Counts
 use Rattle.calls.specs.AreaLaws.{key-clean}
@@ -23,6 +23,7 @@ use Rattle.calls.specs.Stands.{opened-size, opened-levels, opened-key, o
 use Rattle.calls.specs.Moved.{tests-sound}
 use Rattle.calls.specs.Tails.{feed-changed, end-changed}
 use Rattle.calls.specs.Keeps.{feed-keeps, end-keeps}
+use Rattle.calls.specs.Previews.{close-same}
 use Rattle.calls.specs.Terms.{LeavesSound}
 
 -- ---- open: of any area, whatever it held, and any key
@@ -56,7 +57,7 @@ open-leaves-sound area P e =
     let s : length (openOf area P .area) ≡ length area = rw (open-accepted area P z) (opened-size area P (p .0)) in
     record { size = s; long = rw (s, open-accepted area P z, opened-words area P .2) (p .0); is-sound = rw (open-accepted area P z) (opened-sound area P (p .1)) }
 
--- ---- feed and end: of any area of 64-bit words
+-- ---- feed, end and close: of any area of 64-bit words
 
 pub feed-leaves-sound : (area : List ℕ) (piece : Piece) (log : List ℕ) → Below (2 ^ 64) area → feedOf area piece log .number ≡ 0 →
     LeavesSound area (feedOf area piece log .area)
@@ -70,3 +71,9 @@ end-leaves-sound area out log b e =
     let z : endNumber area out log ≡ 0 = sym (end-number area out log) ∙ e in
     let s : length (endOf area out log .area) ≡ length area = rw (end-accepted area out log z) (end-changed area out log z .size) in
     record { size = s; long = rw (s, end-accepted area out log z, end-changed area out log z .params) (end-passed area out log z .opened .long); is-sound = end-keeps area out log b e }
+
+pub close-leaves-sound : (area figure log : List ℕ) → Below (2 ^ 64) area → closeOf area figure log .number ≡ 0
+    → LeavesSound area (closeOf area figure log .area)
+close-leaves-sound area figure log b e =
+    let f = close-same area figure log e in
+    rw (f .1) (end-leaves-sound area figure log b (f .0))

@@ -19,6 +19,7 @@ pub mod Marks
 pub mod Meets
 pub mod MoreLevels
 pub mod Moved
+pub mod Previews
 pub mod Receive
 pub mod Rows
 pub mod Sound

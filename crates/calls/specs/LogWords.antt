@@ -1,4 +1,4 @@
--- Laws: how many words of log a feed and an end need. Which nodes a feed makes goes by the total, the limit and the number of its bits
+-- Laws: how many words of log a feed, an end and a close need. Which nodes a feed makes goes by the total, the limit and the number of its bits
 -- alone, and what is told of it is exact: document 02, M-103.
 use mathlib.Core.Path.{_≡_, refl, sym, ap, _∙_}
 use mathlib.Core.Bool.{Bool, true, false, cond}
@@ -6,19 +6,19 @@ use mathlib.Core.Logic.{_↔_}
 use mathlib.Core.List.{List, [], _∷_, _++_, map}
 use Prim.Native.Nat.{ℕ, zero, suc, _*_, _/_, _%_, _≤_, _<_}
 use native.Mathlib.Omega.{arith}
-use borrow.Author.Tests.{ltb-true, lt-ltb}
+use borrow.Author.Tests.{ltb-true, lt-ltb, le-ltb}
 use lib.Dec.{eqb, ltb}
 use lib.ListN.{length, replicate, length-map, length-replicate}
 use Rattle.lists.specs.Append.{cons-eq}
 use Rattle.lists.specs.Flatten.{map-append}
 use Rattle.bits.specs.Piece.{Piece, pieceBits, refusedBits, bitsTest}
 use Rattle.bits.specs.PieceLaws.{length-pieceBits, bits-there}
-use Rattle.tree.specs.Tree.{Params, Node, blockBits, sequentialBits, node, digestBytes}
+use Rattle.tree.specs.Tree.{Params, Node, blockBits, sequentialBits, mostLevels, node, digestBytes}
 use Rattle.refusals.specs.Refusals.{firstRefusal, outputTest}
 use Rattle.refusals.specs.RefusalLaws.{testAt, passed, passed-by, second-part}
 use Rattle.calls.specs.Area.{areaLevels, totalOf, paramsOf, levelsOf, doneBlocks, heldBits}
-use Rattle.calls.specs.Calls.{Made, outWords, joinParallel, receive, feedBit, feedBits, fedBits, openTests, totalTest, logTest, feedNumber, feedOf, closedBy, endNumber, endOf, logWordsNumber, logWordsOf}
-use Rattle.calls.specs.CallLaws.{total-passed, feed-number, feed-accepted, end-number, logWords-accepted}
+use Rattle.calls.specs.Calls.{Made, outWords, joinParallel, receive, feedBit, feedBits, fedBits, openTests, totalTest, logTest, feedNumber, feedOf, closedBy, endNumber, endOf, nodesDigest, figureTest, closeNumber, closeOf, logWordsNumber, logWordsOf}
+use Rattle.calls.specs.CallLaws.{total-passed, feed-number, feed-accepted, end-number, close-number, logWords-accepted}
 use Rattle.calls.specs.AreaLaws.{length-levelsOf}
 use Rattle.calls.specs.Accepts.{fed-count}
 use Rattle.calls.specs.Terms.{enoughWords}
@@ -149,6 +149,11 @@ number-eight nodes log = go (ltb (length log) (2 * nodes)) refl
     go true t e = ltb-true (length log) (2 * nodes) t
     go false t e = absurd (omega arith)
 
+-- a figure that differs is no short log
+not-eight : (differs : Bool) → firstRefusal ((differs, 14) ∷ []) ≡ 8 → ⊥
+not-eight true e = omega arith
+not-eight false e = omega arith
+
 -- "8, 0: log shorter than 2 words a node made": for every area, piece and log, a feed answers 8 exactly if none of 7, 10, 5 and 6 holds
 -- and the log has fewer words than told
 pub eight-iff : (area : List ℕ) (piece : Piece) (log : List ℕ) → (feedOf area piece log .number ≡ 8)
@@ -186,13 +191,28 @@ log-enough area piece log h e =
     let c = rw l at (fed-count area (pieceBits piece) (rw l small)) in
     omega (arith, Counts.feed-bound (paramsOf area .limit) (totalOf area) (piece .count) small)
 
--- "End needs at most 54": with a log of 54 words an end does not answer 8
-pub end-enough : (area out log : List ℕ) → 54 ≤ length log → endOf area out log .number ≡ 8 → ⊥
-unfolding endNumber closedBy
-end-enough area out log h e =
-    let nodes : List Node = Rattle.calls.specs.Calls.closing (paramsOf area) (paramsOf area .limit) (totalOf area) (levelsOf area) in
-    let p = passed-by 8 (openTests area ++ (outputTest (digestBytes (paramsOf area .d)) out ∷ [])) (logTest (length nodes) log ∷ []) refl (sym (end-number area out log) ∙ e) in
-    let few = number-eight (length nodes) log (p .1) in
+-- "End needs at most 54": an end makes a node a level at most
+pub closed-bound : (area : List ℕ) → length (closedBy area) ≤ mostLevels
+unfolding closedBy
+closed-bound area =
     let z = length-levelsOf area in
     let g = Counts.closing-bound (paramsOf area) (paramsOf area .limit) (totalOf area) (levelsOf area) (omega arith) in
     omega arith
+
+-- so with a log of 54 words an end does not answer 8
+pub end-enough : (area out log : List ℕ) → 54 ≤ length log → endOf area out log .number ≡ 8 → ⊥
+unfolding endNumber
+end-enough area out log h e =
+    let p = passed-by 8 (openTests area ++ (outputTest (digestBytes (paramsOf area .d)) out ∷ [])) (logTest (length (closedBy area)) log ∷ []) refl (sym (end-number area out log) ∙ e) in
+    omega (arith, number-eight (length (closedBy area)) log (p .1), closed-bound area)
+
+-- nor does a close
+pub close-enough : (area figure log : List ℕ) → 54 ≤ length log → closeOf area figure log .number ≡ 8 → ⊥
+unfolding closeNumber
+close-enough area figure log h e =
+    let nodes : ℕ = length (closedBy area) in
+    let figured : Bool × ℕ = figureTest (nodesDigest area (closedBy area)) figure in
+    let room : ltb (length log) (2 * nodes) ≡ false = le-ltb (length log) (2 * nodes) (omega (arith, closed-bound area)) in
+    let p = passed-by 8 (openTests area) (logTest nodes log ∷ figured ∷ []) refl (sym (close-number area figure log) ∙ e) in
+    let z : firstRefusal (figured ∷ []) ≡ 8 = rw room at (p .1) in
+    not-eight (figured .0) z

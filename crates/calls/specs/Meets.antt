@@ -1,18 +1,20 @@
--- Laws: one accepted open, feed or end meets the tree: what a feed logs are U and V of the nodes that no longer reach the last bit, in
--- order; what the end logs, of those that are left; and the digest is the tree's.
-use mathlib.Core.Path.{_≡_, sym, ap, _∙_}
+-- Laws: one accepted open, feed, end, preview or close meets the tree: what a feed logs are U and V of the nodes that no longer reach the
+-- last bit, in order; what an end or a close logs, of those that are left; and the digest is the tree's.
+use mathlib.Core.Path.{_≡_, refl, sym, ap, _∙_}
 use mathlib.Core.Bool.{Bool}
 use mathlib.Core.List.{List, [], _++_}
 use Prim.Native.Nat.{ℕ, _+_, _*_}
+use native.Mathlib.Omega.{arith}
 use lib.ListN.{length, take, drop, length-append, length-map}
 use Rattle.lists.specs.Below.{Below}
 use Rattle.bits.specs.Piece.{Piece, pieceBits}
 use Rattle.tree.specs.Tree.{Params, Mark, order, digest, digestBytes}
 use Rattle.calls.specs.Area.{ownWords}
-use Rattle.calls.specs.Calls.{Made, Fed, Finished, nodeLog, openNumber, openOf, fedBits, feedNumber, fedArea, feedOf, closedBy, endNumber, endedArea, digestOut, endOf}
+use Rattle.calls.specs.Calls.{Made, Fed, Finished, nodeLog, openNumber, openOf, fedBits, feedNumber, fedArea, feedOf, closedBy, endNumber, endedArea, digestOut, endOf, previewOf, ClosedWith, closeOf}
 use Rattle.calls.specs.Marks.{allNodes, settled}
-use Rattle.calls.specs.CallLaws.{nodeLog-append, logged-front, open-number, open-accepted, feed-number, feed-accepted, end-number, end-accepted}
-use Rattle.calls.specs.Stands.{Stands, Closed, open-stands, FeedDone, feed-stands, EndDone, end-closed}
+use Rattle.calls.specs.CallLaws.{nodeLog-append, logged-front, open-number, open-accepted, feed-number, feed-accepted, end-number, end-accepted, preview-number, preview-accepted, close-number, close-passed}
+use Rattle.calls.specs.Stands.{Stands, Closed, open-stands, FeedDone, feed-stands, EndDone, end-closed, stands-digest}
+use Rattle.calls.specs.Previews.{close-as-end}
 
 -- ---- a feed
 
@@ -68,6 +70,33 @@ end-one P M area out log s e = rw (end-accepted area out log z) record {
 
     d : EndDone P M area out (closedBy area) (endedArea area (closedBy area)) (digestOut area (closedBy area) out)
     d = end-closed P M area out s
+
+-- ---- a preview and a close
+
+pub preview-one : (P : Params) (M : List Bool) (area out : List ℕ) → Stands P M area → previewOf area out .number ≡ 0 →
+    previewOf area out .digest ≡ digest P M ++ drop (digestBytes (P .d)) out
+preview-one P M area out s e =
+    rw (preview-accepted area out (sym (preview-number area out) ∙ e)) (end-closed P M area out s .digest)
+
+-- a close is an end that has room for the figure, which is the message's digest
+pub record ClosedOnce (P : Params) (M : List Bool) (figure : List ℕ) (c : ClosedWith) : Type 0 where
+  pub closed : Closed P M (c .area)
+  pub log : nodeLog (allNodes (order P M)) ≡ nodeLog (settled (order P M)) ++ take (2 * c .count) (c .log)
+  pub count : length (order P M) ≡ length (settled (order P M)) + c .count
+  pub digest : figure ≡ digest P M
+
+pub close-one : (P : Params) (M : List Bool) (area figure log : List ℕ) → Stands P M area → closeOf area figure log .number ≡ 0 →
+    ClosedOnce P M figure (closeOf area figure log)
+close-one P M area figure log s e =
+    let f = close-as-end area figure figure log e (omega arith) in
+    let o = end-one P M area figure log s (rw f refl) in
+    let p = close-passed area figure log (sym (close-number area figure log) ∙ e) in
+    record {
+      closed = rw f at (o .closed);
+      log = rw f at (o .log);
+      count = rw f at (o .count);
+      digest = sym (p .is-figure) ∙ stands-digest s;
+    }
 
 -- ---- an open
 

@@ -14,7 +14,7 @@ use Rattle.tree.specs.TreeLaws.{length-keyWords}
 use Rattle.refusals.specs.Refusals.{firstRefusal, paramTests}
 use Rattle.tree.specs.Sizes.{treeNodes}
 use Rattle.calls.specs.Area.{areaWords, phaseOf, totalOf, keyBytesOf, kOf, compressionsOf, paramsOf, levelsOf, withLevels, emptyLevel, emptyLevels, openCount, soundPhase, soundParams, soundKey, soundCount, soundLast, soundLevels, sound, areaLevels, ownLevels, ownWords, blockWords, Long}
-use Rattle.calls.specs.Calls.{Made, feedBits, closing, openNumber, openedArea, fedBits, feedNumber, fedArea, closedBy, endedArea, digestOut}
+use Rattle.calls.specs.Calls.{Made, feedBits, closing, openNumber, openedArea, fedBits, feedNumber, fedArea, closedBy, endedArea, nodesDigest, digestOut}
 use Rattle.calls.specs.Marks.{allNodes, settled}
 use Rattle.calls.specs.Rows.{length-flatten}
 use Rattle.calls.specs.Receive.{marked}
@@ -307,6 +307,12 @@ pub record EndDone (P : Params) (M : List Bool) (area out : List ℕ) (nodes : L
   pub size : length to ≡ length area
   pub tail : drop (ownWords area) to ≡ drop (ownWords area) area
 
+-- the digest of an area that stands for a message is the message's
+pub stands-digest : {P : Params} {M : List Bool} {area : List ℕ} → Stands P M area → nodesDigest area (closedBy area) ≡ digest P M
+unfolding closedBy
+stands-digest {P} {M} {area} s =
+    rw (s .head .params, s .head .total, ← state-root P M (levelsOf area) (settled (order P M)) (s .head .short) (s .state)) refl
+
 pub end-closed : (P : Params) (M : List Bool) (area out : List ℕ) → Stands P M area →
     EndDone P M area out (closedBy area) (endedArea area (closedBy area)) (digestOut area (closedBy area) out)
 unfolding closedBy endedArea digestOut emptyLevels
@@ -327,7 +333,7 @@ end-closed P M area out s = record {
     levels = c .levels ∙ rw (s .head .params);
   };
   all = rw is (state-all P M (levelsOf area) (settled (order P M)) (s .head .short) (s .state));
-  digest = rw (is, s .head .params, ← state-root P M (levelsOf area) (settled (order P M)) (s .head .short) (s .state)) refl;
+  digest = rw (← stands-digest s, s .head .params) refl;
   size = c .size;
   tail = c .tail;
 }

@@ -31,7 +31,7 @@ rows =
     ∷ record { pieces = 16384 ∷ 1 ∷ []; d = 8; limit = 64; log = 0x0100000000000000 ∷ 0x0000400000000008 ∷ 0x0100000000000001 ∷ 0x0000400000000008 ∷ 0x0100000000000002 ∷ 0x0000400000000008 ∷ 0x0100000000000003 ∷ 0x0000400000000008 ∷ 0x0200000000000000 ∷ 0x0000400000000008 ∷ 0x0100000000000004 ∷ 0x00004000fff00008 ∷ 0x0200000000000001 ∷ 0x00004000c0000008 ∷ 0x0300000000000000 ∷ 0x0000401080000008 ∷ []; digest = 0x00 ∷ [] }
     ∷ []
 
-abbrev params : Row → Params
+abbrev pub params : Row → Params
 params w = record { key = []; d = w .d; limit = w .limit; rounds = 0 }
 
 -- ---- by the tree
@@ -63,10 +63,10 @@ leftIf zero l = l
 leftIf (suc n) l = record { log = []; digest = [] }
 
 -- a log and an output with room to spare, a piece of ones and an area with something in it
-abbrev spare : List ℕ
+abbrev pub spare : List ℕ
 spare = replicate 54 0
 
-abbrev ones : ℕ → Piece
+abbrev pub ones : ℕ → Piece
 ones n = pieceOf (replicate (n / 8 + 1) 255) 0 n
 
 abbrev used : List ℕ

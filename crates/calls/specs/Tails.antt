@@ -1,19 +1,21 @@
 -- Laws: what no call changes: the words past the length that L gives, which is the argument's L for open and the area's own for the
 -- others, of every area, sound or not, short or long; "Feeding 0 bits changes nothing." What a read leaves: ReadLeaves of `text`.
-use mathlib.Core.Path.{_≡_, refl, sym}
+use mathlib.Core.Path.{_≡_, refl, sym, _∙_}
 use mathlib.Core.List.{List, []}
-use Prim.Native.Nat.{ℕ, zero, suc, _+_}
+use Prim.Native.Nat.{ℕ, _+_}
 use native.Mathlib.Omega.{arith}
 use lib.ListN.{length, drop, replicate, length-replicate}
 use Rattle.bits.specs.Piece.{Piece, pieceOf, pieceBits}
 use Rattle.tree.specs.Tree.{Params}
 use Rattle.calls.specs.Area.{areaWords, ownLevels, ownWords, totalOf, compressionsOf, paramsOf, levelsOf, emptyLevel, emptyLevels}
-use Rattle.calls.specs.Calls.{Made, Fed, feedBits, openNumber, openOf, fedBits, feedNumber, fedArea, feedOf, closedBy, endNumber, endedArea, endOf}
+use Rattle.calls.specs.Calls.{Made, logged, Opened, Fed, Finished, ClosedWith, feedBits, openNumber, openOf, fedBits, feedNumber, fedArea, feedOf, closedBy, endNumber, endedArea, endOf, closeOf}
 use Rattle.calls.specs.Machine
 use Rattle.calls.specs.AreaLaws.{Changed, changed}
 use Rattle.calls.specs.Sound.{empty-widths}
-use Rattle.calls.specs.CallLaws.{open-accepted, open-refused, feed-accepted, feed-refused, feed-passed, end-accepted, end-refused, end-passed}
+use Rattle.refusals.specs.RefusalLaws.{answered-by}
+use Rattle.calls.specs.CallLaws.{feed-passed, end-number, end-passed, close-number}
 use Rattle.calls.specs.Stands.{opened-tail}
+use Rattle.calls.specs.Previews.{close-same}
 use Rattle.calls.specs.FeedLaws.{feed-nothing}
 use Rattle.calls.specs.Widths.{Wide, wide-levels, wide-bits}
 
@@ -39,25 +41,26 @@ end-changed area out log e =
 -- ---- "the untouched tail"
 
 pub open-tail : (area : List ℕ) (P : Params) → drop (areaWords (P .limit)) (openOf area P .area) ≡ drop (areaWords (P .limit)) area
-open-tail area P = by (openNumber area P) refl
-  where
-    by : (k : ℕ) → openNumber area P ≡ k → drop (areaWords (P .limit)) (openOf area P .area) ≡ drop (areaWords (P .limit)) area
-    by zero e = rw (open-accepted area P e) (opened-tail area P)
-    by (suc k) e = rw (← open-refused area P (suc k) (sym e) (omega arith)) refl
+unfolding openOf
+open-tail area P =
+    answered-by (λ (x : Opened). drop (areaWords (P .limit)) (x .area) ≡ drop (areaWords (P .limit)) area) (λ (e : openNumber area P ≡ 0). opened-tail area P) (λ k. refl)
 
 pub feed-tail : (area : List ℕ) (piece : Piece) (log : List ℕ) → drop (ownWords area) (feedOf area piece log .area) ≡ drop (ownWords area) area
-feed-tail area piece log = by (feedNumber area piece log) refl
-  where
-    by : (k : ℕ) → feedNumber area piece log ≡ k → drop (ownWords area) (feedOf area piece log .area) ≡ drop (ownWords area) area
-    by zero e = rw (feed-accepted area piece log e) (feed-changed area piece log e .tail)
-    by (suc k) e = rw (← feed-refused area piece log (suc k) (sym e) (omega arith)) refl
+unfolding feedOf
+feed-tail area piece log =
+    answered-by (λ (x : Fed). drop (ownWords area) (x .area) ≡ drop (ownWords area) area) (λ e. feed-changed area piece log e .tail) (λ k. refl)
 
 pub end-tail : (area out log : List ℕ) → drop (ownWords area) (endOf area out log .area) ≡ drop (ownWords area) area
-end-tail area out log = by (endNumber area out log) refl
-  where
-    by : (k : ℕ) → endNumber area out log ≡ k → drop (ownWords area) (endOf area out log .area) ≡ drop (ownWords area) area
-    by zero e = rw (end-accepted area out log e) (end-changed area out log e .tail)
-    by (suc k) e = rw (← end-refused area out log (suc k) (sym e) (omega arith)) refl
+unfolding endOf
+end-tail area out log =
+    answered-by (λ (x : Finished). drop (ownWords area) (x .area) ≡ drop (ownWords area) area) (λ e. end-changed area out log e .tail) (λ k. refl)
+
+pub close-tail : (area figure log : List ℕ) → drop (ownWords area) (closeOf area figure log .area) ≡ drop (ownWords area) area
+unfolding closeOf
+close-tail area figure log =
+    answered-by (λ (x : ClosedWith). drop (ownWords area) (x .area) ≡ drop (ownWords area) area)
+    (λ e. let s = close-same area figure log (close-number area figure log ∙ e) in end-changed area figure log (sym (end-number area figure log) ∙ s .0) .tail)
+    (λ k. refl)
 
 -- ---- "Feeding 0 bits changes nothing."
 
@@ -65,11 +68,13 @@ none-made : (area : List ℕ) → fedBits area [] .nodes ≡ []
 unfolding fedBits
 none-made area = rw (Machine.feedBits-none (paramsOf area) (totalOf area) (levelsOf area)) refl
 
+nothing-fed : (area bytes : List ℕ) (start : ℕ) (log : List ℕ) → (let made : Made = fedBits area (pieceBits (pieceOf bytes start 0)) in
+    (fedArea area 0 made ≡ area) × (logged (made .nodes) log ≡ log) × (length (made .nodes) ≡ 0))
+nothing-fed area bytes start log = rw (feed-nothing area, none-made area) (refl, refl, refl)
+
 pub feed-none : (area bytes : List ℕ) (start : ℕ) (log : List ℕ) →
     (let f : Fed = feedOf area (pieceOf bytes start 0) log in (f .area ≡ area) × (f .log ≡ log) × (f .count ≡ 0))
-feed-none area bytes start log = by (feedNumber area (pieceOf bytes start 0) log) refl
-  where
-    by : (k : ℕ) → feedNumber area (pieceOf bytes start 0) log ≡ k →
-        (let f : Fed = feedOf area (pieceOf bytes start 0) log in (f .area ≡ area) × (f .log ≡ log) × (f .count ≡ 0))
-    by zero e = rw (feed-accepted area (pieceOf bytes start 0) log e, feed-nothing area, none-made area) (refl, refl, refl)
-    by (suc k) e = rw (← feed-refused area (pieceOf bytes start 0) log (suc k) (sym e) (omega arith)) (refl, refl, refl)
+unfolding feedOf
+feed-none area bytes start log =
+    answered-by (λ (f : Fed). (f .area ≡ area) × (f .log ≡ log) × (f .count ≡ 0))
+    (λ (e : feedNumber area (pieceOf bytes start 0) log ≡ 0). nothing-fed area bytes start log) (λ k. (refl, refl, refl))

@@ -4,7 +4,7 @@ use Prim.Native.Nat.{ℕ, zero, suc, _+_, _-_, _*_, _/_, _≤_}
 use lib.ListN.{getD, length, take}
 use Rattle.tree.specs.Tree.{blockBits, sequentialBits, outputBits, mostLevels}
 use Rattle.calls.specs.Area.{parallelHold, openHolds, areaLevels, areaWords, Long, sound}
-use Rattle.calls.specs.Calls.{Opened, Fed, Finished}
+use Rattle.calls.specs.Calls.{Opened, Fed, Finished, ClosedWith}
 use mathlib.Core.Bool.{true}
 use mathlib.Core.List.{List}
 
@@ -28,7 +28,7 @@ pub record HoldsOutputs (limit level bits : ℕ) : Type 0 where
 abbrev pub SameFront : ℕ → List ℕ → List ℕ → Type 0
 SameFront limit x y = take (areaWords limit) x ≡ take (areaWords limit) y
 
--- what open, feed and end answer to two such areas: the same, and the areas are alike again
+-- what open, feed, end and close answer to two such areas: the same, and the areas are alike again
 abbrev pub OpenedAlike : ℕ → Opened → Opened → Type 0
 OpenedAlike limit f g = (f .number ≡ g .number) × (f .count ≡ g .count) × SameFront limit (f .area) (g .area)
 
@@ -38,6 +38,9 @@ FedAlike limit f g = (f .number ≡ g .number) × (f .count ≡ g .count) × (f 
 abbrev pub FinishedAlike : ℕ → Finished → Finished → Type 0
 FinishedAlike limit f g =
     (f .number ≡ g .number) × (f .count ≡ g .count) × (f .digest ≡ g .digest) × (f .log ≡ g .log) × SameFront limit (f .area) (g .area)
+
+abbrev pub ClosedAlike : ℕ → ClosedWith → ClosedWith → Type 0
+ClosedAlike limit f g = (f .number ≡ g .number) × (f .count ≡ g .count) × (f .log ≡ g .log) × SameFront limit (f .area) (g .area)
 
 -- what an accepted call leaves of an area: an area of the same length, which is long enough, and sound
 pub record LeavesSound (area after : List ℕ) : Type 0 where

@@ -1,4 +1,4 @@
-// The first half of the end: the last nodes of an open area, which is only read.
+// The first half of an end, a preview and a close: the last nodes of an open area, which is only read.
 ghost use mathlib.Core.Path.{_≡_};
 ghost use mathlib.Core.List.{_∷_, []};
 ghost use Prim.Native.Nat.{_+_, _*_, _≤_, _<_, _^_};
@@ -140,7 +140,7 @@ fn close_levels(
     close_above(area, params, key, constants, limit - 1, done, first, log, 2)
 }
 
-// The first half of the end: makes the last nodes of an open area, which it only reads. U and V of each go to the log from
+// Makes the last nodes of an open area, which it only reads. U and V of each go to the log from
 // its first word, and the root's words are given back.
 pub fn closing(area: &[u64], log: &mut [u64]) -> [u64; 16]
     requires { ⌜ OpenArea (now area) × (2 * length (closedBy (now area)) ≤ length (now log)) ⌝ }

@@ -7,6 +7,8 @@ pub mod Part
 pub mod PartLaws
 pub mod Paste
 pub mod Replicate
+pub mod Same
+pub mod SameLaws
 pub mod Slices
 pub mod Table
 pub mod Take

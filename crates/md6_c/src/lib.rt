@@ -2,7 +2,7 @@
 ghost use mathlib.Core.Path.{_≡_};
 ghost use Rattle.hash.specs.Hash.{Hashed, hashOf, defaultRoundsOf};
 ghost use Rattle.layers.specs.Layers.{layersOf, layerWordsOf, layerLogWordsOf};
-ghost use Rattle.calls.specs.Calls.{areaWordsOf, openOf, feedOf, endOf, logWordsOf};
+ghost use Rattle.calls.specs.Calls.{areaWordsOf, openOf, feedOf, endOf, previewOf, closeOf, logWordsOf};
 ghost use Rattle.text.specs.Text.{writeOf, readOf};
 
 // The digest of a whole message, from its start bit on. Answers the number alone.
@@ -119,6 +119,22 @@ pub extern "C" fn md6_end(area: &mut [u64], digest: &mut [u8], log: &mut [u64]) 
     ensures { λ o. ⌜ record { number = o .number; count = o .count; area = now (area .exit); digest = now (digest .exit); log = now (log .exit) } ≡ endOf (now (area .entry)) (now (digest .entry)) (now (log .entry)) ⌝ }
 {
     stream::end(area, digest, log)
+}
+
+// Writes the digest that an end would, and leaves the stream open as it is.
+#[no_mangle]
+pub extern "C" fn md6_preview(area: &[u64], digest: &mut [u8]) -> refusals::Answer
+    ensures { λ o. ⌜ record { number = o .number; count = o .count; digest = now (digest .exit) } ≡ previewOf (now (area .entry)) (now (digest .entry)) ⌝ }
+{
+    stream::preview(area, digest)
+}
+
+// Ends a stream if the given digest is the one that a preview would write.
+#[no_mangle]
+pub extern "C" fn md6_close(area: &mut [u64], digest: &[u8], log: &mut [u64]) -> refusals::Answer
+    ensures { λ o. ⌜ record { number = o .number; count = o .count; area = now (area .exit); log = now (log .exit) } ≡ closeOf (now (area .entry)) (now (digest .entry)) (now (log .entry)) ⌝ }
+{
+    stream::close(area, digest, log)
 }
 
 // Tells how many words of log a feed of so many bits needs.

@@ -1,5 +1,5 @@
 -- Laws: of Refusals: orders of refusals, answers, and what parameters that are not refused say.
-use mathlib.Core.Path.{_≡_, refl, ap, _∙_}
+use mathlib.Core.Path.{_≡_, refl, ap, _∙_, subst}
 use mathlib.Core.Bool.{Bool, true, false, not, _&&_}
 use mathlib.Core.List.{List, [], _∷_, _++_, append-nil}
 use Prim.Native.Nat.{ℕ, zero, suc, _≤_}
@@ -57,6 +57,23 @@ answer-number number (suc n) accepted refused a r = r (suc n)
 pub answer-refused : {A : Type 0} (k n : ℕ) (accepted : A) (refused : ℕ → A) → k ≡ n → (k ≡ 0 → ⊥) → refused k ≡ answerOf n accepted refused
 answer-refused zero n accepted refused e h = absurd (h refl)
 answer-refused (suc k) n accepted refused e h = rw (← e)
+
+-- what holds of what is given where the number is 0, and of what is given for every number, holds of the answer
+pub answered-by : {A : Type 0} (Q : A → Type 0) {n : ℕ} {a : A} {f : ℕ → A} → (n ≡ 0 → Q a) → ((k : ℕ) → Q (f k)) → Q (answerOf n a f)
+answered-by Q {n} {a} {f} = by n
+  where
+    by : (m : ℕ) → (m ≡ 0 → Q a) → ((k : ℕ) → Q (f k)) → Q (answerOf m a f)
+    by zero p q = p refl
+    by (suc m) p q = q (suc m)
+
+-- and so of two answers with equal numbers
+pub alike-by : {A : Type 0} (R : A → A → Type 0) {m n : ℕ} {a b : A} {f g : ℕ → A} → m ≡ n → R a b → ((k : ℕ) → R (f k) (g k))
+    → R (answerOf m a f) (answerOf n b g)
+alike-by R {m} {n} {a} {b} {f} {g} e p q = subst (λ (k : ℕ). R (answerOf m a f) (answerOf k b g)) e (by m)
+  where
+    by : (k : ℕ) → R (answerOf k a f) (answerOf k b g)
+    by zero = p
+    by (suc k) = q (suc k)
 
 -- ---- the ranges of parameters that are not refused
 

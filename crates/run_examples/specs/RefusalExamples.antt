@@ -11,10 +11,11 @@ use Rattle.bits.specs.Piece.{pieceOf}
 use Rattle.compress.specs.Compress.{grown, compressed}
 use Rattle.tree.specs.Tree.{Params, mostLimit, keyWords, output, noChain}
 use Rattle.calls.specs.Area.{areaWords, paramsOf, levelsOf, withLevels, emptyLevel, emptyLevels, sound}
-use Rattle.calls.specs.Calls.{withBit, outWords, receive, feedBit, feedBits, closeAbove, closing, openNumber, openedArea, openOf, fedBits, feedNumber, fedArea, feedOf, closedBy, endNumber, endedArea, digestOut, endOf, logWordsNumber, logWordsOf, areaWordsOf}
+use Rattle.calls.specs.Calls.{withBit, outWords, receive, feedBit, feedBits, closeAbove, closing, openNumber, openedArea, openOf, fedBits, feedNumber, fedArea, feedOf, closedBy, endNumber, endedArea, digestOut, endOf, previewNumber, previewOf, closeNumber, closeOf, logWordsNumber, logWordsOf, areaWordsOf}
 use Rattle.digits.specs.Digits.{hexDigits, speltWords}
-use Rattle.text.specs.Text.{textWith, textOf, oldTextOf, speltHead, speltArea, same, writeNumber, writeOf, readableWith, readable, readArea, readNumber, readOf}
-use Rattle.text.specs.ReadForms.{same-eq}
+use Rattle.text.specs.Text.{textWith, textOf, oldTextOf, speltHead, speltArea, writeNumber, writeOf, readableWith, readable, readArea, readNumber, readOf}
+use Rattle.lists.specs.Same.{same}
+use Rattle.lists.specs.SameLaws.{same-eq}
 use Rattle.hash.specs.Hash.{hashNumber, hashOf, defaultRoundsOf}
 
 -- ---- parameters and areas
@@ -45,6 +46,10 @@ ended = endOf opened (0 ∷ []) (0 ∷ 0 ∷ []) .area
 -- after 4,096 bits: the next bit makes a node
 abbrev full : List ℕ
 full = feedOf opened (pieceOf (replicate 512 255) 0 4096) [] .area
+
+-- the same with a digest of 9 bits, which are all ones: two bytes, the second with 7 spare bits
+abbrev full9 : List ℕ
+full9 = feedOf (openOf used (params 9 0 64 0) .area) (pieceOf (replicate 512 255) 0 4096) [] .area
 
 -- after t bits, all zero, of 2^64 - 4,096 or more: 4,503,599,627,370,495 blocks were compressed at level 1, a quarter of them
 -- rounded down at level 2, and so on
@@ -164,6 +169,39 @@ endRows =
     ∷ (endOf (openOf used (params 9 0 64 0) .area) (0 ∷ 0 ∷ []) (0 ∷ 0 ∷ []) .number, 0)
     ∷ []
 
+-- M-106: a preview "refuses 7, 10, 9"
+abbrev previewRows : List Row
+previewRows =
+    (previewOf (shorter ended) [] .number, 7)
+    ∷ (previewOf (set ended 15 1) [] .number, 7)
+    ∷ (previewOf ended [] .number, 10)
+    ∷ (previewOf ended byte .number, 10)
+    ∷ (previewOf opened [] .number, 9)
+    ∷ (previewOf opened byte .number, 0)
+    -- edges: a digest of 9 bits is two bytes
+    ∷ (previewOf full9 byte .number, 9)
+    ∷ (previewOf full9 (0 ∷ 0 ∷ []) .number, 0)
+    ∷ []
+
+-- M-106: "the order 7, 10, 8, 14 for closing"; the digest of `full` is ff, that of `full9` ff 80
+abbrev closeRows : List Row
+closeRows =
+    (closeOf (shorter ended) byte [] .number, 7)
+    ∷ (closeOf (set ended 15 1) byte [] .number, 7)
+    ∷ (closeOf ended byte [] .number, 10)
+    ∷ (closeOf ended byte (0 ∷ 0 ∷ []) .number, 10)
+    ∷ (closeOf full byte [] .number, 8)
+    ∷ (closeOf full (0xff ∷ []) (0 ∷ []) .number, 8)
+    ∷ (closeOf full byte (0 ∷ 0 ∷ []) .number, 14)
+    ∷ (closeOf full (0xff ∷ []) (0 ∷ 0 ∷ []) .number, 0)
+    -- edges: no byte, a byte more or fewer, a set spare bit
+    ∷ (closeOf full [] (0 ∷ 0 ∷ []) .number, 14)
+    ∷ (closeOf full (0xff ∷ 0 ∷ []) (0 ∷ 0 ∷ []) .number, 14)
+    ∷ (closeOf full9 (0xff ∷ []) (0 ∷ 0 ∷ []) .number, 14)
+    ∷ (closeOf full9 (0xff ∷ 0x81 ∷ []) (0 ∷ 0 ∷ []) .number, 14)
+    ∷ (closeOf full9 (0xff ∷ 0x80 ∷ []) (0 ∷ 0 ∷ []) .number, 0)
+    ∷ []
+
 -- "Write 7, 9": the text of an opened or ended area has 176 bytes
 abbrev writeRows : List Row
 writeRows =
@@ -259,7 +297,7 @@ abbrev wordsRows : List Row
 wordsRows = (areaWordsOf 64 .number, 0) ∷ (areaWordsOf 65 .number, 3) ∷ (areaWordsOf (2 ^ 64 - 1) .number, 3) ∷ []
 
 abbrev pub rows : List Row
-rows = openRows ++ (feedRows ++ (endRows ++ (writeRows ++ (readRows ++ (wholeRows ++ (roundsRows ++ (toldRows ++ wordsRows)))))))
+rows = openRows ++ (feedRows ++ (endRows ++ (previewRows ++ (closeRows ++ (writeRows ++ (readRows ++ (wholeRows ++ (roundsRows ++ (toldRows ++ wordsRows)))))))))
 
 abbrev answered : List ℕ
 answered = map (λ (w : Row). w .0) rows
@@ -268,7 +306,7 @@ abbrev expected : List ℕ
 expected = map (λ (w : Row). w .1) rows
 
 computed : same answered expected ≡ true
-unfolding numbers keyWords output noChain compressed grown paramsOf levelsOf withLevels emptyLevel emptyLevels sound withBit outWords receive feedBit feedBits closeAbove closing openNumber openedArea openOf fedBits feedNumber fedArea feedOf closedBy endNumber endedArea digestOut endOf logWordsNumber logWordsOf areaWordsOf hexDigits textWith speltWords speltHead speltArea writeNumber writeOf readableWith readable readArea readNumber readOf hashNumber hashOf defaultRoundsOf mathlib.Core.List.flatten
+unfolding numbers keyWords output noChain compressed grown paramsOf levelsOf withLevels emptyLevel emptyLevels sound withBit outWords receive feedBit feedBits closeAbove closing openNumber openedArea openOf fedBits feedNumber fedArea feedOf closedBy endNumber endedArea digestOut endOf previewNumber previewOf closeNumber closeOf logWordsNumber logWordsOf areaWordsOf hexDigits textWith speltWords speltHead speltArea writeNumber writeOf readableWith readable readArea readNumber readOf hashNumber hashOf defaultRoundsOf mathlib.Core.List.flatten
 computed = refl
 
 pub rows-hold : map (λ (w : Row). w .0) rows ≡ map (λ (w : Row). w .1) rows

@@ -16,8 +16,8 @@ use Rattle.bits.specs.Piece.{Piece}
 use Rattle.tree.specs.Tree.{Params, mostLimit, order, digest}
 use Rattle.calls.specs.Area.{areaWords}
 use Rattle.calls.specs.Calls.{nodeLog, openOf}
-use Rattle.text.specs.Text.{same}
-use Rattle.text.specs.ReadForms.{same-eq}
+use Rattle.lists.specs.Same.{same}
+use Rattle.lists.specs.SameLaws.{same-eq}
 use Rattle.runs.specs.Runs.{Bytes, Call, Outcome, outcomeOf, Role, between, writes, reads, outside, opens, roleOf, suspended, Allowed, Goes, Run, Answered, answered, Share, shares, answersOf, digestIn}
 use Rattle.runs.specs.Statements.{nodesFor, piecesIn, piecesOf}
 

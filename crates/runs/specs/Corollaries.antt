@@ -13,7 +13,7 @@ use Rattle.calls.specs.Calls
 use Rattle.calls.specs.Marks.{allNodes}
 use Rattle.collision.specs.Clash.{Different, RootsDiffer, Meeting}
 use Rattle.collision.specs.Collision.{collision}
-use Rattle.runs.specs.Runs.{Call, feed, end, show, logWords, write, read, readInto, reopen, unless, Outcome, Run, Answered, nothing, acceptedShare, shareOf, joinedShares, shares, answersOf, messageOf}
+use Rattle.runs.specs.Runs.{Call, feed, end, preview, close, show, logWords, write, read, readInto, reopen, unless, Outcome, Run, Answered, nothing, acceptedShare, shareOf, joinedShares, shares, answersOf, messageOf}
 use Rattle.runs.specs.Statements.{nodesFor, nodesOf, EndedRun, digestOf, Alike, Same, pieceIn, piecesIn, piecesOf, joinedBits, CutFrom, uncut, cut}
 use Rattle.runs.specs.Demand3.{demand3}
 
@@ -69,6 +69,8 @@ share-bits c o = by (o .number) c
     by (suc n) c = refl
     by zero (feed piece log _ _ _ _) = sym (append-nil (pieceBits piece))
     by zero (end digest log _ _) = refl
+    by zero (preview digest _) = refl
+    by zero (close figure log _ _) = refl
     by zero (show level) = refl
     by zero (logWords bits _) = refl
     by zero (write text _) = refl

@@ -8,7 +8,7 @@ use Rattle.tree.specs.Tree.{Params, Mark, order}
 use Rattle.runs.specs.Runs.{Run, shares, answersOf, areaOf, messageOf}
 use Rattle.runs.specs.Statements.{Demand3}
 use Rattle.runs.specs.Suspend.{at-sound}
-use Rattle.runs.specs.Induction.{Fits, going, over, fits-at, run-fits}
+use Rattle.runs.specs.Induction.{Fits, going, over, fits-at, run-fits, run-previews, run-closes}
 
 pub demand3 : (r : Run) → Demand3 r
 demand3 r = by (run-fits r .1)
@@ -22,6 +22,8 @@ demand3 r = by (run-fits r .1)
         record {
           log = rw (g .output) (g .log);
           count = rw (g .output) (g .count);
+          previews = run-previews r;
+          closes = run-closes r;
           digest = λ out q. let z : _≡_ {A = ℕ} 0 1 = cc (g .output, q) in absurd (omega arith);
           long = rw (h .params) at (h .long);
           sound = at-sound (fits-at (going g));
@@ -36,6 +38,8 @@ demand3 r = by (run-fits r .1)
         record {
           log = rw (g .output) (g .log);
           count = rw (g .output) (g .count ∙ sym (length-map (order P (messageOf r)) (λ (m : Mark). m .node)));
+          previews = run-previews r;
+          closes = run-closes r;
           digest = λ out q. let s : out ≡ g .out = cc (g .output, q) in rw s (g .digest);
           long = rw (h .params) at (h .long);
           sound = at-sound (fits-at (over g));

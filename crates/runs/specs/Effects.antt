@@ -6,21 +6,25 @@ use mathlib.Core.Option.{Option, none, some}
 use mathlib.Core.List.{List, [], _++_}
 use Prim.Native.Nat.{ℕ, zero, suc, _+_, _^_, _<_}
 use native.Mathlib.Omega.{arith}
-use lib.ListN.{length, drop}
-use lib.Seq.{take-at}
+use lib.ListN.{length, take, drop}
+use lib.Seq.{take-all, take-at}
 use Rattle.bits.specs.BitsLaws.{length-numbers}
 use Rattle.bits.specs.Piece.{Piece}
 use Rattle.tree.specs.Tree.{Params, order, digest, digestBytes}
-use Rattle.calls.specs.Calls.{Opened, Fed, Finished, openNumber, openOf, feedNumber, feedOf, endNumber, endOf, logWordsNumber}
+use Rattle.calls.specs.Calls.{Opened, Fed, Finished, ClosedWith, openNumber, openOf, feedNumber, feedOf, endNumber, endOf, previewNumber, closeNumber, logWordsNumber}
 use Rattle.calls.specs.Calls
 use Rattle.calls.specs.Marks.{allNodes, settled}
-use Rattle.calls.specs.CallLaws.{open-number, open-refused, feed-number, feed-refused, feed-passed, end-number, end-refused, end-passed, logWords-number}
+use Rattle.calls.specs.CallLaws.{OpenArea, open-number, open-refused, feed-number, feed-refused, feed-passed, end-number, end-refused, end-passed, preview-number, close-number, close-refused, close-passed, logWords-number}
 use Rattle.calls.specs.Stands.{Stands, Closed}
-use Rattle.calls.specs.Meets.{feed-one, end-one}
+use Rattle.calls.specs.Meets.{feed-one, end-one, close-one}
 use Rattle.text.specs.Text.{Taken, textOf, writeNumber, readNumber, readOf}
 use Rattle.text.specs.ReadLaws.{read-number, read-refused, write-number, written-text}
-use Rattle.runs.specs.Runs.{Bytes, Words, Call, feed, end, show, logWords, write, read, readInto, reopen, unless, outcomeOf, acceptedRole, roleOf, suspended, Allowed, Share, nothing, acceptedShare, shareOf, digestIn}
+use Rattle.runs.specs.Runs.{Bytes, Words, Call, feed, end, preview, close, show, logWords, write, read, readInto, reopen, unless, outcomeOf, acceptedRole, roleOf, suspended, Allowed, Share, nothing, acceptedShare, shareOf, digestIn}
 use Rattle.runs.specs.Suspend.{At, isOpen, hasEnded, at-resumed}
+
+-- all of a list
+all-taken : (l : List ℕ) (n : ℕ) → length l ≡ n → take n l ≡ l
+all-taken l n e = take-all n l (omega arith)
 
 -- ---- effects
 
@@ -102,34 +106,49 @@ module _ (P : Params) (M : List Bool) (area : List ℕ) (text : Option (List ℕ
           }
       by zero q (hasEnded s) = absurd (feed-passed area piece log q .opened .phase (s .phase))
 
+  -- a call that ends the stream if it is accepted
+  ending : {e : Bool} (c : Call) (k : ℕ) → outcomeOf area c .number ≡ k → ((j : ℕ) → k ≡ suc j → outcomeOf area c .area ≡ area)
+      → (k ≡ 0 → OpenArea area) → (k ≡ 0 → Stands P M area → Ends P M (acceptedShare c (outcomeOf area c)) (outcomeOf area c .area))
+      → suspended text (acceptedRole c (outcomeOf area c)) ≡ none → At P M area e → Step P M area e text c
+  ending c (suc k) n a o f r at = refused c k n (a k refl)
+  ending c zero n a o f r (isOpen s) = record { after = true; effect = ended (rw (share-of c n) (f refl s)); held = rw (role-of c n, r) tt }
+  ending c zero n a o f r (hasEnded s) = absurd (o refl .phase (s .phase))
+
   end-step : {e : Bool} (out log : List ℕ) (b : Bytes out) (w : Words log) → At P M area e → Step P M area e text (end out log b w)
   unfolding outcomeOf
-  end-step out log b w at = by (endNumber area out log) refl at
-    where
-      c : Call
-      c = end out log b w
+  end-step out log b w =
+      ending (end out log b w) (endNumber area out log) (end-number area out log)
+      (λ j q. ap (λ (x : Finished). x .area) (sym (end-refused area out log (suc j) (sym q) (omega arith))))
+      (λ q. end-passed area out log q .opened)
+      (λ q s. let o = end-one P M area out log s (end-number area out log ∙ q) in
+      record {
+        closed = o .closed;
+        bits = refl;
+        log = o .log;
+        count = o .count;
+        out = endOf area out log .digest;
+        output = refl;
+        digest = rw (o .digest) (take-at (digest P M) (drop (digestBytes (P .d)) out) (digestBytes (P .d)) (length-numbers 8 (digestBytes (P .d)) _));
+      })
+      refl
 
-      number : endOf area out log .number ≡ endNumber area out log
-      number = end-number area out log
-
-      by : {e : Bool} (k : ℕ) → endNumber area out log ≡ k → At P M area e → Step P M area e text c
-      by (suc k) q at = refused c k (number ∙ q) (ap (λ (x : Finished). x .area) (sym (end-refused area out log (suc k) (sym q) (omega arith))))
-      by zero q (isOpen s) =
-          let o = end-one P M area out log s (number ∙ q) in
-          record {
-            after = true;
-            effect = ended (rw (share-of c (number ∙ q)) (record {
-              closed = o .closed;
-              bits = refl;
-              log = o .log;
-              count = o .count;
-              out = endOf area out log .digest;
-              output = refl;
-              digest = rw (o .digest) (take-at (digest P M) (drop (digestBytes (P .d)) out) (digestBytes (P .d)) (length-numbers 8 (digestBytes (P .d)) _));
-            }));
-            held = rw (role-of c (number ∙ q)) tt;
-          }
-      by zero q (hasEnded s) = absurd (end-passed area out log q .opened .phase (s .phase))
+  close-step : {e : Bool} (figure log : List ℕ) (b : Bytes figure) (w : Words log) → At P M area e → Step P M area e text (close figure log b w)
+  unfolding outcomeOf
+  close-step figure log b w =
+      ending (close figure log b w) (closeNumber area figure log) (close-number area figure log)
+      (λ j q. ap (λ (x : ClosedWith). x .area) (sym (close-refused area figure log (suc j) (sym q) (omega arith))))
+      (λ q. close-passed area figure log q .opened)
+      (λ q s. let o = close-one P M area figure log s (close-number area figure log ∙ q) in
+      record {
+        closed = o .closed;
+        bits = refl;
+        log = o .log;
+        count = o .count;
+        out = figure;
+        output = refl;
+        digest = rw (o .digest) (all-taken (digest P M) (digestBytes (P .d)) (length-numbers 8 (digestBytes (P .d)) _));
+      })
+      refl
 
   show-step : {e : Bool} (level : ℕ) → Step P M area e text (show level)
   unfolding outcomeOf shareOf roleOf
@@ -148,6 +167,10 @@ module _ (P : Params) (M : List Bool) (area : List ℕ) (text : Option (List ℕ
   logWords-step : {e : Bool} (bits : ℕ) (s : bits < 2 ^ 64) → Step P M area e text (logWords bits s)
   unfolding outcomeOf
   logWords-step bits s = quiet (logWords bits s) (logWordsNumber area bits) (logWords-number area bits) refl refl (λ q. tt)
+
+  preview-step : {e : Bool} (out : List ℕ) (b : Bytes out) → Step P M area e text (preview out b)
+  unfolding outcomeOf
+  preview-step out b = quiet (preview out b) (previewNumber area out) (preview-number area out) refl refl (λ q. tt)
 
   write-step : {e : Bool} (out : List ℕ) (b : Bytes out) → Step P M area e text (write out b)
   unfolding outcomeOf
@@ -220,6 +243,8 @@ module _ (P : Params) (M : List Bool) (area : List ℕ) (text : Option (List ℕ
   pub step : {e : Bool} (c : Call) → At P M area e → Allowed text (roleOf c (outcomeOf area c)) → Step P M area e text c
   step (feed piece log b t s w) at a = feed-step piece log b t s w at
   step (end out log b w) at a = end-step out log b w at
+  step (preview out b) at a = preview-step out b
+  step (close figure log b w) at a = close-step figure log b w at
   step (show level) at a = show-step level
   step (logWords bits s) at a = logWords-step bits s
   step (write out b) at a = write-step out b

@@ -5,9 +5,9 @@ use mathlib.Core.List.{List, _∷_}
 use Prim.Native.Nat.{ℕ, suc, _^_, _<_}
 use Rattle.bits.specs.Piece.{Piece}
 use Rattle.tree.specs.Tree.{Params}
-use Rattle.calls.specs.Calls.{openOf, feedOf, logWordsOf}
+use Rattle.calls.specs.Calls.{openOf, feedOf, previewOf, logWordsOf}
 use Rattle.text.specs.Text.{readOf}
-use Rattle.runs.specs.Runs.{Bytes, Words, Call, feed, logWords, read, readInto, reopen, unless, outcomeOf, roleOf, suspended, Goes}
+use Rattle.runs.specs.Runs.{Bytes, Words, Call, feed, preview, logWords, read, readInto, reopen, unless, outcomeOf, roleOf, suspended, Goes}
 
 module _ (area : List ℕ) (text : Option (List ℕ)) where
   -- a list with an accepted open is no run
@@ -25,7 +25,8 @@ module _ (area : List ℕ) (text : Option (List ℕ)) where
   unfolding Goes roleOf outcomeOf
   no-readInto other x w b cs e n g = n (rw e at (g .0))
 
-  -- an accepted read ends its suspension, and so do an accepted feed, of 0 bits too, and an accepted telling of log words
+  -- an accepted read ends its suspension, and so do an accepted feed, of 0 bits too, an accepted telling of log words and an accepted
+  -- preview
   pub read-once : (x : List ℕ) (b : Bytes x) → readOf area x .number ≡ 0 → suspended text (roleOf (read x b) (outcomeOf area (read x b))) ≡ none
   unfolding roleOf outcomeOf
   read-once x b e = rw e refl
@@ -39,6 +40,11 @@ module _ (area : List ℕ) (text : Option (List ℕ)) where
       → suspended text (roleOf (logWords bits s) (outcomeOf area (logWords bits s))) ≡ none
   unfolding roleOf outcomeOf
   logWords-ends bits s e = rw e refl
+
+  pub preview-ends : (out : List ℕ) (b : Bytes out) → previewOf area out .number ≡ 0
+      → suspended text (roleOf (preview out b) (outcomeOf area (preview out b))) ≡ none
+  unfolding roleOf outcomeOf
+  preview-ends out b e = rw e refl
 
 -- a refused read into another area leaves the stream where it was; an accepted one moves it there
 module _ (area other x : List ℕ) (w : Words other) (b : Bytes x) where

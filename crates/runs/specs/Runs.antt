@@ -1,6 +1,5 @@
--- Definitions: runs. Document 01, "Runs", and document 02, M-103 and M-104: a list of calls on one stream, from an accepted open on, and its message,
--- log, count and digest.
--- Each call answers by the definition that the contract of its function is an equation with.
+-- Definitions: runs. Document 01, "Runs", and document 02, M-103, M-104 and M-106: a list of calls on one stream, from an accepted open
+-- on, and its message, log, count and digest. Each call answers by the definition that the contract of its function is an equation with.
 use mathlib.Core.Path.{_≡_}
 use mathlib.Core.Bool.{Bool}
 use mathlib.Core.Option.{Option, none, some}
@@ -11,7 +10,7 @@ use Rattle.lists.specs.Below.{Below}
 use Rattle.bits.specs.Piece.{Piece, pieceBits}
 use Rattle.tree.specs.Tree.{Params, digestBytes}
 use Rattle.refusals.specs.Refusals.{Told}
-use Rattle.calls.specs.Calls.{Opened, Fed, Finished, openOf, feedOf, endOf, levelOf, logWordsOf}
+use Rattle.calls.specs.Calls.{Opened, Fed, Finished, Previewed, ClosedWith, openOf, feedOf, endOf, previewOf, closeOf, levelOf, logWordsOf}
 use Rattle.text.specs.Text.{Written, Taken, writeOf, readOf}
 
 -- lent bytes and lent words
@@ -24,11 +23,13 @@ Words = Below (2 ^ 64)
 -- ---- calls and their outcomes
 
 -- "Then come, in any order and number, feed, end, show a level, write and read, and open where it is refused"; document 02, M-103, of
--- log words: "a run may have it too"; M-104: a fed piece has its start bit. A call with its arguments and all that is lent to it but
--- the stream's area; "a read may get another area, of any contents"
+-- log words: "a run may have it too"; M-104: a fed piece has its start bit; M-106: "a run may have both new calls too", preview and
+-- close. A call with its arguments and all that is lent to it but the stream's area; "a read may get another area, of any contents"
 pub data Call : Type 0 where
   feed : (piece : Piece) (log : List ℕ) → Bytes (piece .bytes) → piece .start < 2 ^ 64 → piece .count < 2 ^ 64 → Words log → Call
   end : (digest log : List ℕ) → Bytes digest → Words log → Call
+  preview : (digest : List ℕ) → Bytes digest → Call
+  close : (figure log : List ℕ) → Bytes figure → Words log → Call
   show : (level : ℕ) → Call
   logWords : (bits : ℕ) → bits < 2 ^ 64 → Call
   write : (text : List ℕ) → Bytes text → Call
@@ -58,6 +59,12 @@ outcomeOf area (feed piece log _ _ _ _) =
 outcomeOf area (end digest log _ _) =
     let e : Finished = endOf area digest log in
     record { number = e .number; count = e .count; area = e .area; log = e .log; output = e .digest }
+outcomeOf area (preview digest _) =
+    let p : Previewed = previewOf area digest in
+    record { number = p .number; count = p .count; area = area; log = []; output = p .digest }
+outcomeOf area (close figure log _ _) =
+    let c : ClosedWith = closeOf area figure log in
+    record { number = c .number; count = c .count; area = c .area; log = c .log; output = [] }
 outcomeOf area (show level) = record { number = 0; count = 0; area = area; log = []; output = levelOf area level }
 outcomeOf area (logWords bits _) =
     let t : Told = logWordsOf area bits in
@@ -91,6 +98,8 @@ pub data Role : Type 0 where
 abbrev pub acceptedRole : Call → Outcome → Role
 acceptedRole (feed piece log _ _ _ _) o = outside
 acceptedRole (end digest log _ _) o = outside
+acceptedRole (preview digest _) o = outside
+acceptedRole (close figure log _ _) o = outside
 acceptedRole (show level) o = between
 acceptedRole (logWords bits _) o = outside
 acceptedRole (write text _) o = writes (take (o .count) (o .output))
@@ -153,7 +162,8 @@ areaAfter area (c ∷ cs) = areaAfter (outcomeOf area c .area) cs
 
 -- ---- message, log, count and digest
 
--- what a call adds to its run: bits to the message, words to the log, a number to the count, and the output of an accepted end
+-- what a call adds to its run: bits to the message, words to the log, a number to the count, and what an accepted end wrote or an
+-- accepted close was given
 pub record Share : Type 0 where
   pub bits : List Bool
   pub log : List ℕ
@@ -165,12 +175,16 @@ nothing = record { bits = []; log = []; count = 0; output = none }
 
 -- an accepted call: "The message of a run is the bits of its accepted feeds"; "Its log joins, in order, the logs of its accepted
 -- feeds and end: of each the first 2c words as the call left them, c being the count it returned."; told words are no part of the
--- run's count
+-- run's count. M-106: "an accepted close is the accepted end of its run, its log and count among the run's, and the given figure is
+-- the run's digest"
 abbrev pub acceptedShare : Call → Outcome → Share
 acceptedShare (feed piece log _ _ _ _) o =
     record { bits = pieceBits piece; log = take (2 * o .count) (o .log); count = o .count; output = none }
 acceptedShare (end digest log _ _) o =
     record { bits = []; log = take (2 * o .count) (o .log); count = o .count; output = some (o .output) }
+acceptedShare (preview digest _) o = nothing
+acceptedShare (close figure log _ _) o =
+    record { bits = []; log = take (2 * o .count) (o .log); count = o .count; output = some figure }
 acceptedShare (show level) o = nothing
 acceptedShare (logWords bits _) o = nothing
 acceptedShare (write text _) o = nothing
@@ -215,10 +229,11 @@ logOf r = shares (answersOf r) .log
 abbrev pub countOf : Run → ℕ
 countOf r = shares (answersOf r) .count
 
--- the accepted end's output, if an end was accepted
+-- the accepted end's output, or the figure of the accepted close, if there was one
 abbrev pub outputOf : Run → Option (List ℕ)
 outputOf r = shares (answersOf r) .output
 
--- "its digest is the first d/8 bytes, rounded up, of the accepted end's output"
+-- "its digest is the first d/8 bytes, rounded up, of the accepted end's output"; M-106: "the given figure is the run's digest", which has
+-- no more bytes
 abbrev pub digestIn : Params → List ℕ → List ℕ
 digestIn P out = take (digestBytes (P .d)) out

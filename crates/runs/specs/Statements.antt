@@ -6,20 +6,20 @@ use mathlib.Core.Logic.{_⊎_}
 use mathlib.Core.Option.{Option, none, some}
 use mathlib.Core.List.{List, [], _∷_, _++_}
 use Prim.Native.Nat.{ℕ, _-_, _*_, _^_, _≤_, _<_}
-use lib.ListN.{length}
+use lib.ListN.{length, drop}
 use Rattle.bits.specs.Piece.{Piece, pieceBits, firstPart, secondPart}
-use Rattle.tree.specs.Tree.{Params, Valid, Node, Mark, order, digest}
+use Rattle.tree.specs.Tree.{Params, Valid, Node, Mark, order, digestBytes, digest}
 use Rattle.refusals.specs.Refusals.{firstRefusal, paramTests, outputTest}
 use Rattle.calls.specs.Area.{areaLevels, areaWords, phaseOf, totalOf, paramsOf, levelWords, sound}
-use Rattle.calls.specs.Calls.{nodeLog, shortTest, totalTest, openOf, feedTests, feedOf, endTests, endOf, levelOf, logWordsOf}
+use Rattle.calls.specs.Calls.{nodeLog, shortTest, totalTest, openOf, feedTests, feedOf, endTests, endOf, previewOf, closeTests, closeOf, levelOf, logWordsOf}
 use Rattle.calls.specs.Marks.{allNodes, settled}
 use Rattle.text.specs.Text.{textOf, writeOf, readable, areaIn, readOf}
-use Rattle.runs.specs.Runs.{Call, feed, end, show, logWords, write, read, readInto, reopen, unless, Run, Answered, answersOf, areaOf, messageOf, logOf, countOf, outputOf, digestIn}
+use Rattle.runs.specs.Runs.{Bytes, Words, Call, feed, end, preview, close, show, logWords, write, read, readInto, reopen, unless, Run, Outcome, Answered, shares, answersOf, areaOf, messageOf, logOf, countOf, outputOf, digestIn}
 
 -- ---- demand 3
 
 -- "U and V, in the order of nodes, of the nodes of its tree: all of them if an end was accepted, otherwise those that do not
--- reach the last bit": an end was accepted if there is an output of it
+-- reach the last bit": an end was accepted, or a close, which M-106 has for "the accepted end of its run", if there is an output of it
 abbrev pub nodesFor : Option (List ℕ) → List Mark → List Node
 nodesFor none marks = settled marks
 nodesFor (some out) marks = allNodes marks
@@ -37,6 +37,15 @@ pub record Demand3 (r : Run) : Type 0 where
   pub log : logOf r ≡ nodeLog (nodesOf r)
   -- "The count is the number of these nodes."
   pub count : countOf r ≡ length (nodesOf r)
+  -- M-106: the output of a preview, anywhere in a run, is the digest of the message so far, which the calls before it give; bytes past
+  -- the digest stay
+  pub previews : (before : List Answered) (out : List ℕ) (b : Bytes out) (o : Outcome) (after : List Answered)
+      → answersOf r ≡ before ++ (record { call = preview out b; outcome = o } ∷ after) → o .number ≡ 0
+      → o .output ≡ digest (r .params) (shares before .bits) ++ drop (digestBytes (r .params .d)) out
+  -- "and the given figure is the run's digest": an accepted close was given the digest of the message so far, length included
+  pub closes : (before : List Answered) (figure log : List ℕ) (b : Bytes figure) (w : Words log) (o : Outcome) (after : List Answered)
+      → answersOf r ≡ before ++ (record { call = close figure log b w; outcome = o } ∷ after) → o .number ≡ 0
+      → figure ≡ digest (r .params) (shares before .bits)
   -- "After an accepted end the digest is the tree's."
   pub digest : (out : List ℕ) → outputOf r ≡ some out → digestIn (r .params) out ≡ digest (r .params) (messageOf r)
   -- "Which calls are accepted follows from the table: after the open the area is sound, it has ended once an end was accepted, the
@@ -52,7 +61,7 @@ pub record Demand3 (r : Run) : Type 0 where
 
 -- ---- which calls are accepted
 
--- "10, 0: area has ended": an end was accepted
+-- "10, 0: area has ended": an end was accepted, or a close
 abbrev pub endedTest : Option (List ℕ) → Bool × ℕ
 endedTest none = (false, 10)
 endedTest (some out) = (true, 10)
@@ -74,6 +83,13 @@ pub record Table (r : Run) : Type 0 where
   -- "End 7, 10, 9, 8"
   pub end : (out log : List ℕ) → endOf (areaOf r) out log .number
       ≡ firstRefusal (endedTest (outputOf r) ∷ endTests (r .params .d) (endMakes (r .params) (messageOf r)) out log)
+  -- document 02, M-106: a preview "refuses 7, 10, 9", and writes the digest of the message; a close is refused in "the order 7, 10, 8,
+  -- 14", by 14 if the figure is not that digest
+  pub preview : (out : List ℕ) → previewOf (areaOf r) out .number ≡ firstRefusal (endedTest (outputOf r) ∷ outputTest (digestBytes (r .params .d)) out ∷ [])
+  pub previewed : (out : List ℕ) → previewOf (areaOf r) out .number ≡ 0
+      → previewOf (areaOf r) out .digest ≡ digest (r .params) (messageOf r) ++ drop (digestBytes (r .params .d)) out
+  pub close : (figure log : List ℕ) → closeOf (areaOf r) figure log .number
+      ≡ firstRefusal (endedTest (outputOf r) ∷ closeTests (endMakes (r .params) (messageOf r)) (digest (r .params) (messageOf r)) figure log)
   -- document 02, M-103: "It refuses 7, 10 and 6 in that order", and is "exactly two words for each node that the feed would make": of
   -- any bits Y, if it is not refused
   pub logWords : (n : ℕ) → logWordsOf (areaOf r) n .number ≡ firstRefusal (endedTest (outputOf r) ∷ totalTest (length (messageOf r)) n ∷ [])
@@ -95,7 +111,7 @@ pub record Table (r : Run) : Type 0 where
 
 -- ---- two runs that both ended
 
--- an end was accepted: its output
+-- an end was accepted, or a close: its output, or its figure
 pub record EndedRun (r : Run) : Type 0 where
   pub out : List ℕ
   pub is : outputOf r ≡ some out
@@ -124,6 +140,8 @@ pub record Same (a b : Run) (e : EndedRun a) (f : EndedRun b) : Type 0 where
 abbrev pub pieceIn : Call → List Piece
 pieceIn (feed piece log _ _ _ _) = piece ∷ []
 pieceIn (end digest log _ _) = []
+pieceIn (preview digest _) = []
+pieceIn (close figure log _ _) = []
 pieceIn (show level) = []
 pieceIn (logWords bits _) = []
 pieceIn (write text _) = []

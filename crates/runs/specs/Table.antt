@@ -1,23 +1,21 @@
 -- Laws: "Which calls are accepted follows from the table", for every call after a run.
 use mathlib.Core.Path.{_≡_, refl, sym, ap, _∙_}
-use mathlib.Core.Bool.{Bool, true, false, _&&_, and-false}
-use mathlib.Core.Logic.{_⊎_, inl, inr}
+use mathlib.Core.Bool.{Bool, true, false}
 use mathlib.Core.List.{List, [], _∷_}
 use Prim.Native.Nat.{ℕ, _+_, _-_, _*_, _^_, _<_}
 use native.Mathlib.Omega.{arith}
-use borrow.Author.Tests.{ltb-false, le-ltb, lt-leb}
-use lib.Dec.{leb, ltb}
+use borrow.Author.Tests.{ltb-false, le-ltb}
 use lib.ListN.{length, length-append, length-map}
 use Rattle.bits.specs.Piece.{Piece, pieceBits, bitsTest}
 use Rattle.bits.specs.PieceLaws.{length-pieceBits, bits-there}
-use Rattle.tree.specs.Tree.{Params, Mark, order}
-use Rattle.refusals.specs.Refusals.{Told, firstRefusal}
-use Rattle.calls.specs.Area.{ownLevels, ownWords, Long, sound}
-use Rattle.calls.specs.Calls.{totalTest, logTest, openNumber, fedBits, feedTests, feedOf, closedBy, endTests, endOf, shown, levelOf, logWordsOf}
+use Rattle.tree.specs.Tree.{Params, Mark, order, digestBytes, digest}
+use Rattle.refusals.specs.Refusals.{Told, firstRefusal, outputTest}
+use Rattle.calls.specs.Area.{ownWords, Long, sound}
+use Rattle.calls.specs.Calls.{totalTest, logTest, openNumber, fedBits, feedTests, feedOf, closedBy, endTests, endOf, previewOf, closeTests, closeOf, logWordsOf}
 use Rattle.calls.specs.Marks.{settled}
-use Rattle.calls.specs.CallLaws.{open-number, feed-number, end-number, logWords-number, logWords-accepted, logWords-passed}
+use Rattle.calls.specs.CallLaws.{open-number, feed-number, end-number, preview-number, close-number, logWords-number, logWords-accepted, logWords-passed}
 use Rattle.calls.specs.Stands.{Stands}
-use Rattle.calls.specs.Accepts.{feed-tests, end-tests, logWords-tests, feed-nodes, end-nodes, feed-ended, end-ended, logWords-ended, level-shown, level-none}
+use Rattle.calls.specs.Accepts.{feed-tests, end-tests, preview-tests, close-tests, logWords-tests, feed-nodes, end-nodes, feed-ended, end-ended, preview-ended, close-ended, logWords-ended, level-shown, level-none}
 use Rattle.calls.specs.LogWords.{any-bits}
 use Rattle.text.specs.Text.{writeNumber, readNumber}
 use Rattle.text.specs.ReadLaws.{write-number, read-number}
@@ -25,7 +23,7 @@ use Rattle.runs.specs.Runs.{Run, shares, answersOf, areaOf, messageOf, o
 use Rattle.runs.specs.Statements.{endedTest, feedMakes, endMakes, Demand3, Table}
 use Rattle.runs.specs.Suspend.{at-read-back}
 use Rattle.runs.specs.Demand3.{demand3}
-use Rattle.runs.specs.Induction.{Fits, going, over, fits-at, run-fits}
+use Rattle.runs.specs.Induction.{Fits, going, over, fits-at, preview-fits, run-fits}
 
 -- a later test counts only if the first does not hold
 later-eq : (t : Bool × ℕ) (xs ys : List (Bool × ℕ)) → (t .0 ≡ false → firstRefusal xs ≡ firstRefusal ys) → firstRefusal (t ∷ xs) ≡ firstRefusal (t ∷ ys)
@@ -65,6 +63,12 @@ module _ {P : Params} {M : List Bool} {area : List ℕ} (s : Stands P M area) wh
       let small : length M + length Y < 2 ^ 64 = omega (arith, logWords-passed area (length Y) q .total, s .head .total) in
       ap (λ (t : Told). t .count) (logWords-accepted area (length Y) q) ∙ ap (λ (m : ℕ). 2 * m) (sym (any-bits area Y) ∙ feed-made Y small)
 
+  preview-number-is : (out : List ℕ) → previewOf area out .number ≡ firstRefusal (outputTest (digestBytes (P .d)) out ∷ [])
+  preview-number-is out = preview-number area out ∙ preview-tests s out
+
+  close-number-is : (figure log : List ℕ) → closeOf area figure log .number ≡ firstRefusal (closeTests (endMakes P M) (digest P M) figure log)
+  close-number-is figure log = close-number area figure log ∙ close-tests s figure log ∙ rw end-made refl
+
   end-number-is : (out log : List ℕ) → endOf area out log .number ≡ firstRefusal (endTests (P .d) (endMakes P M) out log)
   end-number-is out log = end-number area out log ∙ end-tests s out log ∙ rw end-made refl
 
@@ -73,6 +77,9 @@ unfolding writeNumber readNumber openNumber
 table r = record {
   feed = λ piece log. feeds piece log (run-fits r .1);
   end = λ out log. ends out log (run-fits r .1);
+  preview = λ out. previews out (run-fits r .1);
+  previewed = λ out z. preview-fits out (run-fits r .1) z;
+  close = λ figure log. closes figure log (run-fits r .1);
   logWords = λ n. tells n (run-fits r .1);
   logWordsCount = λ Y z. tellsCount Y (run-fits r .1) z;
   write = λ out. write-number area out ∙ rw (le-ltb (length area) (ownWords area) own, d .sound) refl;
@@ -107,6 +114,16 @@ table r = record {
         ≡ firstRefusal (endedTest (outputOf r) ∷ endTests (P .d) (endMakes P M) out log)
     ends out log (going g) = rw (g .output) (end-number-is (g .stands) out log)
     ends out log (over g) = rw (g .output) (end-number area out log ∙ end-ended (g .closed) out log)
+
+    previews : {e : Bool} (out : List ℕ) → Fits P (shares (answersOf r)) area e → previewOf area out .number
+        ≡ firstRefusal (endedTest (outputOf r) ∷ outputTest (digestBytes (P .d)) out ∷ [])
+    previews out (going g) = rw (g .output) (preview-number-is (g .stands) out)
+    previews out (over g) = rw (g .output) (preview-number area out ∙ preview-ended (g .closed) out)
+
+    closes : {e : Bool} (figure log : List ℕ) → Fits P (shares (answersOf r)) area e → closeOf area figure log .number
+        ≡ firstRefusal (endedTest (outputOf r) ∷ closeTests (endMakes P M) (digest P M) figure log)
+    closes figure log (going g) = rw (g .output) (close-number-is (g .stands) figure log)
+    closes figure log (over g) = rw (g .output) (close-number area figure log ∙ close-ended (g .closed) figure log)
 
     tells : {e : Bool} (n : ℕ) → Fits P (shares (answersOf r)) area e
         → logWordsOf area n .number ≡ firstRefusal (endedTest (outputOf r) ∷ totalTest (length M) n ∷ [])

@@ -1,20 +1,21 @@
--- Laws: of the end in Calls: the root's words and the digest, and the wipe.
+-- Laws: of the end in Calls: the root's words and the digest, the wipe, and a log that is copied.
 use mathlib.Core.Path.{_≡_, refl, sym, ap, _∙_}
 use mathlib.Core.Bool.{Bool, true, false}
 use mathlib.Core.List.{List, _∷_, _++_}
 use Prim.Native.Nat.{ℕ, zero, suc, _+_, _-_, _*_, _/_, _%_, _^_, _≤_, _<_}
+use native.Mathlib.Nat.{zero-add}
 use native.Mathlib.Omega.{arith}
 use lib.Dec.{eqb}
-use lib.ListN.{length, drop, getD, set, replicate}
-use lib.Seq.{drop-drop}
+use lib.ListN.{length, take, drop, getD, set, replicate}
+use lib.Seq.{paste, take-all, drop-drop}
 use Rattle.lists.specs.Part.{put}
 use Rattle.bits.specs.Bits.{bitsOf, numbers}
 use Rattle.tree.specs.Tree.{Params, Node, node, output, lastOr, noNode, digestBytes, blockBits, sequentialBits, outputBits}
 use Rattle.tree.specs.TreeLaws.{length-output-node}
 use Rattle.tree.specs.Count.{treeNodes-bound}
 use Rattle.calls.specs.Area.{totalOf, compressionsOf, paramsOf, ownLevels, ownWords, levelWords, levelsFrom, levelsOf, withLevels, emptyLevels, doneBlocks, heldBits, headWords, blockWords, levelsUp, Long}
-use Rattle.calls.specs.Calls.{outWords, joinParallel, joinSequential, closeAbove, closing, closedBy, endedArea, digestOut, logged}
-use Rattle.calls.specs.CallLaws.{EndPassed}
+use Rattle.calls.specs.Calls.{outWords, joinParallel, joinSequential, closeAbove, closing, closedBy, endedArea, digestOut, nodeLog, logged}
+use Rattle.calls.specs.CallLaws.{EndPassed, length-nodeLog, logged-front}
 use Rattle.calls.specs.Machine
 use Rattle.calls.specs.Close
 use Rattle.calls.specs.AreaLaws.{length-levelWords, levels-split, flatten-empty}
@@ -22,13 +23,6 @@ use Rattle.calls.specs.Widths.{words-bits, length-joined}
 use Rattle.climb.specs.ReceiveLaws.{length-outWords}
 use Rattle.climb.specs.OpenArea.{OpenArea, size-read}
 use Rattle.stream.specs.NumberLaws.{count-left}
-
--- a stream that ended: the area, the digest, the log, and how many nodes the end made
-pub record EndedStream (area out log area′ out′ log′ : List ℕ) (count : ℕ) : Type 0 where
-  pub left : area′ ≡ endedArea area (closedBy area)
-  pub digest : out′ ≡ digestOut area (closedBy area) out
-  pub written : log′ ≡ logged (closedBy area) log
-  pub made : count ≡ length (closedBy area)
 
 -- ---- the root's output has 1,024 bits, so that its words are these bits
 
@@ -101,7 +95,7 @@ wiped area e h =
     let n : e - headWords ≡ blockWords * ownLevels area = omega arith in
     rw (n, drop-drop (blockWords * ownLevels area) headWords area, flatten-empty (ownLevels area)) refl
 
--- what an accepted end shows
+-- room for the digest
 pub digest-room : {area out log : List ℕ} → EndPassed area out log → digestBytes (getD area 3 0) ≤ length out
 digest-room {area} p = rw (size-read area) at (p .output)
 
@@ -114,3 +108,12 @@ pub wiped-area : (area : List ℕ) (nodes : ℕ) → nodes ≡ length (closedBy 
     → withLevels (set (set area 0 2) 14 (compressionsOf area + nodes)) (emptyLevels (ownLevels area)) ≡ endedArea area (closedBy area)
 unfolding endedArea
 wiped-area area nodes e = ap (λ (x : ℕ). withLevels (set (set area 0 2) 14 (compressionsOf area + x)) (emptyLevels (ownLevels area))) e
+
+-- ---- a close: the log that the nodes were written to before
+
+-- U and V of the nodes, copied to the lent log
+pub log-copied : (nodes : List Node) (made log : List ℕ) (n : ℕ) → n ≡ 2 * length nodes
+    → (let us : List ℕ = take n (logged nodes made) in paste log 0 us (length us)) ≡ logged nodes log
+log-copied nodes made log n e =
+    let f : take n (logged nodes made) ≡ nodeLog nodes = rw e (logged-front nodes made) in
+    rw (f, length-nodeLog nodes, zero-add (2 * length nodes), take-all (2 * length nodes) (nodeLog nodes) (omega (arith, length-nodeLog nodes))) refl

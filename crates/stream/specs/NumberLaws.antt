@@ -1,24 +1,26 @@
--- Laws: the numbers that refuse a feed, an end and the telling of log words, as the code tests them: first the area, and then the rest
--- for an open area, whose word 14 tells how many nodes were made already.
+-- Laws: the numbers that refuse a feed, an end, a preview, a close and the telling of log words, as the code tests them: first the area,
+-- and then the rest for an open area, whose word 14 tells how many nodes were made already.
 use mathlib.Core.Path.{_≡_, refl, sym, ap, _∙_}
-use mathlib.Core.Bool.{Bool, true, false}
+use mathlib.Core.Bool.{Bool, true, false, not}
 use mathlib.Core.List.{List, [], _∷_, _++_}
-use Prim.Native.Nat.{ℕ, _+_, _-_, _*_, _^_, _≤_, _<_}
+use Prim.Native.Nat.{ℕ, _+_, _-_, _*_, _/_, _^_, _≤_, _<_}
 use native.Mathlib.Omega.{arith}
-use borrow.Author.Tests.{le-ltb}
+use borrow.Author.Tests.{ltb-true, ltb-false, lt-ltb, le-ltb}
+use lib.Dec.{ltb}
 use lib.ListN.{length, getD, replicate, length-replicate}
+use Rattle.lists.specs.Same.{same}
 use Rattle.bits.specs.Piece.{Piece, pieceBits, refusedBits}
 use Rattle.tree.specs.Tree.{digestBytes}
 use Rattle.tree.specs.Sizes.{treeNodes}
-use Rattle.refusals.specs.Refusals.{firstRefusal}
-use Rattle.refusals.specs.RefusalLaws.{passed, first-part}
+use Rattle.refusals.specs.Refusals.{firstRefusal, outputTest}
+use Rattle.refusals.specs.RefusalLaws.{passed, first-part, second-part}
 use Rattle.calls.specs.Area.{totalOf, compressionsOf, openCount, paramsOf}
-use Rattle.calls.specs.Calls.{fedBits, closedBy, feedNumber, endNumber, logWordsNumber, openTests, totalTest, logTest, feedTests, endTests}
+use Rattle.calls.specs.Calls.{fedBits, closedBy, feedNumber, endNumber, logWordsNumber, openTests, totalTest, logTest, feedTests, endTests, previewNumber, nodesDigest, closeTests, closeNumber}
 use Rattle.calls.specs.CallLaws.{OpenArea, LogWordsPassed, open-area, open-tests, total-passed}
 use Rattle.calls.specs.Accepts.{closed-count}
 use Rattle.calls.specs.LogWords.{piece-nodes}
 use Rattle.calls.specs.AreaLaws.{limit-word}
-use Rattle.climb.specs.OpenArea.{open-done, size-read}
+use Rattle.climb.specs.OpenArea.{open-done, open-range, size-read}
 use Rattle.piece.specs.PieceLaws.{made-count, openCount-le}
 
 -- ---- the area's number, or that of the later tests for an open area
@@ -92,10 +94,24 @@ module _ (area : List ℕ) (piece : Piece) (log : List ℕ) where
         let t = total-fits (totalOf area) (piece .count) e z in
         rw (m ∙ sym (piece-nodes area piece b), b, le-ltb (2 ^ 64 - 1) (totalOf area + piece .count) (omega arith))
 
+-- ---- the digest's room, and the log
+
+-- half a log's words are fewer than the nodes exactly if its words are fewer than two a node
+pub half-short : (words nodes : ℕ) → ltb (words / 2) nodes ≡ ltb words (2 * nodes)
+half-short words nodes = by (ltb words (2 * nodes)) refl
+  where
+    by : (b : Bool) → ltb words (2 * nodes) ≡ b → ltb (words / 2) nodes ≡ b
+    by true e = lt-ltb (words / 2) nodes (omega (arith, ltb-true words (2 * nodes) e))
+    by false e = le-ltb (words / 2) nodes (omega (arith, ltb-false words (2 * nodes) e))
+
+-- a digest has 64 bytes at most
+pub digest-small : {area : List ℕ} → OpenArea area → digestBytes (paramsOf area .d) ≤ 64
+digest-small {area} o = rw (size-read area) (omega (arith, open-range o .dHigh))
+
 -- ---- an end
 
 abbrev pub openEndNumber : List ℕ → List ℕ → List ℕ → ℕ
-openEndNumber area out log = firstRefusal (endTests (getD area 3 0) (length (closedBy area)) out log)
+openEndNumber area out log = firstRefusal (endTests (paramsOf area .d) (length (closedBy area)) out log)
 
 module _ {n : ℕ} (area out log : List ℕ) (e : n ≡ firstRefusal (openTests area)) where
   pub end-area : (n ≡ 0 → ⊥) → n ≡ endNumber area out log
@@ -104,11 +120,47 @@ module _ {n : ℕ} (area out log : List ℕ) (e : n ≡ firstRefusal (openTests 
 
   pub end-open : n ≡ 0 → openEndNumber area out log ≡ endNumber area out log
   unfolding endNumber
-  end-open z = rw (← size-read area) (later-decide area (endTests (paramsOf area .d) (length (closedBy area)) out log) e z)
+  end-open = later-decide area (endTests (paramsOf area .d) (length (closedBy area)) out log) e
 
-pub end-log : {nodes : ℕ} (area out log : List ℕ) → digestBytes (getD area 3 0) ≤ length out → nodes ≡ length (closedBy area)
-    → firstRefusal (logTest nodes log ∷ []) ≡ openEndNumber area out log
-end-log area out log h e = rw (e, le-ltb (length out) (digestBytes (getD area 3 0)) h)
+-- the ways that the code takes with an open area
+module _ {n : ℕ} (area out log : List ℕ) (e : n ≡ firstRefusal (outputTest (digestBytes (paramsOf area .d)) out ∷ [])) where
+  pub end-output : (n ≡ 0 → ⊥) → n ≡ openEndNumber area out log
+  end-output h =
+      e ∙ first-part (outputTest (digestBytes (paramsOf area .d)) out ∷ []) (logTest (length (closedBy area)) log ∷ []) (λ z. h (e ∙ z))
+
+  pub end-log : {nodes : ℕ} → n ≡ 0 → nodes ≡ length (closedBy area) → firstRefusal (logTest nodes log ∷ []) ≡ openEndNumber area out log
+  end-log z q =
+      let output : List (Bool × ℕ) = outputTest (digestBytes (paramsOf area .d)) out ∷ [] in
+      rw q (sym (second-part output (logTest (length (closedBy area)) log ∷ []) (passed output refl (sym e ∙ z))))
+
+-- ---- a preview and a close
+
+module _ {n : ℕ} (area out : List ℕ) (e : n ≡ firstRefusal (openTests area)) where
+  pub preview-area : (n ≡ 0 → ⊥) → n ≡ previewNumber area out
+  unfolding previewNumber
+  preview-area = area-decides area (outputTest (digestBytes (paramsOf area .d)) out ∷ []) e
+
+  pub preview-open : n ≡ 0 → firstRefusal (outputTest (digestBytes (paramsOf area .d)) out ∷ []) ≡ previewNumber area out
+  unfolding previewNumber
+  preview-open = later-decide area (outputTest (digestBytes (paramsOf area .d)) out ∷ []) e
+
+abbrev pub openCloseNumber : List ℕ → List ℕ → List ℕ → ℕ
+openCloseNumber area figure log = firstRefusal (closeTests (length (closedBy area)) (nodesDigest area (closedBy area)) figure log)
+
+module _ {n : ℕ} (area figure log : List ℕ) (e : n ≡ firstRefusal (openTests area)) where
+  pub close-area : (n ≡ 0 → ⊥) → n ≡ closeNumber area figure log
+  unfolding closeNumber
+  close-area = area-decides area (closeTests (length (closedBy area)) (nodesDigest area (closedBy area)) figure log) e
+
+  pub close-open : n ≡ 0 → openCloseNumber area figure log ≡ closeNumber area figure log
+  unfolding closeNumber
+  close-open = later-decide area (closeTests (length (closedBy area)) (nodesDigest area (closedBy area)) figure log) e
+
+-- the way that the code takes with an open area: whether the log is short, and whether the digest is the figure
+pub close-numbers : {n nodes : ℕ} {short equal : Bool} {digest : List ℕ} (area figure log : List ℕ) → short ≡ logTest nodes log .0 → nodes ≡ length (closedBy area)
+    → equal ≡ same digest figure → digest ≡ nodesDigest area (closedBy area) → n ≡ firstRefusal ((short, 8) ∷ (not equal, 14) ∷ [])
+    → n ≡ openCloseNumber area figure log
+close-numbers area figure log s m q d e = e ∙ rw (s, m, q, d) refl
 
 -- the nodes that an end would make: those of the whole tree, without those that were made
 pub count-left : {area : List ℕ} → OpenArea area → totalOf area < 2 ^ 64 → length (closedBy area) + compressionsOf area ≡ treeNodes (getD area 4 0) (totalOf area)

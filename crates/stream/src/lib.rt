@@ -11,10 +11,12 @@ use bits::Span;
 use refusals::Answer;
 use refusals::Params;
 
-mod number; // number.rt: the numbers that refuse a feed, an end and the telling of log words, and how many nodes these would make
-mod close; // close.rt: the end of a stream
+mod number; // number.rt: the numbers that refuse calls on an area, and how many nodes these would make
+mod ending; // ending.rt: end, preview and close
 
-pub use close::end;
+pub use ending::close;
+pub use ending::end;
+pub use ending::preview;
 
 // Writes the words of an open area with no bits.
 fn write_open(area: &mut [u64], key: &[u8], d: u64, limit: u64, rounds: u64)

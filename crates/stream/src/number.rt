@@ -1,12 +1,14 @@
-// The numbers that refuse a feed, an end and the telling of log words. The nodes that would be made are known from the totals,
-// before any is.
+// The numbers that refuse a feed, an end, a preview, a close and the telling of log words. The nodes that would be made are known from
+// the totals, before any is.
 ghost use mathlib.Core.Path.{_≡_};
 ghost use mathlib.Core.Bool.{false};
 ghost use mathlib.Core.List.{[], _∷_};
 ghost use lib.ListN.{length, replicate};
 ghost use Rattle.bits.specs.PieceLaws.{spanned};
-ghost use Rattle.refusals.specs.Refusals.{firstRefusal};
-ghost use Rattle.calls.specs.Calls.{openTests, totalTest, logTest, fedBits, closedBy, feedNumber, endNumber, logWordsNumber};
+ghost use Rattle.tree.specs.Tree.{digestBytes};
+ghost use Rattle.refusals.specs.Refusals.{firstRefusal, outputTest};
+ghost use Rattle.calls.specs.Area.{paramsOf};
+ghost use Rattle.calls.specs.Calls.{openTests, totalTest, logTest, fedBits, closedBy, feedNumber, endNumber, previewNumber, logWordsNumber};
 ghost use Rattle.calls.specs.CallLaws.{LogWordsPassed};
 ghost use Rattle.climb.specs.OpenArea.{OpenArea};
 ghost use Rattle.stream.specs.NumberLaws.{openFeedNumber, openEndNumber};
@@ -15,7 +17,7 @@ use area::count;
 use bits::Span;
 
 // 7 for an area that is short or unsound, 10 for one that has ended, and otherwise 0.
-fn area_number(area: &[u64]) -> u64
+pub fn area_number(area: &[u64]) -> u64
     ensures { λ r. ⌜ r ≡ firstRefusal (openTests (now (area .entry))) ⌝ }
 {
     if area::is_short(area) {
@@ -40,11 +42,18 @@ fn total_number(total: u64, bits: u64) -> u64
     0
 }
 
+// Whether a log is shorter than 2 words a node.
+pub fn is_short_log(log: &[u64], nodes: u64) -> bool
+    ensures { λ r. ⌜ r ≡ logTest nodes (now (log .entry)) .0 ⌝ }
+{
+    (log.len() as u64) / 2 < nodes
+}
+
 // 8 for a log that is shorter than 2 words a node, and otherwise 0.
 fn log_number(log: &[u64], nodes: u64) -> u64
     ensures { λ r. ⌜ r ≡ firstRefusal (logTest nodes (now (log .entry)) ∷ []) ⌝ }
 {
-    if (log.len() as u64) / 2 < nodes {
+    if is_short_log(log, nodes) {
         return 8;
     }
     0
@@ -103,13 +112,33 @@ pub fn nodes_left(area: &[u64]) -> u64
     node::count::tree_nodes(area[Area::LIMIT], area[Area::TOTAL]) - area[Area::DONE]
 }
 
+// The bytes of an open area's digest.
+pub fn digest_bytes(area: &[u64]) -> usize
+    requires { ⌜ OpenArea (now area) ⌝ }
+    ensures { λ r. ⌜ r ≡ digestBytes (paramsOf (now (area .entry)) .d) ⌝ }
+{
+    ((area[Area::D] + 7) / 8) as usize
+}
+
+// 9 for an output that is shorter than an open area's digest, and otherwise 0.
+fn output_number(area: &[u64], digest: &[u8]) -> u64
+    requires { ⌜ OpenArea (now area) ⌝ }
+    ensures { λ r. ⌜ r ≡ firstRefusal (outputTest (digestBytes (paramsOf (now (area .entry)) .d)) (now (digest .entry)) ∷ []) ⌝ }
+{
+    if digest.len() < digest_bytes(area) {
+        return 9;
+    }
+    0
+}
+
 // The number that refuses an end of an open area, and otherwise 0.
 fn open_end_number(area: &[u64], digest: &[u8], log: &[u64]) -> u64
     requires { ⌜ OpenArea (now area) ⌝ }
     ensures { λ r. ⌜ r ≡ openEndNumber (now (area .entry)) (now (digest .entry)) (now (log .entry)) ⌝ }
 {
-    if (digest.len() as u64) < (area[Area::D] + 7) / 8 {
-        return 9;
+    let number = output_number(area, digest);
+    if number != 0 {
+        return number;
     }
     log_number(log, nodes_left(area))
 }
@@ -123,4 +152,28 @@ pub fn end_number(area: &[u64], digest: &[u8], log: &[u64]) -> u64
         return number;
     }
     open_end_number(area, digest, log)
+}
+
+// The number that refuses a preview, and otherwise 0.
+pub fn preview_number(area: &[u64], digest: &[u8]) -> u64
+    ensures { λ r. ⌜ r ≡ previewNumber (now (area .entry)) (now (digest .entry)) ⌝ }
+{
+    let number = area_number(area);
+    if number != 0 {
+        return number;
+    }
+    output_number(area, digest)
+}
+
+// For a close of an open area: 8 for a short log, then 14 for a figure that differs, and otherwise 0.
+pub fn open_close_number(short: bool, differs: bool) -> u64
+    ensures { λ r. ⌜ r ≡ firstRefusal ((short, 8) ∷ (differs, 14) ∷ []) ⌝ }
+{
+    if short {
+        return 8; // the log first
+    }
+    if differs {
+        return 14;
+    }
+    0
 }

@@ -1,9 +1,9 @@
 // Runs the stream's calls on the rows of document 01's "Reels by hand", fed whole and cut, with rounds at each edge, on areas of
 // every length, on pieces from every start bit on, and on every refusal. A call writes a line: its number, its count, and whether
 // the words lent, those past the area and the log past the nodes are as before; then a line U V for each node; an end then writes
-// its output. A telling of log words writes its number, its count and whether the area is as before; one of an area's words its
-// number and count. Of the many pieces a line is what feed and end answered, and the digest. tests/stream/expected.py makes the
-// expected lines.
+// its output. A telling of log words and a preview write their number, their count and whether the area is as before; a preview
+// then writes its output. A telling of an area's words writes its number and count. Of the many pieces a line is what feed and end
+// answered, and the digest. tests/stream/expected.py makes the expected lines.
 ghost use mathlib.Core.Path.{_≡_};
 ghost use Prim.Native.Nat.{_≤_, _<_};
 ghost use lib.ListN.{length};
@@ -109,13 +109,18 @@ fn feed(area: &mut [u64], piece: &[u8], start: u64, bits: u64, words: usize)
     feed_log(area, piece, start, bits, &mut log[..words]);
 }
 
+// Writes an output, and ends its line.
+fn print_output(output: &[u8]) {
+    test_print::bytes(output);
+    io::write_all(STDOUT_FILENO, b"\n");
+}
+
 fn end_log(area: &mut [u64], digest: &mut [u8], log: &mut [u64]) {
     let mut before = [0u64; 1750];
     copy(&mut before, &*area);
     let answer = stream::end(&mut *area, &mut *digest, &mut *log);
     report(answer.number, answer.count, &*area, &before, &*log);
-    test_print::bytes(&*digest);
-    io::write_all(STDOUT_FILENO, b"\n");
+    print_output(&*digest);
 }
 
 // An end with an output of so many bytes and a log of so many words.
@@ -127,14 +132,50 @@ fn end(area: &mut [u64], room: usize, words: usize)
     end_log(area, &mut digest[..room], &mut log[..words]);
 }
 
+fn close_log(area: &mut [u64], figure: &[u8], log: &mut [u64]) {
+    let mut before = [0u64; 1750];
+    copy(&mut before, &*area);
+    let answer = stream::close(&mut *area, figure, &mut *log);
+    report(answer.number, answer.count, &*area, &before, &*log);
+}
+
+// A close with a figure and a log of so many words.
+fn close(area: &mut [u64], figure: &[u8], words: usize)
+    requires { ⌜ words ≤ 64 ⌝ }
+{
+    let mut log = [FILL; 64];
+    close_log(area, figure, &mut log[..words]);
+}
+
+// Writes two numbers, and whether an area is as another.
+fn print_same(first: u64, second: u64, area: &[u64], other: &[u64]) {
+    test_print::answer(first, second);
+    test_print::same(area, other, 0);
+    io::write_all(STDOUT_FILENO, b"\n");
+}
+
 // Tells the log words for a feed of so many bits.
 fn tell(area: &[u64], bits: u64) {
     let mut before = [0u64; 1750];
     copy(&mut before, area);
     let answer = stream::log_words(area, bits);
-    test_print::answer(answer.number, answer.count);
-    test_print::same(area, &before, 0);
-    io::write_all(STDOUT_FILENO, b"\n");
+    print_same(answer.number, answer.count, area, &before);
+}
+
+fn preview_digest(area: &[u64], digest: &mut [u8]) {
+    let mut before = [0u64; 1750];
+    copy(&mut before, area);
+    let answer = stream::preview(area, &mut *digest);
+    print_same(answer.number, answer.count, area, &before);
+    print_output(&*digest);
+}
+
+// A preview with an output of so many bytes.
+fn preview(area: &[u64], room: usize)
+    requires { ⌜ room ≤ 3 ⌝ }
+{
+    let mut digest = [0xa5u8; 3];
+    preview_digest(area, &mut digest[..room]);
 }
 
 // Writes a number on a line of its own.
@@ -171,14 +212,21 @@ fn feed_ones(area: &mut [u64], bits: u64) {
     feed(area, &ones, 0, bits, 64);
 }
 
+// A feed of ones, and a preview of what was fed so far.
+fn feed_and_preview(area: &mut [u64], bits: u64) {
+    feed_ones(&mut *area, bits);
+    preview(&*area, 3);
+}
+
 // A row of "Reels by hand" in four pieces: a message of ones, r = 0 and no key.
 fn row(limit: u64, d: u64, first: u64, second: u64, third: u64, fourth: u64) {
     let mut area = [FILL; 1750];
     open(&mut area, b"", d, limit, 0);
-    feed_ones(&mut area, first);
-    feed_ones(&mut area, second);
-    feed_ones(&mut area, third);
-    feed_ones(&mut area, fourth);
+    preview(&area, 3);
+    feed_and_preview(&mut area, first);
+    feed_and_preview(&mut area, second);
+    feed_and_preview(&mut area, third);
+    feed_and_preview(&mut area, fourth);
     end(&mut area, 3, 54);
 }
 
@@ -205,6 +253,39 @@ fn cut_rows() {
     row(0, 8, 3071, 1, 1, 0);
     row(1, 8, 1, 4095, 1, 8191);
     row(1, 8, 1, 4095, 1, 8192);
+}
+
+// Ends an area and, as it was before, closes it with a figure. Then writes word 0, the nodes, and whether both left the same words.
+fn end_and_close(area: &mut [u64], figure: &[u8]) {
+    let mut before = [FILL; 1750];
+    let mut ended = [FILL; 1750];
+    copy(&mut before, &*area);
+    end(&mut *area, 3, 54);
+    copy(&mut ended, &*area);
+    copy(&mut *area, &before);
+    close(&mut *area, figure, 54);
+    print_same(ended[0], ended[14], &*area, &ended);
+}
+
+// A row, ended and closed with the digest that stands there.
+fn closed_row(limit: u64, d: u64, bits: u64, figure: &[u8]) {
+    let mut area = [FILL; 1750];
+    open(&mut area, b"", d, limit, 0);
+    feed_ones(&mut area, bits);
+    end_and_close(&mut area, figure);
+}
+
+fn closed_rows() {
+    closed_row(64, 8, 0, b"\x00");
+    closed_row(64, 8, 4096, b"\xff");
+    closed_row(64, 8, 4097, b"\x00");
+    closed_row(64, 8, 16384, b"\xff");
+    closed_row(64, 9, 16384, b"\xff\x80");
+    closed_row(64, 8, 16385, b"\x00");
+    closed_row(0, 8, 0, b"\x00");
+    closed_row(0, 8, 3073, b"\x00");
+    closed_row(1, 8, 12288, b"\xff");
+    closed_row(1, 8, 12289, b"\x00");
 }
 
 // Two blocks with so many rounds and no key. Where the open is refused the area is unsound for the calls behind it.
@@ -246,10 +327,12 @@ fn finish(area: &mut [u64]) {
     stream::end(&mut *area, &mut digest, &mut log);
 }
 
-// A telling, a feed, an end and a level of an area.
+// A telling, a feed, a preview, a close with no figure, which ends no area, an end and a level of an area.
 fn fair_calls(area: &mut [u64]) {
     tell(&*area, 8);
     feed_byte(&mut *area, 8, 64);
+    preview(&*area, 3);
+    close(&mut *area, b"", 54);
     end(&mut *area, 3, 54);
     show(&*area, 1);
 }
@@ -258,6 +341,8 @@ fn fair_calls(area: &mut [u64]) {
 fn refused_calls(area: &mut [u64]) {
     tell(&*area, u64::MAX);
     feed_byte(&mut *area, 9, 0);
+    preview(&*area, 0);
+    close(&mut *area, b"", 0);
     end(&mut *area, 0, 0);
     show(&*area, 1);
 }
@@ -394,13 +479,15 @@ fn tell_words(limit: u64) {
     io::write_all(STDOUT_FILENO, b"\n");
 }
 
-// A stream of ones, whatever the area held, with its levels before the end.
+// A stream of ones, whatever the area held, with its levels before the end; then closed with the figure of its preview.
 fn stream_in(area: &mut [u64], limit: u64) {
+    let mut figure = [0xa5u8; 3];
     open(&mut *area, b"", 24, limit, 9);
     tell(&*area, 16385);
     feed_ones(&mut *area, 16385);
     show_levels(&*area);
-    end(&mut *area, 3, 54);
+    preview_digest(&*area, &mut figure);
+    end_and_close(&mut *area, &figure);
 }
 
 // This in so many words.
@@ -562,9 +649,10 @@ fn long_stream() {
     tell(&area, 0);
     tell(&area, 1);
     feed_byte(&mut area, 1, 0);
+    preview(&area, 3);
     end(&mut area, 3, 53);
-    end(&mut area, 3, 54);
-    print_line(area[14]);
+    close(&mut area, b"\x00", 53);
+    end_and_close(&mut area, b"\x00");
     tell(&area, 1);
 }
 
@@ -588,8 +676,7 @@ fn print_end(area: &mut [u64]) {
     let answer = stream::end(area, &mut digest, &mut log);
     test_print::answer(answer.number, answer.count);
     io::write_all(STDOUT_FILENO, b" ");
-    test_print::bytes(&digest);
-    io::write_all(STDOUT_FILENO, b"\n");
+    print_output(&digest);
 }
 
 // A piece from a start bit on, fed behind as many bits as are held.
@@ -750,9 +837,98 @@ fn ordered_refusals() {
     two_bits(&mut area, 8);
 }
 
+// Closes with no figure, and with a byte fewer or more than ff80.
+fn wrong_lengths(area: &mut [u64], words: usize)
+    requires { ⌜ words ≤ 64 ⌝ }
+{
+    close(&mut *area, b"", words);
+    close(&mut *area, b"\xff", words);
+    close(&mut *area, b"\xff\x80\x00", words);
+}
+
+// Closes with the first of its bits changed, the last, both, and a spare bit behind them.
+fn wrong_bits(area: &mut [u64], words: usize)
+    requires { ⌜ words ≤ 64 ⌝ }
+{
+    close(&mut *area, b"\x7f\x80", words);
+    close(&mut *area, b"\xff\x00", words);
+    close(&mut *area, b"\x7f\x00", words);
+    close(&mut *area, b"\xff\xc0", words);
+    close(&mut *area, b"\xff\x81", words);
+}
+
+// All of these with a log of so many words.
+fn wrong_figures(area: &mut [u64], words: usize)
+    requires { ⌜ words ≤ 64 ⌝ }
+{
+    wrong_lengths(&mut *area, words);
+    wrong_bits(&mut *area, words);
+}
+
+// All refusals of a preview and a close, from the last of their order to the first: of ones whose digest is ff80, with logs and
+// outputs that are too short by one and long enough; then of the closed area, and of an unsound one.
+fn refused_closes() {
+    let mut area = [FILL; 1750];
+    open(&mut area, b"", 9, 64, 0);
+    feed_ones(&mut area, 16384);
+    wrong_figures(&mut area, 4);
+    wrong_figures(&mut area, 3);
+    close(&mut area, b"\xff\x80", 3);
+    preview(&area, 1);
+    preview(&area, 2);
+    close(&mut area, b"\xff\x80", 4);
+    close(&mut area, b"\xff\x80", 4);
+    fair_calls(&mut area);
+    refused_calls(&mut area);
+    set(&mut area, 15, 1);
+    refused_calls(&mut area);
+}
+
+// A feed between a preview and the close, which then goes by the longer message.
+fn fed_between() {
+    let mut area = [FILL; 1750];
+    open(&mut area, b"", 8, 64, 0);
+    feed_and_preview(&mut area, 4096);
+    feed_ones(&mut area, 1);
+    close(&mut area, b"\xff", 54);
+    preview(&area, 3);
+    close(&mut area, b"\x00", 54);
+}
+
+// Closes with each byte of a figure changed in turn.
+fn changed_bytes(area: &mut [u64], figure: &mut [u8]) {
+    let mut i = 0;
+    while i < figure.len() {
+        let byte = figure[i];
+        figure[i] = byte ^ 1;
+        close(&mut *area, &*figure, 54);
+        figure[i] = byte;
+        i += 1;
+    }
+}
+
+// The longest figure: previews with an output of a byte fewer, of its length and of a byte more; then closes with each of its bytes
+// changed, without the first, with a byte more, and with the figure.
+fn longest_figure() {
+    let mut area = [FILL; 1750];
+    let mut short = [0xa5u8; 63];
+    let mut figure = [0xa5u8; 64];
+    let mut long = [0xa5u8; 65];
+    open(&mut area, b"key", 512, 64, 9);
+    feed_ones(&mut area, 4097);
+    preview_digest(&area, &mut short);
+    preview_digest(&area, &mut figure);
+    preview_digest(&area, &mut long);
+    changed_bytes(&mut area, &mut figure);
+    close(&mut area, &figure[1..], 54);
+    close(&mut area, &long, 54);
+    close(&mut area, &figure, 54);
+}
+
 fn main() {
     whole_rows();
     cut_rows();
+    closed_rows();
     rounds_edges();
     all_opens();
     all_limits();
@@ -771,4 +947,7 @@ fn main() {
     cut_message();
     start_edges();
     ordered_refusals();
+    refused_closes();
+    fed_between();
+    longest_figure();
 }

@@ -9,18 +9,19 @@ use borrow.Rule.Slice.PartMut.{putMid}
 use lib.ListN.{length, take, drop, getD, replicate, length-append, length-drop}
 use lib.Seq.{take-all, take-at, take-take, take-append-le, drop-at, length-take-le}
 use Rattle.lists.specs.Replicate.{take-replicate}
+use Rattle.lists.specs.Same.{same}
+use Rattle.lists.specs.SameLaws.{same-other-length}
 use Rattle.lists.specs.Take.{drop-take}
 use Rattle.tree.specs.Tree.{mostLevels, mostLimit}
 use Rattle.calls.specs.Area.{headWords, blockWords, areaLevels, areaWords, paramsOf, ownLevels, ownWords, sound, Long}
 use Rattle.calls.specs.AreaLaws.{limit-word}
 use Rattle.digits.specs.Digits.{allSpelt}
-use Rattle.text.specs.Text.{roundsBytes, line1Fields, heldOf, textWith, levelBytes, headBytes, speltHead, speltLevels, speltArea, same, textIs, readableWith, readable, readArea}
+use Rattle.text.specs.Text.{roundsBytes, line1Fields, heldOf, textWith, levelBytes, headBytes, speltHead, speltLevels, speltArea, textIs, readableWith, readable, readArea}
 use Rattle.text.specs.LayoutLaws.{sound-front, text-front}
 use Rattle.text.specs.LengthLaws.{lines, text-length}
 use Rattle.text.specs.Lines.{zeroLevels, linesAbove, Spelt, length-text}
 use Rattle.text.specs.ReadForms.{formOf, one-form}
 use Rattle.text.specs.TextLaws.{limit-front, held-front, length-speltHead, headed, headed-front, length-speltArea}
-use Rattle.text.proofs.SameLaws.{same-other-length}
 
 -- ---- a text that is not read
 

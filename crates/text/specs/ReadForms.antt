@@ -2,17 +2,18 @@
 -- the two a text may be.
 use mathlib.Core.Path.{_≡_, refl, sym, ap, _∙_}
 use mathlib.Core.Bool.{Bool, true, false, cond, _||_, or-false}
-use mathlib.Core.List.{List, [], _∷_}
+use mathlib.Core.List.{List}
 use mathlib.Core.Option.{Option, none, some}
 use Prim.Native.Nat.{ℕ, _≤_}
 use native.Mathlib.Omega.{arith}
 use borrow.Author.Tests.{eqb-true, eqb-false, eq-eqb, ne-eqb}
 use lib.Dec.{eqb}
 use lib.ListN.{length, take, getD}
-use Rattle.lists.specs.Append.{cons-eq}
 use Rattle.lists.specs.And.{and-intro, and-parts}
+use Rattle.lists.specs.Same.{same}
+use Rattle.lists.specs.SameLaws.{same-refl, same-eq}
 use Rattle.calls.specs.Area.{ownWords, sound}
-use Rattle.text.specs.Text.{roundsBytes, oldRoundsBytes, textWith, textOf, oldTextOf, speltArea, same, textIs, readableWith, readable, readArea}
+use Rattle.text.specs.Text.{roundsBytes, oldRoundsBytes, textWith, textOf, oldTextOf, speltArea, textIs, readableWith, readable, readArea}
 use Rattle.text.specs.HeldLaws.{ranges}
 use Rattle.text.specs.LayoutLaws.{sound-front, text-front}
 use Rattle.text.specs.FormLaws.{oldEnd, new-digit, old-end}
@@ -20,18 +21,6 @@ use Rattle.text.specs.TextLaws.{RoundsFit, spells-back, length-speltArea
 use Rattle.text.specs.Terms.{SoundArea, Writing, new-writing, old-writing}
 
 -- ---- tests
-
-same-refl : (xs : List ℕ) → same xs xs ≡ true
-same-refl [] = refl
-same-refl (x ∷ xs) = and-intro (eq-eqb x x refl) (same-refl xs)
-
-pub same-eq : (xs ys : List ℕ) → same xs ys ≡ true → xs ≡ ys
-same-eq [] [] e = refl
-same-eq [] (y ∷ ys) e = let z : _≡_ {A = ℕ} 0 1 = cc in absurd (omega arith)
-same-eq (x ∷ xs) [] e = let z : _≡_ {A = ℕ} 0 1 = cc in absurd (omega arith)
-same-eq (x ∷ xs) (y ∷ ys) e =
-    let p = and-parts (eqb x y) (same xs ys) e in
-    cons-eq (eqb-true x y (p .0)) (same-eq xs ys (p .1))
 
 -- r fits the bytes that line 1 has for it: two for every sound area, and one up to 255
 rounds-fit : (area : List ℕ) → SoundArea area → RoundsFit roundsBytes area

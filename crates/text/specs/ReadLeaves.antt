@@ -1,5 +1,5 @@
 -- Laws: what a read leaves. The words past the length that the text's L gives are "the untouched tail", of every area and text; an
--- accepted read leaves a sound area of the length that it had. The laws of open, feed and end: Tails and Leaves of `calls`.
+-- accepted read leaves a sound area of the length that it had. The laws of open, feed, end and close: Tails and Leaves of `calls`.
 use mathlib.Core.Path.{_≡_, refl, sym, _∙_}
 use mathlib.Core.List.{List}
 use Prim.Native.Nat.{ℕ, zero, suc}

@@ -7,6 +7,7 @@ use Prim.Native.Nat.{ℕ, suc, _+_, _*_}
 use lib.Dec.{eqb}
 use lib.ListN.{length, take, drop, getD, set, replicate}
 use Rattle.lists.specs.Part.{put}
+use Rattle.lists.specs.Same.{same}
 use Rattle.digits.specs.Digits.{hexDigits, line, wordDigits, spelt, speltWords, allSpelt}
 use Rattle.refusals.specs.Refusals.{firstRefusal, answerOf, outputTest}
 use Rattle.calls.specs.Area.{Hold, headWords, blockWords, areaLevels, phaseOf, totalOf, kOf, paramsOf, ownWords, levelsOf, emptyLevel, holdsFor, sound}
@@ -156,13 +157,6 @@ pub record Taken : Type 0 where
   pub number : ℕ
   pub count : ℕ
   pub area : List ℕ
-
--- two lists of numbers are the same
-abbrev pub same : List ℕ → List ℕ → Bool
-same [] [] = true
-same [] (y ∷ ys) = false
-same (x ∷ xs) [] = false
-same (x ∷ xs) (y ∷ ys) = eqb x y && same xs ys
 
 -- whether the area that the digits spell is sound, and the text is its text with r in w bytes; if a digit is refused, there is none
 abbrev pub textIs : ℕ → List ℕ → Option (List ℕ) → Bool

@@ -5,10 +5,11 @@ ghost use mathlib.Core.List.{_++_, map};
 ghost use mathlib.Core.Option.{none, some};
 ghost use Prim.Native.Nat.{_≤_};
 ghost use lib.ListN.{length, take, drop, replicate};
+ghost use Rattle.lists.specs.Same.{same};
 ghost use Rattle.tree.specs.Tree.{mostLimit};
 ghost use Rattle.calls.specs.Area.{headWords, areaWords, ownLevels, ownWords, Long};
 ghost use Rattle.digits.specs.Digits.{allSpelt};
-ghost use Rattle.text.specs.Text.{roundsBytes, line1Fields, heldOf, textWith, levelBytes, headBytes, speltHead, speltLevels, same, readable, readArea};
+ghost use Rattle.text.specs.Text.{roundsBytes, line1Fields, heldOf, textWith, levelBytes, headBytes, speltHead, speltLevels, readable, readArea};
 ghost use Rattle.text.specs.Lines.{zeroLevels, linesAbove, LevelSpelt, Spelt};
 use super::held;
 use super::lines;
@@ -94,21 +95,6 @@ fn spell_area(area: &mut [u64], text: &[u8], width: usize) -> bool
     spell_levels(&mut area[0..n], &text[head..])
 }
 
-// Whether two parts of one length hold the same bytes.
-fn same_bytes(x: &[u8], y: &[u8]) -> bool
-    requires { ⌜ length (now x) ≡ length (now y) ⌝ }
-    ensures { λ r. ⌜ r ≡ same (now (x .entry)) (now (y .entry)) ⌝ }
-{
-    let mut i = 0;
-    while i < x.len() {
-        if x[i] != y[i] {
-            return false;
-        }
-        i += 1;
-    }
-    true
-}
-
 // Whether an area's text is the given one, which is as long: it is written again and compared.
 fn writes(area: &[u64], text: &[u8], width: usize) -> bool
     requires { ⌜ Long (now area) × (width ≤ roundsBytes) × (length (now text) ≡ length (textWith width (now area))) ⌝ }
@@ -117,7 +103,7 @@ fn writes(area: &[u64], text: &[u8], width: usize) -> bool
     let mut again = [0u8; lines::MOST];
     let n = text.len();
     put::put_text(&mut again[0..n], area, width);
-    same_bytes(&again[0..n], text)
+    words::same_bytes(&again[0..n], text)
 }
 
 // Whether a text is what writing some sound area gives, or gave before M-108. The words that are lent are zero before, and enough for

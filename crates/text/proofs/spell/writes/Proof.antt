@@ -4,7 +4,8 @@ use mathlib.Core.List.{List}
 use Prim.Native.Nat.{ℕ, _-_, _≤_}
 use borrow.Rule.Slice.PartMut.{midOf, putMid}
 use lib.ListN.{length, replicate}
-use Rattle.text.specs.Text.{roundsBytes, textWith, same}
+use Rattle.lists.specs.Same.{same}
+use Rattle.text.specs.Text.{roundsBytes, textWith}
 use Rattle.calls.specs.Area.{Long}
 use Rattle.text.specs.LengthLaws.{mostText}
 use Rattle.text.proofs.PutLevels.{again-room, front-length, front-is, front-room}
@@ -42,12 +43,6 @@ part-same-bytes-end c =
     let t = g .args .text .now in
     front-room (replicate mostText 0) (length t) (room (g .args .width) (g .args .area .now) t (g .pre .1) (g .pre .0) (g .pre .2)) (p .last .0) (ap length (p .ensures) ∙ sym (g .pre .2))
 
-same-bytes-requires : tie.Need-same-bytes-requires
-same-bytes-requires c κs =
-    let p = c .before .before .before .put-text in
-    let g = c .before .before .before .before .before .before .before in
-    ap length (in-front (g .args .width) (g .args .area .now) (g .args .text .now) (g .pre .1) (g .pre .0) (g .pre .2) (p .last .0) (p .ensures)) ∙ ap length (p .ensures) ∙ sym (g .pre .2)
-
 returns : tie.Need-returns
 returns c =
     let p = c .before .before .before .before .put-text in
@@ -60,4 +55,4 @@ writes-spec =
     tie.close
     (tie.spec
     (λ c. search needs) (λ c. search needs) part-again-end put-text-requires (λ c. search needs)
-    (λ c. search needs) part-same-bytes-end same-bytes-requires returns)
+    (λ c. search needs) part-same-bytes-end (λ c κs. search needs) returns)

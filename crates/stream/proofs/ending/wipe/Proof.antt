@@ -1,4 +1,4 @@
--- `stream::close::wipe` meets its contract.
+-- `stream::ending::wipe` meets its contract.
 use mathlib.Core.Path.{_≡_, ap, _∙_}
 use Prim.Native.Nat.{ℕ}
 use lib.ListN.{set, replicate, length-set}
@@ -6,8 +6,8 @@ use Rattle.calls.specs.Area.{ownWords, paramsOf}
 use Rattle.calls.specs.AreaLaws.{limit-word, params-set}
 use Rattle.stream.specs.EndLaws.{wiped}
 use native.Mathlib.Omega.{arith}
-use Rattle.stream.proofs.close.wipe.Statement.{statement}
-use Rattle.stream.proofs.close.wipe.Tie as tie
+use Rattle.stream.proofs.ending.wipe.Statement.{statement}
+use Rattle.stream.proofs.ending.wipe.Tie as tie
 
 slice-write-area : tie.Need-slice-write-area
 slice-write-area c = omega arith
