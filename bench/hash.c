@@ -12,7 +12,7 @@
 
 enum { D = 256, LIMIT = 64, LONG = 64000000, TURNS = 12 };
 
-static int time_bytes(size_t bytes, unsigned repeats)
+static int time_bytes(size_t bytes, unsigned repeats, const char *most)
 {
     uint8_t *message = get(bytes, 1), ours[32], theirs[64];
     double best = 0, best_second = 0;
@@ -35,8 +35,8 @@ static int time_bytes(size_t bytes, unsigned repeats)
     }
     free(message);
     same = memcmp(ours, theirs, 32) == 0;
-    printf("%9zu  %8.2f  %11.2f  %5.3f  %s\n", bytes, (double)bytes / 1e6 / best_second,
-           (double)bytes / 1e6 / best, best / best_second, same ? "agree" : "DIFFER");
+    printf("%9zu  %8.2f  %11.2f  %5.3f  %7s  %s\n", bytes, (double)bytes / 1e6 / best_second,
+           (double)bytes / 1e6 / best, best / best_second, most, same ? "agree" : "DIFFER");
     return !same;
 }
 
@@ -90,10 +90,10 @@ int main(void)
 {
     int bad = 0;
 
-    printf("    bytes    C MB/s  Rattle MB/s  ratio  digests\n");
-    bad |= time_bytes(1000000, 20);
-    bad |= time_bytes(8000000, 5);
-    bad |= time_bytes(LONG, 3);
+    printf("    bytes    C MB/s  Rattle MB/s  ratio  at most  digests\n");
+    bad |= time_bytes(1000000, 20, "-");
+    bad |= time_bytes(8000000, 5, "-");
+    bad |= time_bytes(LONG, 3, "0.45");
     bad |= time_from_bits();
     return bad;
 }

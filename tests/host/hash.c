@@ -1,5 +1,5 @@
 /* A host in C: md6_hash of the archive against the second program's code, on every start bit with counts at the edges, with every
- * number of rounds, and on random inputs.
+ * number of leaves up to some groups, with every number of rounds, and on random inputs.
  *
  *   hash [SEED [INPUTS]]
  *
@@ -134,14 +134,15 @@ int main(int argc, char **argv)
         refused += whole_number(&in) != 0;
     }
     every_start(try_hash);
+    every_leaves(try_hash);
     every_rounds();
     rounds_edges(try_hash);
     rounds_refused(try_hash);
     edge_spans(edge_hash);
     expect(default_rounds_right(), "default rounds");
     expect(null_right(), "null pointers");
-    printf("%" PRIu64 " refused among them; %" PRIu64 " messages at every start bit, %" PRIu64 " edges of number 5; rounds 0 to %d\n",
-           refused, starts, edges, MOST_ROUNDS);
+    printf("%" PRIu64 " refused among them; %" PRIu64 " messages at every start bit, %" PRIu64 " of whole leaves and beside them, %" PRIu64 " edges of number 5; rounds 0 to %d\n",
+           refused, starts, whole_leaves, edges, MOST_ROUNDS);
     printf("%" PRIu64 " differ\n", bad);
     return bad != 0;
 }

@@ -80,4 +80,32 @@ static inline struct param second_params(const uint8_t *key, size_t key_bytes, u
     return P;
 }
 
+/* the node lines of the second program's tree, as words U, V, in order */
+static inline size_t second_log(const struct tree *T, int level, uint64_t i, uint64_t *log, size_t at)
+{
+    if (level > 1) {
+        uint64_t fan = T->seq && level == T->levels ? 3 : 4, c;
+        for (c = fan * i; c < fan * i + fan && c < T->lv[level - 1].nodes; c++)
+            at = second_log(T, level - 1, c, log, at);
+    }
+    log[at] = node_id(level, i);
+    log[at + 1] = T->lv[level].v[i];
+    return at + 2;
+}
+
+/* the second program's tree of a message: its nodes as such a log, the number of whose words is answered, and its digest */
+static inline size_t second_tree(const struct params *p, const uint8_t *message, uint64_t bits, uint64_t *log, uint8_t digest[64])
+{
+    struct param P = second_params(p->key, p->key_bytes, p->d, p->limit, p->rounds);
+    struct tree T;
+    size_t at = 0;
+    uint64_t k;
+
+    hash(&P, message, bits, &T, digest);
+    for (k = 0; k < T.lv[T.levels].nodes; k++)
+        at = second_log(&T, T.levels, k, log, at);
+    drop(&T);
+    return at;
+}
+
 #endif

@@ -1,6 +1,6 @@
 /* A host in C: md6_layers of the archive against the second program's tree and against md6_hash, with just enough words and log, with
  * one fewer of each and with more, at every height limit, with two nodes at the sequential level of the small ones, on every start bit
- * with counts at the edges, and on random inputs.
+ * with counts at the edges, with every number of leaves up to some groups, and on random inputs.
  *
  *   layers [SEED [INPUTS]]
  *
@@ -328,6 +328,7 @@ int main(int argc, char **argv)
         bad += !try_layers(&in, (int)below(2));
     }
     every_start(try_layers);
+    every_leaves(try_layers);
     every_limit();
     every_chain();
     long_messages();
@@ -337,8 +338,8 @@ int main(int argc, char **argv)
     every_order();
     every_told();
     expect(null_right(), "null pointers");
-    printf("%" PRIu64 " calls, %" PRIu64 " accepted, %" PRIu64 " refused by 7, %" PRIu64 " by 8; %" PRIu64 " messages at every start bit, %" PRIu64 " edges of number 5\n",
-           tried, refused[0], refused[7], refused[8], starts, edges);
+    printf("%" PRIu64 " calls, %" PRIu64 " accepted, %" PRIu64 " refused by 7, %" PRIu64 " by 8; %" PRIu64 " messages at every start bit, %" PRIu64 " of whole leaves and beside them, %" PRIu64 " edges of number 5\n",
+           tried, refused[0], refused[7], refused[8], starts, whole_leaves, edges);
     printf("%" PRIu64 " differ\n", bad);
     return bad != 0;
 }

@@ -19,28 +19,28 @@
 
 enum { STACK_WORDS = 1 << 17, MESSAGE_BYTES = 1 << 20, MEMORY_LEVELS = 7, LOG_WORDS = 1 << 13, LAYER_ROOM = 1 << 16 };
 
-/* The most bytes of stack that each call may take, the figures of docs/C.md. Those of md6_hash are for one level; each level more
- * may take A_LEVEL. */
+/* The most bytes of stack that each call may take, the figures of docs/C.md. Those of md6_hash are for one level; two, where leaves are
+ * compressed two at a time, may take TWO_LEVELS, and each level more A_LEVEL. */
 enum call {
     HASH, LAYERS, LAYER_WORDS, LAYER_LOG_WORDS, DEFAULT_ROUNDS, AREA_WORDS, OPEN, FEED, END, PREVIEW, CLOSE, TELL, WRITE, READ, CALLS
 };
 static const struct { const char *name; size_t most; } calls[CALLS] = {
-    [HASH] = { "md6_hash", 14336 },
-    [LAYERS] = { "md6_layers", 13312 },
+    [HASH] = { "md6_hash", 9216 },
+    [LAYERS] = { "md6_layers", 16384 },
     [LAYER_WORDS] = { "md6_layer_words", 512 },
     [LAYER_LOG_WORDS] = { "md6_layer_log_words", 512 },
     [DEFAULT_ROUNDS] = { "md6_default_rounds", 512 },
     [AREA_WORDS] = { "md6_area_words", 512 },
     [OPEN] = { "md6_open", 512 },
-    [FEED] = { "md6_feed", 11776 },
-    [END] = { "md6_end", 11264 },
-    [PREVIEW] = { "md6_preview", 11264 },
-    [CLOSE] = { "md6_close", 11776 },
+    [FEED] = { "md6_feed", 15360 },
+    [END] = { "md6_end", 9216 },
+    [PREVIEW] = { "md6_preview", 9216 },
+    [CLOSE] = { "md6_close", 9728 },
     [TELL] = { "md6_log_words", 512 },
     [WRITE] = { "md6_write", 512 },
     [READ] = { "md6_read", 42496 },
 };
-enum { A_LEVEL = 1280 };
+enum { TWO_LEVELS = 24064, A_LEVEL = 1536 };
 
 /* what is lent to the calls, and their answer */
 static uint8_t message[MESSAGE_BYTES + 1], digest[64], text[MD6_TEXT_BYTES];
@@ -206,6 +206,12 @@ static void measure(enum call call, void (*run)(void), const char *input, uint64
     show_row(call, input, bytes, calls[call].most);
 }
 
+/* the most that md6_hash may take for a tree of so many levels */
+static size_t most_hash(unsigned levels)
+{
+    return levels == 1 ? calls[HASH].most : TWO_LEVELS + (levels - 2) * A_LEVEL;
+}
+
 /* what md6_hash takes for a tree of so many levels, from bit 3 on */
 static size_t measure_hash(unsigned levels)
 {
@@ -215,12 +221,12 @@ static size_t measure_hash(unsigned levels)
     start = 3;
     larger = taken_by_rounds(hash_call, 0, bytes);
     snprintf(input, sizeof input, "%" PRIu64 " bits, L = %" PRIu64 ", %u level%s", bits, p.limit, levels, levels == 1 ? "" : "s");
-    show_row(HASH, input, bytes, calls[HASH].most + (levels - 1) * A_LEVEL);
+    show_row(HASH, input, bytes, most_hash(levels));
     return larger;
 }
 
 /* The smallest messages of 1 to 7 levels, of which none is sequential, and 1 MB with the last of some levels sequential. The largest
- * step from a number of levels to the next is what a level takes. */
+ * step from a number of levels to the next, from two on, is what a level takes. */
 static void hashes(void)
 {
     size_t bytes, before = 0, step = 0, most = 0;
@@ -230,7 +236,7 @@ static void hashes(void)
     for (levels = 1; levels <= MEMORY_LEVELS; levels++, before = bytes) {
         bits = levels == 1 ? 4096 : (UINT64_C(1) << (8 + 2 * levels)) + 1;
         bytes = measure_hash(levels);
-        if (levels > 1 && bytes - before > step)
+        if (levels > 2 && bytes - before > step)
             step = bytes - before;
         most = bytes > most ? bytes : most;
     }
@@ -241,7 +247,7 @@ static void hashes(void)
     }
     printf("%-64s%9s%9zu%9d\n", "md6_hash, for each level more", "", step, A_LEVEL);
     printf("%-64s%9s%9zu%9zu\n", "md6_hash, 27 levels, computed from these", "", most + (LEVELS - MEMORY_LEVELS) * step,
-           calls[HASH].most + (LEVELS - 1) * A_LEVEL);
+           most_hash(LEVELS));
     expect(step <= A_LEVEL, "a level of md6_hash takes more of the stack than it may");
 }
 

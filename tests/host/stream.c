@@ -29,19 +29,6 @@ enum { MESSAGE_BYTES = 9000, LOG_WORDS = 4096 };
 static uint64_t fed, fed_short, shared, sound, told_accepted, told_past, told_damaged[11];
 static uint64_t edge_numbers[11], opened[11], reached, late_figures;
 
-/* the node lines of the second program's tree, as words U, V, in order */
-static size_t second_log(const struct tree *T, int level, uint64_t i, uint64_t *log, size_t at)
-{
-    if (level > 1) {
-        uint64_t fan = T->seq && level == T->levels ? 3 : 4, c;
-        for (c = fan * i; c < fan * i + fan && c < T->lv[level - 1].nodes; c++)
-            at = second_log(T, level - 1, c, log, at);
-    }
-    log[at] = node_id(level, i);
-    log[at + 1] = T->lv[level].v[i];
-    return at + 2;
-}
-
 static struct params pick_params(void)
 {
     struct params p;
@@ -52,20 +39,6 @@ static struct params pick_params(void)
     p.limit = pick_limit();
     p.rounds = below(16) == 0 ? wide_rounds() : below(3) == 0 ? below(OLD_ROUNDS + 1) : below(8);
     return p;
-}
-
-static size_t second_tree(const struct params *p, const uint8_t *message, uint64_t bits, uint64_t *log, uint8_t digest[64])
-{
-    struct param P = second_params(p->key, p->key_bytes, p->d, p->limit, p->rounds);
-    struct tree T;
-    size_t at = 0;
-    uint64_t k;
-
-    hash(&P, message, bits, &T, digest);
-    for (k = 0; k < T.lv[T.levels].nodes; k++)
-        at = second_log(&T, T.levels, k, log, at);
-    drop(&T);
-    return at;
 }
 
 /* the told log words; the area can only be read meanwhile */

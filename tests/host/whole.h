@@ -132,8 +132,8 @@ static inline int lent_free(struct lent *lent)
 /* what tries an input, its message at a page that may not be touched or between guard bytes; whether all is as it should be */
 typedef int try_input(const struct input *in, int at_page);
 
-/* what ran: messages at every start bit, and spans at the edges of number 5 */
-static uint64_t starts, edges;
+/* what ran: messages at every start bit, messages of whole leaves and beside them, and spans at the edges of number 5 */
+static uint64_t starts, whole_leaves, edges;
 
 /* every start bit with counts at the edges of a byte, of a block and of a level: the bytes end with the last bit that is taken */
 static inline void every_start(try_input *try)
@@ -153,6 +153,42 @@ static inline void every_start(try_input *try)
                 bad += !try(&in, 1);
                 starts++;
             }
+}
+
+/* a message of so many full leaves, a bit fewer, and one more, which is a leaf by itself; with no leaves there is no bit fewer */
+static inline void beside_leaves(try_input *try, uint64_t limit, uint64_t leaves, uint64_t start)
+{
+    static const uint64_t rounds[] = { 0, 1, 5, 12 };
+    uint64_t bits = leaves * (limit == 0 ? 3072 : 4096), i;
+
+    for (i = leaves == 0; i < 3; i++) {
+        struct input in = pick_input();
+
+        in.message = just(start, bits - 1 + i);
+        in.d = 512;
+        in.digest_bytes = 64;
+        in.limit = limit;
+        in.rounds = rounds[below(4)];
+        bad += !try(&in, 1);
+        whole_leaves++;
+    }
+}
+
+/* Leaves are made two at a time, the last of an odd number alone: every number of leaves up to a few groups of four and of three, at every
+ * start bit, and those about 48 and 64, where with L = 3 the first sequential node is full, and with more the first of level 4. */
+static inline void every_leaves(try_input *try)
+{
+    static const uint64_t limits[] = { 0, 1, 2, 3, 64 };
+    uint64_t leaves, start;
+    size_t i;
+
+    for (i = 0; i < sizeof limits / sizeof *limits; i++) {
+        for (leaves = 0; leaves <= 20; leaves++)
+            for (start = 0; start < STARTS; start++)
+                beside_leaves(try, limits[i], leaves, start);
+        for (leaves = 44; leaves <= 68; leaves++)
+            beside_leaves(try, limits[i], leaves, below(STARTS));
+    }
 }
 
 /* a message at an edge of number 5; 5 comes before every other number, were all of them to hold */

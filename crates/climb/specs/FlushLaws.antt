@@ -1,22 +1,24 @@
--- Laws: level 1 is full, and a later bit has come: its node is made, and its output goes up. What the code leaves then.
-use mathlib.Core.Bool.{Bool, true, false}
+-- Laws: level 1 is full, and a later bit has come: its node is made, and its output goes up; or two such nodes, one after the other.
+-- What the code leaves then.
 use mathlib.Core.Path.{_≡_, refl, sym, ap, _∙_}
 use mathlib.Core.List.{List, [], _∷_, _++_}
 use Prim.Native.Nat.{ℕ, zero, suc, _+_, _-_, _*_, _^_, _≤_, _<_}
 use native.Mathlib.Omega.{arith}
-use lib.Dec.{ltb}
-use lib.ListN.{length, replicate}
+use lib.ListN.{length, replicate, length-append}
 use lib.Seq.{length-sets}
-use borrow.Author.Tests.{ltb-true, ltb-false}
 use Rattle.refusals.specs.declared.Params as declared
 use Rattle.tree.specs.Tree.{Params, Node, node, blockBits, sequentialBits}
-use Rattle.calls.specs.Area.{blockWords, outputWords, Long, paramsOf, levelWords, levelsUp, levelsOf, emptyLevel, doneBlocks}
-use Rattle.calls.specs.Calls.{Made, outWords, chained, receive, nodeLog}
-use Rattle.calls.specs.Widths.{length-chained}
-use Rattle.climb.specs.Levels.{withLevel, Level, up-step, up-level, other-up, length-with, params-with, length-empty, first-level, levels-split}
-use Rattle.node.specs.Words.{paramsFrom, Ready}
-use Rattle.climb.specs.MakeLaws.{Logged}
-use Rattle.climb.specs.ReceiveLaws.{made, received, Climbed, Coming, length-outWords, log-more}
+use Rattle.calls.specs.Area.{blockWords, outputWords, Long, paramsOf, levelWords, levelsUp, levelsOf, doneBlocks, heldBits}
+use Rattle.calls.specs.Calls.{Made, outWords, chained, nodeLog}
+use Rattle.calls.specs.Machine
+use Rattle.calls.specs.Widths.{Wide, wide-levels, length-chained, length-outWords, receive-widths}
+use Rattle.climb.specs.Levels.{withLevel, Level, up-level, length-empty, first-level, levels-split, with-up}
+use Rattle.node.specs.Words.{nodeWords, paramsFrom, Ready}
+use Rattle.node.specs.WordLaws.{length-nodeWords}
+use Rattle.climb.specs.MakeLaws.{Logged, node-out}
+use Rattle.climb.specs.ReceiveLaws.{made}
+use Rattle.climb.specs.Left.{Left, left-params, left-long, left-levels, left-then}
+use Rattle.climb.specs.PassLaws.{passed, passedWords, Parallel, Passing, passed-node}
 
 -- level 1 is full, and a later bit has come: its node is made and its output goes up
 abbrev pub flushed : Params → ℕ → ℕ → List (List ℕ) → Made
@@ -26,8 +28,55 @@ flushed P zero T (ws ∷ up) =
     made (chained P m ∷ up) (m ∷ [])
 flushed P (suc n) T (ws ∷ up) =
     let m : Node = node P 1 (doneBlocks blockBits T) 0 0 ws in
-    let above : Made = receive P n 2 (doneBlocks blockBits T) (outWords P m) up in
-    made (emptyLevel ∷ above .levels) (m ∷ above .nodes)
+    passed P n (doneBlocks blockBits T) m (outWords P m) up
+
+-- the words of level 1, and the levels above it
+abbrev pub firstOf : List (List ℕ) → List ℕ
+firstOf [] = []
+firstOf (ws ∷ up) = ws
+
+abbrev pub restOf : List (List ℕ) → List (List ℕ)
+restOf [] = []
+restOf (ws ∷ up) = up
+
+-- a full parallel level 1 is flushed, the next block fills it, a later bit comes, and it is flushed again
+abbrev pub flushedTwo : Params → ℕ → ℕ → List ℕ → List (List ℕ) → Made
+flushedTwo P limit T next L =
+    let one : Made = flushed P limit T L in
+    let two : Made = flushed P limit (T + blockBits) (next ∷ restOf (one .levels)) in
+    made (two .levels) (one .nodes ++ two .nodes)
+
+-- the levels stay as many, of 64 words each
+module _ (P : Params) where
+  pub wide-flushed : {own : ℕ} (limit T : ℕ) (L : List (List ℕ)) → Wide own L → Wide own (flushed P limit T L .levels)
+  wide-flushed limit T [] w = w
+  wide-flushed zero T (ws ∷ up) w = record { widths = (length-chained P (node P 1 (doneBlocks sequentialBits T) 0 0 ws), w .widths .1); size = w .size }
+  wide-flushed (suc n) T (ws ∷ up) w =
+      let m : Node = node P 1 (doneBlocks blockBits T) 0 0 ws in
+      record {
+        widths = (length-empty, receive-widths P n 2 (doneBlocks blockBits T) (outWords P m) up (length-outWords P m) (w .widths .1));
+        size = ap suc (Machine.receive-size P n 2 (doneBlocks blockBits T) (outWords P m) up) ∙ w .size;
+      }
+
+  wide-next : {own : ℕ} (next : List ℕ) (L : List (List ℕ)) → length next ≡ blockWords → Wide own L → Wide own (next ∷ restOf L)
+  wide-next next [] h w = absurd (omega (arith, w .size))
+  wide-next next (ws ∷ up) h w = record { widths = (h, w .widths .1); size = w .size }
+
+  pub wide-two : {own : ℕ} (limit T : ℕ) (next : List ℕ) (L : List (List ℕ)) → length next ≡ blockWords → Wide own L
+      → Wide own (flushedTwo P limit T next L .levels)
+  wide-two limit T next L h w =
+      let one : List (List ℕ) = flushed P limit T L .levels in
+      wide-flushed limit (T + blockBits) (next ∷ restOf one) (wide-next next one h (wide-flushed limit T L w))
+
+-- ---- a bound on a number that the code has worked out
+
+pub lt-at : {a b a′ b′ : ℕ} → a ≡ a′ → b ≡ b′ → a < b → a′ < b′
+lt-at e f h = omega arith
+
+pub le-at : {a b a′ b′ : ℕ} → a ≡ a′ → b ≡ b′ → a ≤ b → a′ ≤ b′
+le-at e f h = omega arith
+
+-- ---- level 1 is flushed
 
 -- what the code needs to flush level 1
 pub record Flushing (key : List ℕ) (params : declared.Params) (constants : List ℕ) (T : ℕ) (area log : List ℕ) (at : ℕ) : Type 0 where
@@ -35,15 +84,6 @@ pub record Flushing (key : List ℕ) (params : declared.Params) (constants : Lis
   pub long : Long area
   pub own : paramsOf area .limit ≡ params .limit
   pub room : at + 2 * length (flushed (paramsFrom key params) (params .limit) T (levelsOf area) .nodes) ≤ length log
-
--- ---- level 1 is flushed
-
--- a bound on a number that the code has worked out
-pub lt-at : {a b a′ b′ : ℕ} → a ≡ a′ → b ≡ b′ → a < b → a′ < b′
-lt-at e f h = omega arith
-
-pub le-at : {a b a′ b′ : ℕ} → a ≡ a′ → b ≡ b′ → a ≤ b → a′ ≤ b′
-le-at e f h = omega arith
 
 -- level 1 is sequential, or its output goes up
 module _ (P : Params) (T : ℕ) (area : List ℕ) where
@@ -54,12 +94,34 @@ module _ (P : Params) (T : ℕ) (area : List ℕ) where
   flushed-none zero h = rw (levels-split area)
   flushed-none (suc n) h = absurd (omega arith)
 
-  abbrev above : ℕ → Made
-  above limit = received P (limit - 1) 2 (doneBlocks blockBits T) (outWords P (firstNode blockBits)) area
+-- a parallel level 1 whose block has the words ws: its node is made, and its output passed on
+module _ {key : List ℕ} {params : declared.Params} {constants area : List ℕ} (p : Parallel key params constants area) (T : ℕ) (ws : List ℕ)
+    {index : ℕ} {out : List ℕ} (d : index ≡ doneBlocks blockBits T) (o : out ≡ nodeWords (paramsFrom key params) 1 index 0 0 ws) where
+  abbrev R : Params
+  R = paramsFrom key params
 
-  flushed-some : (limit : ℕ) → 1 ≤ limit → flushed P limit T (levelsOf area) ≡ made (emptyLevel ∷ above limit .levels) (firstNode blockBits ∷ above limit .nodes)
-  flushed-some zero h = absurd (omega arith)
-  flushed-some (suc n) h = let e : suc n - 1 ≡ n = omega arith in rw (levels-split area, e)
+  abbrev here : Made
+  here = flushed R (params .limit) T (ws ∷ levelsUp area 2)
+
+  is-passed : here ≡ (let m : Node = node R 1 index 0 0 ws in passed R (params .limit - 1) index m (outWords R m) (levelsUp area 2))
+  is-passed = by (params .limit) (p .some)
+    where
+      by : (limit : ℕ) → 1 ≤ limit
+          → flushed R limit T (ws ∷ levelsUp area 2) ≡ (let m : Node = node R 1 index 0 0 ws in passed R (limit - 1) index m (outWords R m) (levelsUp area 2))
+      by zero h = absurd (omega arith)
+      by (suc n) h = let e : suc n - 1 ≡ n = omega arith in rw (d, e)
+
+  module _ {log : List ℕ} {at : ℕ} where
+    passing : index < 2 ^ 56 → at + 2 * length (here .nodes) ≤ length log → Passing key params constants index out area log at
+    passing small room = record {
+      parallel = p;
+      small = small;
+      words = ap length o ∙ length-nodeWords R 1 index 0 0 ws;
+      room = rw (o, node-out R 1 index 0 0 ws) (omega (arith, ap (λ (x : Made). length (x .nodes)) is-passed, room));
+    }
+
+    was-passed : {area′ log′ : List ℕ} {at′ : ℕ} → Left (passedWords R (params .limit) index out area) area log at area′ log′ at′ → Left here area log at area′ log′ at′
+    was-passed l = rw is-passed (passed-node R (params .limit) index ws o l)
 
 module _ {key : List ℕ} {params : declared.Params} {constants : List ℕ} {T : ℕ} {area log : List ℕ} {at : ℕ} (f : Flushing key params constants T area log at) where
   abbrev P : Params
@@ -71,54 +133,86 @@ module _ {key : List ℕ} {params : declared.Params} {constants : List ℕ} {T :
   first : Level area 1
   first = first-level (f .long)
 
-  -- the log has room for the node of level 1
-  pub flush-room : at + 2 ≤ length log
-  flush-room = by (ltb limit 1) refl
-    where
-      by : (b : Bool) → ltb limit 1 ≡ b → at + 2 ≤ length log
-      by true e = omega (arith, ap (λ (x : Made). at + 2 * length (x .nodes)) (flushed-none P T area limit (ltb-true limit 1 e)), f .room)
-      by false e = omega (arith, ap (λ (x : Made). at + 2 * length (x .nodes)) (flushed-some P T area limit (ltb-false limit 1 e)), f .room)
+  -- a sequential level 1: the log has room for the node, and the level keeps its output
+  pub flush-room : limit < 1 → at + 2 ≤ length log
+  flush-room h = omega (arith, ap (λ (x : Made). at + 2 * length (x .nodes)) (flushed-none P T area limit h), f .room)
 
   pub flush-chained : {done : ℕ} {out log′ area′ : List ℕ} → limit < 1 → done ≡ doneBlocks sequentialBits T
       → Logged P (node P 1 done 0 0 (levelWords area 1) ∷ []) log at out log′
       → area′ ≡ withLevel area 1 (out ++ replicate (blockWords - outputWords) 0)
-      → Climbed 1 (flushed P limit T (levelsOf area)) area log at area′ log′ (at + 2)
+      → Left (flushed P limit T (levelsOf area)) area log at area′ log′ (at + 2)
   flush-chained h d m₁ ea =
       let n = firstNode P T area sequentialBits in
       let m : Logged P (n ∷ []) log at _ _ = rw d at m₁ in
       rw (flushed-none P T area limit h) record {
-        levels = ea ∙ rw (m .words) (up-level first (chained P n) (length-chained P n));
+        levels = ea ∙ rw (m .words) (up-level first (chained P n) (length-chained P n)) ∙ sym (with-up area (chained P n ∷ levelsUp area 2));
         logged = m .logged;
         next = refl;
       }
 
-  module _ {done : ℕ} {out log₁ area₁ : List ℕ} (some : 1 ≤ limit) (d : done ≡ doneBlocks blockBits T)
-      (m₁ : Logged P (node P 1 done 0 0 (levelWords area 1) ∷ []) log at out log₁) (e₁ : area₁ ≡ withLevel area 1 emptyLevel) where
-    m : Logged P (firstNode P T area blockBits ∷ []) log at out log₁
-    m = rw d at m₁
+  -- a parallel one passes it on
+  module _ {done : ℕ} {out : List ℕ} (some : 1 ≤ limit) (d : done ≡ doneBlocks blockBits T) (o : out ≡ nodeWords P 1 done 0 0 (levelWords area 1)) where
+    parallel : Parallel key params constants area
+    parallel = record { ready = f .ready; long = f .long; own = f .own; some = some }
 
-    same : paramsOf (withLevel area 1 emptyLevel) ≡ paramsOf area
-    same = params-with first emptyLevel length-empty
+    pub flush-passing : done < 2 ^ 56 → Passing key params constants done out area log at
+    flush-passing small = passing parallel T (levelWords area 1) d o small (rw (levels-split area) at (f .room))
 
-    above-is : received P (limit - 1) 2 done out area₁ ≡ above P T area limit
-    above-is = rw (m .words, d, e₁, other-up first emptyLevel length-empty) refl
+    pub flush-passed : {area′ log′ : List ℕ} {at′ : ℕ} → Left (passedWords P limit done out area) area log at area′ log′ at′
+        → Left (flushed P limit T (levelsOf area)) area log at area′ log′ at′
+    flush-passed l = rw (levels-split area) (was-passed parallel T (levelWords area 1) d o l)
 
-    pub flush-coming : done < 2 ^ 56 → Coming key params constants (limit - 1) 2 done out area₁ log₁ (at + 2)
-    flush-coming small = record {
-      ready = f .ready;
-      level = record { long = rw (e₁, length-with first emptyLevel length-empty, same) (f .long); low = omega arith; high = rw (e₁, same) (omega (arith, f .own, some)) };
-      left = rw (e₁, same) (omega (arith, f .own, some));
-      small = small;
-      words = rw (m .words) (length-outWords P (firstNode P T area blockBits));
-      room = rw (above-is, m .logged, length-sets log at (nodeLog (firstNode P T area blockBits ∷ []))) (omega (arith, ap (λ (x : Made). at + 2 * length (x .nodes)) (flushed-some P T area limit some), f .room));
+-- ---- two nodes of level 1
+
+-- what the code needs to flush a full level 1 and then the block that comes next
+pub record FlushingTwo (key : List ℕ) (params : declared.Params) (constants : List ℕ) (T : ℕ) (next area log : List ℕ) (at : ℕ) : Type 0 where
+  pub parallel : Parallel key params constants area
+  pub full : heldBits blockBits T ≡ blockBits
+  pub words : length next ≡ blockWords
+  pub room : at + 2 * length (flushedTwo (paramsFrom key params) (params .limit) T next (levelsOf area) .nodes) ≤ length log
+
+module _ {key : List ℕ} {params : declared.Params} {constants : List ℕ} {T : ℕ} {next area log : List ℕ} {at : ℕ} (f : FlushingTwo key params constants T next area log at) where
+  abbrev Q : Params
+  Q = paramsFrom key params
+
+  abbrev one : Made
+  one = flushed Q (params .limit) T (levelsOf area)
+
+  abbrev two : Made
+  two = flushed Q (params .limit) (T + blockBits) (next ∷ restOf (one .levels))
+
+  counted : length (one .nodes ++ two .nodes) ≡ length (one .nodes) + length (two .nodes)
+  counted = length-append (one .nodes) (two .nodes)
+
+  -- the first
+  pub two-first : Flushing key params constants T area log at
+  two-first = record { ready = f .parallel .ready; long = f .parallel .long; own = f .parallel .own; room = omega (arith, f .room, counted) }
+
+  wide : Wide (paramsOf area .limit) (one .levels)
+  wide = wide-flushed Q (params .limit) T (levelsOf area) (wide-levels area (f .parallel .long))
+
+  -- the second, of the index after it
+  module _ {area₁ log₁ : List ℕ} {at₁ : ℕ} (l : Left one area log at area₁ log₁ at₁) {index : ℕ} {out : List ℕ}
+      (d : index ≡ doneBlocks blockBits T + 1) (o : out ≡ nodeWords Q 1 index 0 0 next) where
+    second : index ≡ doneBlocks blockBits (T + blockBits)
+    second = omega (arith, f .full)
+
+    parallel₁ : Parallel key params constants area₁
+    parallel₁ = record {
+      ready = f .parallel .ready;
+      long = left-long (f .parallel .long) wide l;
+      own = rw (left-params (f .parallel .long) wide l) (f .parallel .own);
+      some = f .parallel .some;
     }
 
-    pub flush-up : {area′ log′ : List ℕ} {at′ : ℕ} → Climbed 2 (received P (limit - 1) 2 done out area₁) area₁ log₁ (at + 2) area′ log′ at′
-        → Climbed 1 (flushed P limit T (levelsOf area)) area log at area′ log′ at′
-    flush-up c₁ =
-        let c : Climbed 2 (above P T area limit) area₁ log₁ (at + 2) _ _ _ = rw above-is at c₁ in
-        rw (flushed-some P T area limit some) record {
-          levels = c .levels ∙ rw e₁ (sym (up-step first emptyLevel length-empty (above P T area limit .levels)));
-          logged = c .logged ∙ rw (m .logged) (sym (log-more log at (firstNode P T area blockBits) (above P T area limit .nodes)));
-          next = omega (arith, c .next);
-        }
+    above : levelsUp area₁ 2 ≡ restOf (one .levels)
+    above = ap restOf (sym (levels-split area₁) ∙ left-levels (f .parallel .long) wide l)
+
+    pub two-passing : index < 2 ^ 56 → Passing key params constants index out area₁ log₁ at₁
+    two-passing small =
+        passing parallel₁ (T + blockBits) next second o small
+        (rw above (omega (arith, f .room, counted, l .next, ap length (l .logged) ∙ length-sets log at (nodeLog (one .nodes)))))
+
+    pub two-passed : {area₂ log₂ : List ℕ} {at₂ : ℕ} → Left (passedWords Q (params .limit) index out area₁) area₁ log₁ at₁ area₂ log₂ at₂
+        → Left (flushedTwo Q (params .limit) T next (levelsOf area)) area log at area₂ log₂ at₂
+    two-passed m = left-then (f .parallel .long) wide l (rw above at (was-passed parallel₁ (T + blockBits) next second o m))

@@ -3,12 +3,12 @@ use mathlib.Core.Path.{_≡_, refl, sym, ap, _∙_}
 use mathlib.Core.List.{List, [], _∷_, _++_}
 use Prim.Native.Nat.{ℕ, zero, suc, _+_, _-_, _*_, _/_, _%_, _^_, _≤_, _<_}
 use native.Mathlib.Omega.{arith}
-use lib.ListN.{length, drop, replicate}
+use lib.ListN.{length, drop, replicate, set}
 use lib.Seq.{sets, length-sets}
 use borrow.Author.Tests.{eq-eqb, ne-eqb}
 use Rattle.lists.specs.Part.{put}
 use Rattle.lists.specs.PartLaws.{first-stores}
-use Rattle.calls.specs.CallLaws.{length-nodeLog}
+use Rattle.calls.specs.CallLaws.{length-nodeLog, nodeLog-append}
 use Rattle.tree.specs.Tree.{Params, Node, node, mostLevels}
 use Rattle.calls.specs.Area.{blockWords, outputWords, ownLevels, Long, paramsOf, levelWords, levelsUp, emptyLevel}
 use Rattle.calls.specs.AreaLaws.{length-levelWords, levelsUp-cons, levelsUp-none}
@@ -66,6 +66,14 @@ module _ (P : Params) (n k i : ℕ) (out area : List ℕ) (high : k ≤ ownLevel
 -- one node more is logged
 pub log-more : (log : List ℕ) (at : ℕ) (m : Node) (ms : List Node) → sets log at (nodeLog (m ∷ ms)) ≡ sets (sets log at (nodeLog (m ∷ []))) (at + 2) (nodeLog ms)
 log-more log at m ms = let e : at + 2 ≡ suc (suc at) = omega arith in rw e
+
+-- nodes after others
+sets-append : (l : List ℕ) (at : ℕ) (xs ys : List ℕ) → sets l at (xs ++ ys) ≡ sets (sets l at xs) (at + length xs) ys
+sets-append l at [] ys = let e : at + 0 ≡ at = omega arith in rw e
+sets-append l at (x ∷ xs) ys = let e : at + suc (length xs) ≡ suc at + length xs = omega arith in rw e (sets-append (set l at x) (suc at) xs ys)
+
+pub log-append : (log : List ℕ) (at : ℕ) (ms ns : List Node) → sets log at (nodeLog (ms ++ ns)) ≡ sets (sets log at (nodeLog ms)) (at + 2 * length ms) (nodeLog ns)
+log-append log at ms ns = rw (nodeLog-append ms ns, sets-append log at (nodeLog ms) (nodeLog ns), length-nodeLog ms)
 
 -- the words stored from the first on are those that the log has then
 pub log-written : (nodes : List Node) (log : List ℕ) → 2 * length nodes ≤ length log → sets log 0 (nodeLog nodes) ≡ logged nodes log

@@ -11,7 +11,6 @@ ghost use Rattle.node.specs.Words.{paramsFrom, Ready};
 ghost use Rattle.climb.specs.MakeLaws.{Logged};
 use super::make_node;
 use area::Area;
-use node::Place;
 use refusals::Params;
 
 // Makes the node of a level's block, which is full.
@@ -30,12 +29,7 @@ pub fn make_level(
     ensures { λ r. ⌜ Logged (paramsFrom (now (key .entry)) params) (node (paramsFrom (now (key .entry)) params) level index 0 0 (levelWords (now (area .entry)) level) ∷ []) (now (log .entry)) at r (now (log .exit)) ⌝ }
 {
     let part = Area::level(area, level);
-    let place = Place {
-        level: level as u64,
-        index,
-        z: 0,
-        p: 0,
-    };
+    let place = super::full_place(level as u64, index);
     make_node(params, key, constants, place, part, log, at)
 }
 

@@ -14,17 +14,6 @@ use bits::Span;
 use node::Block;
 use refusals::Params;
 
-// The block of a node at a parallel level.
-fn block(message: &[u8], span: Span, words: &[u64], level: Level, index: u64) -> [u64; 64]
-    requires { ⌜ Source (spanned (now message) span) (now words) level ⌝ }
-    requires { ⌜ (level .size * index ≤ level .bits) × (level .size ≡ blockBits) ⌝ }
-    ensures { λ r. ⌜ r ≡ numbers 64 64 (messagePart (level .size) (source (spanned (now (message .entry)) span) (now (words .entry)) level) index) ⌝ }
-{
-    let mut block = [0u64; 64];
-    super::fill(&mut block, message, span, words, level, index);
-    block
-}
-
 // The block of a node at the sequential level: the output of the node before it, and what it takes.
 fn chained_block(
     chain: &[u64; 16],
@@ -89,7 +78,8 @@ fn one_node(
     requires { ⌜ Source (spanned (now message) span) (now words) level × Fitting (now words) level × (level .size ≡ blockBits) × (index < blocks (level .size) (level .bits)) ⌝ }
     ensures { λ _. ⌜ ((ws : List ℕ) → Source (spanned (now (message .entry)) span) ws level → Written (paramsFrom (now (k .entry)) params) (spanned (now (message .entry)) span) ws level index (now (words .entry)) → Written (paramsFrom (now (k .entry)) params) (spanned (now (message .entry)) span) ws level (index + 1) (now (words .exit))) ⌝ }
 {
-    let block = block(message, span, words, level, index);
+    let mut block = [0u64; 64];
+    super::fill(&mut block, message, span, words, level, index);
     let place = super::place(level, index);
     let output = node::compress_node(params, k, constants, place, &block);
     let at = (Block::OUTPUT_WORDS * index) as usize;
@@ -112,8 +102,10 @@ fn two_nodes(
     ensures { λ _. ⌜ ((ws : List ℕ) → Source (spanned (now (message .entry)) span) ws level → Written (paramsFrom (now (k .entry)) params) (spanned (now (message .entry)) span) ws level index (now (words .entry)) → Written (paramsFrom (now (k .entry)) params) (spanned (now (message .entry)) span) ws level (index + 2) (now (words .exit))) ⌝ }
 {
     let next = index + 1;
-    let one = block(message, span, words, level, index);
-    let other = block(message, span, words, level, next);
+    let mut one = [0u64; 64];
+    super::fill(&mut one, message, span, words, level, index);
+    let mut other = [0u64; 64];
+    super::fill(&mut other, message, span, words, level, next);
     let here = super::place(level, index);
     let there = super::place(level, next);
     let two = node::compress_two(params, k, constants, here, &one, there, &other);

@@ -80,20 +80,19 @@ pub fn node_v(params: Params, z: u64, p: u64) -> u64
     ((high * 65536 + p) * 256 + params.keylen) * 4096 + params.d
 }
 
-// The window of the node with this place and block: Q, K, U, V and the block.
-fn window(params: Params, k: &[u64], place: Place, block: &[u64]) -> [u64; 89]
+// Fills the window of the node with this place and block, which holds nothing: Q, K, U, V and the block. The caller lends it, as a
+// window that is given back would be copied.
+fn fill_window(w: &mut [u64], params: Params, k: &[u64], place: Place, block: &[u64])
     requires { ⌜ InRange (params .keylen) (params .d) (params .limit) (params .rounds) × (length (now k) ≡ 8) ⌝ }
-    requires { ⌜ FieldsFit place (now block) ⌝ }
-    ensures { λ w. ⌜ w ≡ windowOf (now (k .entry)) (nodeU (place .level) (place .index)) (nodeV (sized params) (place .z) (place .p)) (now (block .entry)) ⌝ }
+    requires { ⌜ FieldsFit place (now block) × (now w ≡ replicate 89 0) ⌝ }
+    ensures { λ _. ⌜ now (w .exit) ≡ windowOf (now (k .entry)) (nodeU (place .level) (place .index)) (nodeV (sized params) (place .z) (place .p)) (now (block .entry)) ⌝ }
 {
     let q = compress::q_words();
-    let mut w = [0u64; 89];
-    words::copy(&mut w, 0, &q);
-    words::copy(&mut w, 15, k);
+    words::copy(&mut *w, 0, &q);
+    words::copy(&mut *w, 15, k);
     w[23] = node_u(place.level, place.index);
     w[24] = node_v(params, place.z, place.p);
-    words::copy(&mut w, 25, block);
-    w
+    words::copy(&mut *w, 25, block);
 }
 
 // The 16 words of the node with this place and block.
@@ -108,7 +107,8 @@ pub fn compress_node(
     requires { ⌜ FieldsFit place (now block) ⌝ }
     ensures { λ r. ⌜ r ≡ nodeWords (paramsFrom (now (k .entry)) params) (place .level) (place .index) (place .z) (place .p) (now (block .entry)) ⌝ }
 {
-    let w = window(params, k, place, block);
+    let mut w = [0u64; 89];
+    fill_window(&mut w, params, k, place, block);
     compress::compress(&w, constants, params.rounds as usize)
 }
 
@@ -126,7 +126,9 @@ pub fn compress_two(
     requires { ⌜ FieldsFit one (now «one_block») × FieldsFit other (now «other_block») ⌝ }
     ensures { λ r. ⌜ (r .first ≡ nodeWords (paramsFrom (now (k .entry)) params) (one .level) (one .index) (one .z) (one .p) (now («one_block» .entry))) × (r .second ≡ nodeWords (paramsFrom (now (k .entry)) params) (other .level) (other .index) (other .z) (other .p) (now («other_block» .entry))) ⌝ }
 {
-    let w = window(params, k, one, one_block);
-    let v = window(params, k, other, other_block);
+    let mut w = [0u64; 89];
+    fill_window(&mut w, params, k, one, one_block);
+    let mut v = [0u64; 89];
+    fill_window(&mut v, params, k, other, other_block);
     compress::compress_two(&w, &v, constants, params.rounds as usize)
 }

@@ -1,4 +1,4 @@
--- Laws: for the code that fills a block: with message bits, and with the values of children.
+-- Laws: for the code that fills a block: with message bits, and with the values of children; and for the padding bits in it.
 use mathlib.Core.Path.{_≡_, refl, sym, ap, _∙_}
 use mathlib.Core.Bool.{Bool, false}
 use mathlib.Core.List.{List, [], _∷_, _++_, append-assoc}
@@ -6,18 +6,18 @@ use Prim.Native.Nat.{ℕ, zero, suc, _+_, _-_, _*_, _^_, _≤_, _<_, min}
 use native.Mathlib.Omega.{arith}
 use native.Mathlib.Numerals.{add-one}
 use lib.ListN.{length, take, drop, replicate, length-replicate}
-use lib.Seq.{paste, drop-drop}
+use lib.Seq.{paste, drop-drop, take-append-add}
 use Rattle.bits.specs.Bits.{bitsOf, filled}
 use Rattle.bits.specs.BitsLaws.{bitsOf-zeros}
 use Rattle.tree.specs.Tree.{Params, words, blocks, blockBits, outputBits}
 use Rattle.bits.specs.Piece.{Piece, pieceBits}
 use Rattle.node.specs.Words.{nodeWords}
-use Rattle.nodes.specs.Value.{held, messagePart, joinedValues, childWords, value}
+use Rattle.nodes.specs.Value.{held, messagePart, joinedValues, childWords, blockPadding, blockFrom, nodeBlock, value}
 use Rattle.tree.specs.Count.{levelNodes, levelNodes-one, levelNodes-suc, levelNodes-some}
 use Rattle.bits.specs.PieceLaws.{Fits, length-pieceBits}
-use Rattle.nodes.specs.ValueLaws.{levelNodes-le, length-value, value-one, value-suc, joined-zero, joined-suc, length-joinedValues}
+use Rattle.nodes.specs.ValueLaws.{levelNodes-le, length-value, joined-zero, joined-suc, length-joinedValues}
 use Rattle.node.specs.NodeLaws.{paste-at}
-use Rattle.lists.specs.Replicate.{drop-replicate}
+use Rattle.lists.specs.Replicate.{take-replicate, drop-replicate}
 use Rattle.lists.specs.Take.{drop-take}
 
 pub take-min : {A : Type 0} (a b : ℕ) (l : List A) → take a (take b l) ≡ take (min a b) l
@@ -55,16 +55,10 @@ filled-part m w size index from n e h g ef en =
 pub leaf-index : (bits index : ℕ) → index < levelNodes bits 1 → blockBits * index ≤ bits
 leaf-index bits index h = let g : index < blocks blockBits bits = rw (levelNodes-one bits) at h in omega arith
 
-pub leaf-made : (P : Params) (m : Piece) (index z n : ℕ) (block : List ℕ) → index < levelNodes (m .count) 1 → Fits m
-    → n ≡ held blockBits (m .count) index → block ≡ filled (replicate 64 0) 0 (m .bytes) (8 * (512 * index) + m .start) n
-    → nodeWords P 1 index z (blockBits - n) block ≡ value P (pieceBits m) 1 index z
-leaf-made P m index z n block i g en eb =
-    let M : List Bool = pieceBits m in
-    let l : length M ≡ m .count = length-pieceBits m g in
-    let b : block ≡ words 64 (messagePart blockBits M index) =
-    eb ∙ filled-part m 64 blockBits index (8 * (512 * index) + m .start) n refl (leaf-index (m .count) index i) g (omega arith) en in
-    let p : blockBits - n ≡ blockBits - held blockBits (length M) index = rw l (ap (λ (k : ℕ). blockBits - k) en) in
-    rw (b, p) (sym (value-one P M index z))
+pub leaf-filled : (m : Piece) (index n : ℕ) → Fits m → index < levelNodes (m .count) 1 → n ≡ held blockBits (m .count) index
+    → filled (replicate 64 0) 0 (m .bytes) (8 * (512 * index) + m .start) n ≡ words 64 (messagePart blockBits (pieceBits m) index)
+leaf-filled m index n g i en =
+    filled-part m 64 blockBits index (8 * (512 * index) + m .start) n refl (leaf-index (m .count) index i) g (omega arith) en
 
 -- ---- children
 
@@ -74,7 +68,7 @@ child-none f room a =
     rw (joined-zero f a, e)
 
 -- one child more is written to its place of the block
-pub child-more : (f : ℕ → List ℕ) (room a j : ℕ) → ((i : ℕ) → length (f i) ≡ 16) → j < room
+child-more : (f : ℕ → List ℕ) (room a j : ℕ) → ((i : ℕ) → length (f i) ≡ 16) → j < room
     → paste (childWords f room a j) (16 * j) (f (a + j)) (length (f (a + j))) ≡ childWords f room a (j + 1)
 child-more f room a j len h =
     let p : List ℕ = joinedValues f a j in
@@ -90,6 +84,18 @@ child-more f room a j len h =
     left : (room j : ℕ) → j < room → 16 * (room - j) - 16 ≡ 16 * (room - (j + 1))
     left room j h = omega arith
 
+-- the children fit as well where there is room for one fewer
+pub child-fewer : (f : ℕ → List ℕ) (room a n : ℕ) → ((i : ℕ) → length (f i) ≡ 16) → n ≤ room
+    → take (16 * room) (childWords f (suc room) a n) ≡ childWords f room a n
+child-fewer f room a n len h =
+    let J : List ℕ = joinedValues f a n in
+    let Z : List ℕ = replicate (16 * (suc room - n)) 0 in
+    let l : length J ≡ 16 * n = length-joinedValues f a n len in
+    let e : 16 * room ≡ length J + 16 * (room - n) = omega arith in
+    ap (λ (k : ℕ). take k (J ++ Z)) e
+    ∙ take-append-add J Z (16 * (room - n))
+    ∙ ap (λ (w : List ℕ). J ++ w) (take-replicate (16 * (room - n)) (16 * (suc room - n)) 0 (omega arith))
+
 pub child-index : (bits level index : ℕ) → 1 < level → index < levelNodes bits level → 4 * index ≤ levelNodes bits (level - 1)
 child-index bits zero index h i = absurd (omega arith)
 child-index bits (suc zero) index h i = absurd (omega arith)
@@ -103,22 +109,74 @@ pub node-index : (bits level index : ℕ) → bits < 2 ^ 64 → 0 < level → in
 node-index bits zero index b h i = absurd (omega arith)
 node-index bits (suc l) index b h i = omega (arith, levelNodes-le bits l b)
 
--- a node above level 1, from its children
-pub value-made : (P : Params) (m : Piece) (level index z n : ℕ) (block : List ℕ) → 1 < level → Fits m
+-- ---- the block of a node, and its padding bits
+
+pub padding-leaf : (bits level index : ℕ) → level ≡ 1 → blockBits - held blockBits bits index ≡ blockPadding bits level index
+unfolding blockPadding
+padding-leaf bits level index e = rw e
+
+pub padding-above : (bits level index : ℕ) → 1 < level
+    → outputBits * (4 - held 4 (levelNodes bits (level - 1)) index) ≡ blockPadding bits level index
+unfolding blockPadding
+padding-above bits zero index h = absurd (omega arith)
+padding-above bits (suc zero) index h = absurd (omega arith)
+padding-above bits (suc (suc l)) index h = let e : suc (suc l) - 1 ≡ suc l = omega arith in rw e
+
+pub block-leaf : (P : Params) (M : List Bool) (level index : ℕ) → level ≡ 1
+    → words 64 (messagePart blockBits M index) ≡ nodeBlock P M level index
+unfolding blockFrom
+block-leaf P M level index e = rw e
+
+pub block-above : (P : Params) (m : Piece) (level index n : ℕ) → 1 < level → Fits m
     → n ≡ held 4 (levelNodes (m .count) (level - 1)) index
-    → block ≡ childWords (λ j. value P (pieceBits m) (level - 1) j 0) 4 (4 * index) n
-    → nodeWords P level index z (outputBits * (4 - n)) block ≡ value P (pieceBits m) level index z
-value-made P m zero index z n block h g en eb = absurd (omega arith)
-value-made P m (suc zero) index z n block h g en eb = absurd (omega arith)
-value-made P m (suc (suc l)) index z n block h g en eb =
-    let M : List Bool = pieceBits m in
-    let d : length M ≡ m .count = length-pieceBits m g in
+    → childWords (λ j. value P (pieceBits m) (level - 1) j 0) 4 (4 * index) n ≡ nodeBlock P (pieceBits m) level index
+unfolding blockFrom
+block-above P m zero index n h g en = absurd (omega arith)
+block-above P m (suc zero) index n h g en = absurd (omega arith)
+block-above P m (suc (suc l)) index n h g en =
     let e : suc (suc l) - 1 ≡ suc l = omega arith in
-    let k : n ≡ held 4 (levelNodes (length M) (suc l)) index = rw d (rw e at en) in
-    let b : block ≡ childWords (λ j. value P M (suc l) j 0) 4 (4 * index) n = rw e at eb in
-    rw (b, k) (sym (value-suc P M l index z))
+    let k : n ≡ held 4 (levelNodes (m .count) (suc l)) index = rw e at en in
+    rw (length-pieceBits m g, k)
+
+-- the value of a node, from its block
+pub value-made : (P : Params) (m : Piece) (level index z : ℕ) (block : List ℕ) → 0 < level → Fits m
+    → block ≡ nodeBlock P (pieceBits m) level index
+    → nodeWords P level index z (blockPadding (m .count) level index) block ≡ value P (pieceBits m) level index z
+unfolding value
+value-made P m zero index z block h g eb = absurd (omega arith)
+value-made P m (suc l) index z block h g eb =
+    let e : suc l - 1 ≡ l = omega arith in
+    rw (eb, e, length-pieceBits m g)
 
 -- every value has 16 words
 pub value-length : (P : Params) (M : List Bool) (level index z : ℕ) → 0 < level → length (value P M level index z) ≡ 16
 value-length P M zero index z g = absurd (omega arith)
 value-length P M (suc l) index z g = length-value P M l index z
+
+-- one child more, made from its block
+pub child-made : (P : Params) (m : Piece) (level a j : ℕ) (ws block made : List ℕ) → 0 < level → Fits m → j < 4
+    → ws ≡ childWords (λ i. value P (pieceBits m) level i 0) 4 a j
+    → block ≡ nodeBlock P (pieceBits m) level (a + j)
+    → made ≡ nodeWords P level (a + j) 0 (blockPadding (m .count) level (a + j)) block
+    → paste ws (16 * j) made (length made) ≡ childWords (λ i. value P (pieceBits m) level i 0) 4 a (j + 1)
+child-made P m level a j ws block made h g room ew eb em =
+    let f : ℕ → List ℕ = λ i. value P (pieceBits m) level i 0 in
+    let v : made ≡ f (a + j) = em ∙ value-made P m level (a + j) 0 block h g eb in
+    rw (ew, v) (child-more f 4 a j (λ i. value-length P (pieceBits m) level i 0 h) room)
+
+-- two children more, made from their blocks, the second written behind the first
+pub pair-made : (P : Params) (m : Piece) (level a j : ℕ) (ws one other first second : List ℕ) → 0 < level → Fits m → j + 1 < 4
+    → ws ≡ childWords (λ i. value P (pieceBits m) level i 0) 4 a j
+    → one ≡ nodeBlock P (pieceBits m) level (a + j)
+    → other ≡ nodeBlock P (pieceBits m) level (a + j + 1)
+    → first ≡ nodeWords P level (a + j) 0 (blockPadding (m .count) level (a + j)) one
+    → second ≡ nodeWords P level (a + j + 1) 0 (blockPadding (m .count) level (a + j + 1)) other
+    → paste (paste ws (16 * j) first (length first)) (16 * j + 16) second (length second)
+    ≡ childWords (λ i. value P (pieceBits m) level i 0) 4 a (j + 2)
+pair-made P m level a j ws one other first second h g room ew eo et ef es =
+    let w : 16 * j + 16 ≡ 16 * (j + 1) = omega arith in
+    let i : a + j + 1 ≡ a + (j + 1) = omega arith in
+    let t : j + 2 ≡ j + 1 + 1 = omega arith in
+    let c : paste ws (16 * j) first (length first) ≡ childWords (λ i. value P (pieceBits m) level i 0) 4 a (j + 1) =
+    child-made P m level a j ws one first h g (omega arith) ew eo ef in
+    rw (w, t) (child-made P m level a (j + 1) (paste ws (16 * j) first (length first)) other second h g room c (rw i at et) (rw i at es))

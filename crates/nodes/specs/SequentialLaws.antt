@@ -65,6 +65,10 @@ unfolding sequentialWords
 words-children P zero m index n h g en = absurd (omega arith)
 words-children P (suc l) m index n h g en = rw (length-pieceBits m g, en)
 
+-- 48 words, written to as many
+pub rest-made : (rest : List ℕ) → length rest ≡ 48 → paste (replicate 48 0) 0 rest (length rest) ≡ rest
+rest-made rest l = paste-at [] rest (replicate 48 0) 0 (length rest) refl refl ∙ rw l (append-nil rest)
+
 -- the chain, and then 48 words, are written to a block
 pub block-made : (before rest : List ℕ) → length before ≡ 16 → length rest ≡ 48
     → paste (paste (replicate 64 0) 0 before (length before)) 16 rest (length rest) ≡ before ++ rest

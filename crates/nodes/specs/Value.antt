@@ -36,14 +36,27 @@ joinedValues f index (suc n) = joinedValues f index n ++ f (index + n)
 abbrev pub childWords : (ℕ → List ℕ) → ℕ → ℕ → ℕ → List ℕ
 childWords f room index n = joinedValues f index n ++ replicate (16 * (room - n)) 0
 
+-- the padding bits in the block of the node at a parallel level and an index, for a message of so many bits
+unfoldable pub blockPadding : ℕ → ℕ → ℕ → ℕ
+blockPadding m zero index = 0
+blockPadding m (suc zero) index = blockBits - held blockBits m index
+blockPadding m (suc (suc level)) index = outputBits * (4 - held 4 (levelNodes m (suc level)) index)
+
+-- the 64 words of that block: at level 1 from the message, above it from the values f of the nodes one level below
+unfoldable pub blockFrom : (ℕ → List ℕ) → List Bool → ℕ → ℕ → List ℕ
+blockFrom f M zero index = []
+blockFrom f M (suc zero) index = words 64 (messagePart blockBits M index)
+blockFrom f M (suc (suc level)) index = childWords f 4 (4 * index) (held 4 (levelNodes (length M) (suc level)) index)
+
 -- the value of the node at a parallel level and an index; z is 1 at the root
 unfoldable pub value : Params → List Bool → ℕ → ℕ → ℕ → List ℕ
 value P M zero index z = []
-value P M (suc zero) index z =
-    nodeWords P 1 index z (blockBits - held blockBits (length M) index) (words 64 (messagePart blockBits M index))
-value P M (suc (suc level)) index z =
-    let n : ℕ = held 4 (levelNodes (length M) (suc level)) index in
-    nodeWords P (suc (suc level)) index z (outputBits * (4 - n)) (childWords (λ j. value P M (suc level) j 0) 4 (4 * index) n)
+value P M (suc level) index z =
+    nodeWords P (suc level) index z (blockPadding (length M) (suc level) index) (blockFrom (λ j. value P M level j 0) M (suc level) index)
+
+-- the block of that node
+abbrev pub nodeBlock : Params → List Bool → ℕ → ℕ → List ℕ
+nodeBlock P M level index = blockFrom (λ j. value P M (level - 1) j 0) M level index
 
 -- ---- the sequential level, above so many parallel ones
 

@@ -19,7 +19,7 @@ use Rattle.tree.specs.Tree.{Params, words, blocks, blockBits, sequentialBits, o
 use Rattle.tree.specs.Count.{levelNodes, fourth, levelNodes-one, levelNodes-suc, levelNodes-some}
 use Rattle.node.specs.Words.{nodeWords}
 use Rattle.node.specs.WordLaws.{length-nodeWords, below-nodeWords}
-use Rattle.nodes.specs.Value.{held, messagePart, joinedValues, childWords, value, sequentialNodes, sequentialPadding, sequentialWords, chain}
+use Rattle.nodes.specs.Value.{held, messagePart, joinedValues, childWords, blockPadding, blockFrom, value, sequentialNodes, sequentialPadding, sequentialWords, chain}
 
 -- so many elements from n on, of a list that zeros follow
 pub pad-part : {A : Type 0} (s n q : ℕ) (M : List A) (z : A) → n ≤ length M → n + s ≤ length M + q
@@ -131,13 +131,13 @@ levelNodes-le m (suc h) l = rw (levelNodes-suc m h) (omega (arith, levelNodes-le
 module _ (P : Params) (M : List Bool) where
   pub value-one : (index z : ℕ)
       → value P M 1 index z ≡ nodeWords P 1 index z (blockBits - held blockBits (length M) index) (words 64 (messagePart blockBits M index))
-  unfolding value
+  unfolding value blockPadding blockFrom
   value-one index z = refl
 
   pub value-suc : (h index z : ℕ)
       → value P M (suc (suc h)) index z
       ≡ nodeWords P (suc (suc h)) index z (outputBits * (4 - held 4 (levelNodes (length M) (suc h)) index)) (childWords (λ j. value P M (suc h) j 0) 4 (4 * index) (held 4 (levelNodes (length M) (suc h)) index))
-  unfolding value
+  unfolding value blockPadding blockFrom
   value-suc h index z = refl
 
   pub chain-zero : (limit : ℕ) → chain P limit M 0 ≡ replicate 16 0
@@ -154,12 +154,12 @@ module _ (P : Params) (M : List Bool) where
 
 module _ (P : Params) (M : List Bool) where
   pub length-value : (h index z : ℕ) → length (value P M (suc h) index z) ≡ 16
-  length-value zero index z = rw (value-one P M index z) (length-nodeWords P 1 index z _ _)
-  length-value (suc h) index z = rw (value-suc P M h index z) (length-nodeWords P (suc (suc h)) index z _ _)
+  unfolding value
+  length-value h index z = length-nodeWords P (suc h) index z _ _
 
   pub below-value : (h index z : ℕ) → Below (2 ^ 64) (value P M (suc h) index z)
-  below-value zero index z = rw (value-one P M index z) (below-nodeWords P 1 index z _ _)
-  below-value (suc h) index z = rw (value-suc P M h index z) (below-nodeWords P (suc (suc h)) index z _ _)
+  unfolding value
+  below-value h index z = below-nodeWords P (suc h) index z _ _
 
   pub length-sequentialWords : (limit index : ℕ) → length (sequentialWords P limit M index) ≡ 48
   unfolding sequentialWords

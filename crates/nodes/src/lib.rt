@@ -1,55 +1,182 @@
 // The nodes of a message: the value of each, its 16 words, worked out from the nodes one level below.
 ghost use mathlib.Core.Path.{_≡_};
 ghost use mathlib.Core.List.{_++_};
-ghost use Prim.Native.Nat.{_+_, _-_, _*_, _<_};
-ghost use lib.ListN.{length};
-ghost use Rattle.tree.specs.Tree.{words, sequentialBits};
+ghost use Prim.Native.Nat.{_+_, _-_, _*_, _≤_, _<_};
+ghost use lib.ListN.{length, replicate};
+ghost use Rattle.tree.specs.Tree.{words, blockBits, sequentialBits};
 ghost use Rattle.bits.specs.Piece.{pieceBits};
 ghost use Rattle.bits.specs.PieceLaws.{spanned, Fits};
 ghost use Rattle.tree.specs.Count.{levelNodes};
-ghost use Rattle.node.specs.Words.{nodeWords, paramsFrom};
-ghost use Rattle.nodes.specs.Value.{Given, messagePart, value, sequentialNodes, sequentialPadding, sequentialWords, chain, rootValue};
+ghost use Rattle.node.specs.Words.{nodeWords, paramsFrom, Ready};
+ghost use Rattle.nodes.specs.Value.{Given, messagePart, childWords, blockPadding, value, sequentialNodes, sequentialPadding, sequentialWords, chain, rootValue};
 use bits::Span;
+use compress::Two;
 use node::Block;
 use node::Place;
 use refusals::Params;
 
 pub mod shape; // shape.rt: how many levels a tree has, how many nodes each, and what a node has by its index
 
-// The value of a node at level 1: its block is filled with message bits.
-fn leaf(
+// Fills the block of a leaf, a node of level 1, with message bits; it is empty before.
+fn fill_leaf(block: &mut [u64], message: &[u8], span: Span, index: u64)
+    requires { ⌜ Fits (spanned (now message) span) × (index < levelNodes (span .bits) 1) × (now block ≡ replicate 64 0) ⌝ }
+    ensures { λ _. ⌜ now (block .exit) ≡ words 64 (messagePart blockBits (pieceBits (spanned (now (message .entry)) span)) index) ⌝ }
+{
+    let n = shape::taken(Block::BITS, span.bits, index);
+    let byte = (Block::BYTES * index) as usize;
+    bits::fill(block, 0, message, byte, span.start as usize, n as usize);
+}
+
+// The padding bits in the block of the node at a parallel level and an index.
+fn padding(bits: u64, level: u64, index: u64) -> u64
+    requires { ⌜ (0 < level) × (index < levelNodes bits level) ⌝ }
+    ensures { λ r. ⌜ (r ≡ blockPadding bits level index) × (r < 65536) ⌝ }
+{
+    if level == 1 {
+        return Block::BITS - shape::taken(Block::BITS, bits, index);
+    }
+    Block::OUTPUT_BITS * (4 - shape::taken(4, shape::nodes_at(bits, level - 1), index))
+}
+
+// The value of the node at a parallel level and an index, from its block; z is 1 at the root.
+fn one_value(
+    bits: u64,
+    params: Params,
+    k: &[u64],
+    constants: &[u64],
+    level: u64,
+    index: u64,
+    z: u64,
+    block: &[u64; 64],
+) -> [u64; 16]
+    requires { ⌜ Ready (now k) params (now constants) ⌝ }
+    requires { ⌜ (0 < level) × (level < 256) × (index < levelNodes bits level) × (z < 16) ⌝ }
+    ensures { λ r. ⌜ r ≡ nodeWords (paramsFrom (now (k .entry)) params) level index z (blockPadding bits level index) (now (block .entry)) ⌝ }
+{
+    let p = padding(bits, level, index);
+    node::compress_node(params, k, constants, Place { level, index, z, p }, block)
+}
+
+// The values of the leaves at an index and at the next, from their blocks, made together; neither is the root.
+fn two_leaves(
+    bits: u64,
+    params: Params,
+    k: &[u64],
+    constants: &[u64],
+    index: u64,
+    one: &[u64; 64],
+    other: &[u64; 64],
+) -> Two
+    requires { ⌜ Ready (now k) params (now constants) ⌝ }
+    requires { ⌜ index + 1 < levelNodes bits 1 ⌝ }
+    ensures { λ r. ⌜ (r .first ≡ nodeWords (paramsFrom (now (k .entry)) params) 1 index 0 (blockPadding bits 1 index) (now (one .entry))) × (r .second ≡ nodeWords (paramsFrom (now (k .entry)) params) 1 (index + 1) 0 (blockPadding bits 1 (index + 1)) (now (other .entry))) ⌝ }
+{
+    let next = index + 1;
+    let here = Place {
+        level: 1,
+        index,
+        z: 0,
+        p: padding(bits, 1, index),
+    };
+    let there = Place {
+        level: 1,
+        index: next,
+        z: 0,
+        p: padding(bits, 1, next),
+    };
+    node::compress_two(params, k, constants, here, one, there, other)
+}
+
+// The values of up to four leaves, from an index on, two at a time, the last alone if their number is odd; zero words after them.
+// They are the children of one node, so that none is the root.
+fn leaves(
     message: &[u8],
     span: Span,
     params: Params,
     k: &[u64],
     constants: &[u64],
     index: u64,
-    z: u64,
-) -> [u64; 16]
+    n: u64,
+) -> [u64; 64]
     requires { ⌜ Given (spanned (now message) span) (now k) params (now constants) ⌝ }
-    requires { ⌜ (index < levelNodes (span .bits) 1) × (z < 16) ⌝ }
-    ensures { λ r. ⌜ r ≡ value (paramsFrom (now (k .entry)) params) (pieceBits (spanned (now (message .entry)) span)) 1 index z ⌝ }
+    requires { ⌜ (n ≤ 4) × (index + n ≤ levelNodes (span .bits) 1) ⌝ }
+    ensures { λ r. ⌜ r ≡ childWords (λ i. value (paramsFrom (now (k .entry)) params) (pieceBits (spanned (now (message .entry)) span)) 1 i 0) 4 index n ⌝ }
 {
-    let n = shape::taken(Block::BITS, span.bits, index);
     let empty = Block::new();
-    let mut block = empty.words;
-    let byte = (Block::BYTES * index) as usize;
-    bits::fill(
-        &mut block,
-        0,
-        message,
-        byte,
-        span.start as usize,
-        n as usize,
-    );
-    let level = 1;
-    let p = Block::BITS - n;
-    node::compress_node(params, k, constants, Place { level, index, z, p }, &block)
+    let mut words = [0u64; 64];
+    let mut j: u64 = 0;
+    while j + 1 < n {
+        let i = index + j;
+        let mut one = empty.words;
+        fill_leaf(&mut one, message, span, i);
+        let mut other = empty.words;
+        fill_leaf(&mut other, message, span, i + 1);
+        let two = two_leaves(span.bits, params, k, constants, i, &one, &other);
+        let first = two.first;
+        let second = two.second;
+        let at = (Block::OUTPUT_WORDS * j) as usize;
+        words::copy(&mut words, at, &first);
+        words::copy(&mut words, at + Block::OUTPUT_WORDS as usize, &second);
+        j += 2;
+    }
+    if j < n {
+        let i = index + j;
+        let mut block = empty.words;
+        fill_leaf(&mut block, message, span, i);
+        let last = one_value(span.bits, params, k, constants, 1, i, 0, &block);
+        let at = (Block::OUTPUT_WORDS * j) as usize;
+        words::copy(&mut words, at, &last);
+    }
+    words
 }
 
-// The value of the node at a parallel level and an index: at level 1 from the message, above it from the values of its
-// children, one level below. z is 1 at the root.
-pub fn value(
+// The values of up to four nodes of a parallel level, from an index on, and zero words after them. They are the children of one node,
+// so that none is the root. Each is worked out from the values of its own children, one level below: the level falls at each call.
+// That the call is of this very function keeps the compiler from putting a compression's buffers on the stack once a level.
+fn values(
+    message: &[u8],
+    span: Span,
+    params: Params,
+    k: &[u64],
+    constants: &[u64],
+    level: u64,
+    index: u64,
+    n: u64,
+) -> [u64; 64]
+    requires { ⌜ Given (spanned (now message) span) (now k) params (now constants) ⌝ }
+    requires { ⌜ (0 < level) × (level < 256) × (n ≤ 4) × (index + n ≤ levelNodes (span .bits) level) ⌝ }
+    ensures { λ r. ⌜ r ≡ childWords (λ i. value (paramsFrom (now (k .entry)) params) (pieceBits (spanned (now (message .entry)) span)) level i 0) 4 index n ⌝ }
+{
+    if level == 1 {
+        return leaves(message, span, params, k, constants, index, n);
+    }
+    let below = shape::nodes_at(span.bits, level - 1);
+    let mut words = [0u64; 64];
+    let mut j: u64 = 0;
+    while j < n {
+        let i = index + j;
+        let children = shape::taken(4, below, i);
+        let block = values(
+            message,
+            span,
+            params,
+            k,
+            constants,
+            level - 1,
+            4 * i,
+            children,
+        );
+        let one = one_value(span.bits, params, k, constants, level, i, 0, &block);
+        let at = (Block::OUTPUT_WORDS * j) as usize;
+        words::copy(&mut words, at, &one);
+        j += 1;
+    }
+    words
+}
+
+// The value of the node at a parallel level and an index: at level 1 from the message, above it from the values of its children,
+// one level below. z is 1 at the root.
+fn value(
     message: &[u8],
     span: Span,
     params: Params,
@@ -64,28 +191,14 @@ pub fn value(
     ensures { λ r. ⌜ r ≡ value (paramsFrom (now (k .entry)) params) (pieceBits (spanned (now (message .entry)) span)) level index z ⌝ }
 {
     if level == 1 {
-        return leaf(message, span, params, k, constants, index, z);
+        let empty = Block::new();
+        let mut block = empty.words;
+        fill_leaf(&mut block, message, span, index);
+        return one_value(span.bits, params, k, constants, level, index, z, &block);
     }
     let n = shape::taken(4, shape::nodes_at(span.bits, level - 1), index);
-    let mut block = [0u64; 64];
-    let mut j: u64 = 0;
-    while j < n {
-        let child = value(
-            message,
-            span,
-            params,
-            k,
-            constants,
-            level - 1,
-            4 * index + j,
-            0,
-        );
-        let at = 16 * j as usize;
-        words::copy(&mut block, at, &child);
-        j += 1;
-    }
-    let p = Block::OUTPUT_BITS * (4 - n);
-    node::compress_node(params, k, constants, Place { level, index, z, p }, &block)
+    let block = values(message, span, params, k, constants, level - 1, 4 * index, n);
+    one_value(span.bits, params, k, constants, level, index, z, &block)
 }
 
 // With L = 0, the 48 words of message bits that a sequential node takes behind the output of the node before it.
@@ -100,7 +213,8 @@ fn message_words(message: &[u8], span: Span, index: u64) -> [u64; 48]
     rest
 }
 
-// With L above 0, the 48 words that a sequential node takes there: the values of its children, one level below.
+// With L above 0, the 48 words that a sequential node takes there: the values of its children, one level below. They are three at most,
+// and `values` has room for four.
 fn child_words(
     message: &[u8],
     span: Span,
@@ -115,14 +229,9 @@ fn child_words(
 {
     let limit = params.limit;
     let n = shape::taken(3, shape::nodes_at(span.bits, limit), index);
+    let children = values(message, span, params, k, constants, limit, 3 * index, n);
     let mut rest = [0u64; 48];
-    let mut j: u64 = 0;
-    while j < n {
-        let child = value(message, span, params, k, constants, limit, 3 * index + j, 0);
-        let at = 16 * j as usize;
-        words::copy(&mut rest, at, &child);
-        j += 1;
-    }
+    words::copy(&mut rest, 0, &children[..48]);
     rest
 }
 
@@ -176,7 +285,7 @@ fn sequential_value(
     let p = sequential_padding(limit, span.bits, index);
     let mut block = [0u64; 64];
     words::copy(&mut block, 0, before);
-    words::copy(&mut block, 16, &rest);
+    words::copy(&mut block, Block::OUTPUT_WORDS as usize, &rest);
     let level = limit + 1;
     node::compress_node(params, k, constants, Place { level, index, z, p }, &block)
 }

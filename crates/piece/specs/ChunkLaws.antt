@@ -3,9 +3,9 @@
 use mathlib.Core.Path.{_≡_, refl, sym, ap, _∙_}
 use mathlib.Core.Bool.{Bool}
 use mathlib.Core.List.{List, [], _∷_, _++_}
-use Prim.Native.Nat.{ℕ, _+_, _-_, _*_, _/_, _%_, _^_, _≤_, _<_, suc}
+use Prim.Native.Nat.{ℕ, _+_, _-_, _*_, _/_, _%_, _^_, _≤_, _<_}
 use native.Mathlib.Omega.{arith}
-use lib.ListN.{length, take, drop, set, length-append, take-append-drop}
+use lib.ListN.{length, take, drop, replicate, length-append, take-append-drop}
 use lib.Seq.{sets, take-add, drop-drop, take-all, length-sets, length-take-le}
 use Rattle.lists.specs.Below.{Below}
 use Rattle.lists.specs.BelowLaws.{below-take, below-drop}
@@ -14,22 +14,21 @@ use Rattle.bits.specs.Bits.{bitsOf, filled}
 use Rattle.bits.specs.FilledLaws.{length-filled}
 use Rattle.bits.specs.Piece.{Piece, pieceBits}
 use Rattle.bits.specs.PieceLaws.{Fits, length-pieceBits}
-use Rattle.tree.specs.Tree.{Params, Node}
+use Rattle.tree.specs.Tree.{Params, blockBits}
 use Rattle.refusals.specs.declared.Params as declared
-use Rattle.calls.specs.Area.{Long, paramsOf, levelWords, levelsUp, levelsOf, withLevels, heldBits}
+use Rattle.calls.specs.Area.{blockWords, Long, paramsOf, levelWords, levelsUp, levelsOf, withLevels, emptyLevel, heldBits}
 use Rattle.calls.specs.Calls.{Made, feedBits, nodeLog}
 use Rattle.calls.specs.Machine
-use Rattle.calls.specs.AreaLaws.{length-levelWords, length-withLevels, params-withLevels, levelsOf-withLevels}
-use Rattle.calls.specs.CallLaws.{length-nodeLog, nodeLog-append}
+use Rattle.calls.specs.AreaLaws.{length-levelWords}
 use Rattle.calls.specs.FeedLaws.{feedBits-append, withLevels-same}
-use Rattle.calls.specs.WriteLaws.{withLevels-again}
-use Rattle.climb.specs.Levels.{withLevel, with-up, levels-split, with-first}
+use Rattle.calls.specs.Widths.{Wide, wide-levels, wide-bits}
+use Rattle.climb.specs.Levels.{withLevel, levels-split, with-first}
 use Rattle.node.specs.Words.{paramsFrom, Ready}
 use Rattle.climb.specs.MakeLaws.{limit-from}
-use Rattle.climb.specs.ReceiveLaws.{made, Climbed}
-use Rattle.climb.specs.FlushLaws.{flushed}
-use Rattle.piece.specs.FeedSteps.{sizeOf, baseOf, partBits, firstOf, restOf, freeOf, roomOf, free-place, room-full, held-le, chunk, full-chunk}
-use Rattle.piece.specs.Widths.{Wide, wide-levels, wide-bits, wide-flushed}
+use Rattle.climb.specs.ReceiveLaws.{made}
+use Rattle.climb.specs.Left.{Left, left-length, left-params, left-long, left-levels, left-again, left-then}
+use Rattle.climb.specs.FlushLaws.{flushed, firstOf, restOf, flushedTwo, wide-flushed, wide-two, FlushingTwo}
+use Rattle.piece.specs.FeedSteps.{sizeOf, baseOf, nextOf, partBits, freeOf, roomOf, free-place, room-full, next-one, next-two, next-some, held-le, chunk, full-chunk, full-two}
 
 -- ---- what the code needs, and what it leaves
 
@@ -64,19 +63,13 @@ pub record Whole (key : List ℕ) (params : declared.Params) (constants : List �
   pub total : T + piece .count < 2 ^ 64
   pub room : 2 * length (fedWhole key params T piece area .nodes) ≤ length log
 
--- area, log and the place where the log goes on, for levels and nodes that a definition gives
-pub record Leaves (F : Made) (area log : List ℕ) (at : ℕ) (area′ log′ : List ℕ) (at′ : ℕ) : Type 0 where
-  pub levels : area′ ≡ withLevels area (F .levels)
-  pub logged : log′ ≡ sets log at (nodeLog (F .nodes))
-  pub next : at′ ≡ at + 2 * length (F .nodes)
-
 -- ---- a chunk
 
 module _ {area bytes : List ℕ} {byte bit count : ℕ} (part : Part area bytes byte bit count) (below : Below (2 ^ 64) area)
     (key : List ℕ) (params : declared.Params) (T : ℕ) where
   pub chunk-free : {area′ : List ℕ} {free : ℕ} (log : List ℕ) (at : ℕ) → free ≡ freeOf (params .limit) T → count ≤ free
       → area′ ≡ withLevel area 1 (filled (levelWords area 1) (4096 - free) bytes (8 * byte + bit) count)
-      → Leaves (fedPart key params T bytes byte bit count area) area log at area′ log at
+      → Left (fedPart key params T bytes byte bit count area) area log at area′ log at
   chunk-free log at f g ea =
       let P : Params = paramsFrom key params in
       let limit : ℕ = params .limit in
@@ -99,75 +92,136 @@ module _ {area bytes : List ℕ} {byte bit count : ℕ} (part : Part area bytes 
         next = omega (arith, ap (λ (x : Made). at + 2 * length (x .nodes)) c);
       }
 
--- level 1 is full
+-- ---- a chunk that comes to a full level 1
+
 abbrev flushedNow : List ℕ → declared.Params → ℕ → List ℕ → Made
 flushedNow key params T area = flushed (paramsFrom key params) (params .limit) T (levelsOf area)
 
+-- the words of the block that comes next
+abbrev nextBlock : List ℕ → ℕ → ℕ → List ℕ
+nextBlock bytes byte bit = filled (replicate blockWords 0) 0 bytes (8 * byte + bit) blockBits
+
+pub next-filled : (bytes : List ℕ) (byte bit : ℕ) {ws next : List ℕ} → ws ≡ replicate blockWords 0 → next ≡ filled ws 0 bytes (8 * byte + bit) blockBits → next ≡ nextBlock bytes byte bit
+next-filled bytes byte bit e f = f ∙ ap (λ (x : List ℕ). filled x 0 bytes (8 * byte + bit) blockBits) e
+
+no-words : emptyLevel ≡ replicate blockWords 0
+unfolding emptyLevel
+no-words = refl
+
+-- what comes of level 1 and then of that block
+abbrev flushedBoth : List ℕ → declared.Params → ℕ → List ℕ → List ℕ → Made
+flushedBoth key params T next area = flushedTwo (paramsFrom key params) (params .limit) T next (levelsOf area)
+
+-- bits put into level 1 after what was made of it
+after-filled : {F X : Made} {area log : List ℕ} {at : ℕ} {area₁ log₁ area′ : List ℕ} {at₁ : ℕ} (bytes : List ℕ) (place from count : ℕ) → Long area → Wide (paramsOf area .limit) (F .levels)
+    → Left F area log at area₁ log₁ at₁ → X ≡ made (filled (firstOf (F .levels)) place bytes from count ∷ restOf (F .levels)) (F .nodes)
+    → area′ ≡ withLevel area₁ 1 (filled (levelWords area₁ 1) place bytes from count) → Left X area log at area′ log₁ at₁
+after-filled {F} {area = area} {log} {at} {area₁} bytes place from count long wide l is ea =
+    let up : List (List ℕ) = F .levels in
+    let both : levelWords area₁ 1 ∷ levelsUp area₁ 2 ≡ up = sym (levels-split area₁) ∙ left-levels long wide l in
+    let long₁ : Long area₁ = left-long long wide l in
+    let new : List ℕ = filled (levelWords area₁ 1) place bytes from count in
+    let size : length new ≡ 64 = length-filled (levelWords area₁ 1) place bytes from count ∙ length-levelWords area₁ 1 long₁ (omega arith) in
+    let L : List (List ℕ) = filled (firstOf up) place bytes from count ∷ restOf up in
+    record {
+      levels = ea ∙ sym (with-first area₁ new long₁ size) ∙ ap (λ (x : List (List ℕ)). withLevels area₁ (filled (firstOf x) place bytes from count ∷ restOf x)) both
+          ∙ left-again long wide l L ∙ sym (ap (λ (x : Made). withLevels area (x .levels)) is);
+      logged = l .logged ∙ sym (ap (λ (x : Made). sets log at (nodeLog (x .nodes))) is);
+      next = omega (arith, l .next, ap (λ (x : Made). at + 2 * length (x .nodes)) is);
+    }
+
 module _ {key : List ℕ} {params : declared.Params} {constants : List ℕ} {T : ℕ} {area bytes : List ℕ} {byte bit count : ℕ} {log : List ℕ} {at : ℕ}
     (c : Chunk key params constants T area bytes byte bit count log at) (full : freeOf (params .limit) T ≤ 0) where
-  full-is : fedPart key params T bytes byte bit count area
-      ≡ (let F : Made = flushedNow key params T area in made (filled (firstOf (F .levels)) (baseOf (params .limit)) bytes (8 * byte + bit) count ∷ restOf (F .levels)) (F .nodes))
-  full-is =
-      let P : Params = paramsFrom key params in
-      let limit : ℕ = params .limit in
-      let same : P .limit ≡ limit = limit-from key params in
-      let from : ℕ = 8 * byte + bit in
-      let ws : List ℕ = levelWords area 1 in
-      let e : heldBits (sizeOf (P .limit)) T ≡ sizeOf (P .limit) = rw same (omega (arith, held-le limit T)) in
-      let m : count ≤ sizeOf (P .limit) = rw same (omega (arith, room-full limit T full, c .most)) in
-      ap (feedBits P T (partBits bytes from count)) (levels-split area)
-      ∙ full-chunk P count T from ws bytes (levelsUp area 2) e (c .some) m (c .part .inside)
-      ∙ rw (same, levels-split area)
+  abbrev Q : Params
+  Q = paramsFrom key params
 
-  pub chunk-room : at + 2 * length (flushedNow key params T area .nodes) ≤ length log
-  chunk-room = omega (arith, c .room, ap (λ (x : Made). at + 2 * length (x .nodes)) full-is)
+  same : Q .limit ≡ params .limit
+  same = limit-from key params
 
-  -- the flushed levels are as wide as they were, and the area is as long
-  flushed-wide : Wide (paramsOf area .limit) (flushedNow key params T area .levels)
-  flushed-wide = wide-flushed (paramsFrom key params) (params .limit) T (levelsOf area) (wide-levels area (c .part .long))
+  held : heldBits (sizeOf (params .limit)) T ≡ sizeOf (params .limit)
+  held = omega (arith, held-le (params .limit) T)
 
-  pub flushed-long : {area₁ log′ : List ℕ} {at′ : ℕ} → Climbed 1 (flushedNow key params T area) area log at area₁ log′ at′ → Long area₁
-  flushed-long F =
-      let up : List (List ℕ) = flushedNow key params T area .levels in
-      let s = flushed-wide in
-      rw (F .levels ∙ sym (with-up area up), length-withLevels area up (c .part .long) (s .widths) (s .size), params-withLevels area up (c .part .long) (s .widths) (s .size)) (c .part .long)
+  fits : count ≤ nextOf (params .limit)
+  fits = omega (arith, room-full (params .limit) T full, c .most)
 
-  pub chunk-full : {area₁ log′ area′ : List ℕ} {at′ place : ℕ} → Climbed 1 (flushedNow key params T area) area log at area₁ log′ at′ → place ≡ baseOf (params .limit)
-      → area′ ≡ withLevel area₁ 1 (filled (levelWords area₁ 1) place bytes (8 * byte + bit) count)
-      → Leaves (fedPart key params T bytes byte bit count area) area log at area′ log′ at′
-  chunk-full {area₁} F ep ef =
-      let base : ℕ = baseOf (params .limit) in
-      let from : ℕ = 8 * byte + bit in
-      let up : List (List ℕ) = flushedNow key params T area .levels in
-      let long : Long area = c .part .long in
-      let e₁ : area₁ ≡ withLevels area up = F .levels ∙ sym (with-up area up) in
-      let ea = ef ∙ ap (λ (x : ℕ). withLevel area₁ 1 (filled (levelWords area₁ 1) x bytes from count)) ep in
-      let s = flushed-wide in
-      let back : levelsOf area₁ ≡ up = ap levelsOf e₁ ∙ levelsOf-withLevels area up long (s .widths) (s .size) in
-      let both : levelWords area₁ 1 ∷ levelsUp area₁ 2 ≡ up = sym (levels-split area₁) ∙ back in
-      let w : levelWords area₁ 1 ≡ firstOf up = ap firstOf both in
-      let u : levelsUp area₁ 2 ≡ restOf up = ap restOf both in
-      let long₁ : Long area₁ = flushed-long F in
-      let new : List ℕ = filled (levelWords area₁ 1) base bytes from count in
-      let l : length new ≡ 64 = length-filled (levelWords area₁ 1) base bytes from count ∙ length-levelWords area₁ 1 long₁ (omega arith) in
-      let L : List (List ℕ) = filled (firstOf up) base bytes from count ∷ restOf up in
-      record {
-        levels = ea ∙ sym (with-first area₁ new long₁ l)
-            ∙ ap (λ (x : List (List ℕ)). withLevels area₁ (new ∷ x)) u ∙ ap (λ (x : List ℕ). withLevels area₁ (filled x base bytes from count ∷ restOf up)) w
-            ∙ ap (λ (x : List ℕ). withLevels x L) e₁ ∙ withLevels-again area up L long (s .widths) (s .size)
-            ∙ sym (ap (λ (x : Made). withLevels area (x .levels)) full-is);
-        logged = F .logged ∙ sym (ap (λ (x : Made). sets log at (nodeLog (x .nodes))) full-is);
-        next = omega (arith, F .next, ap (λ (x : Made). at + 2 * length (x .nodes)) full-is);
+  own-levels : Wide (paramsOf area .limit) (levelsOf area)
+  own-levels = wide-levels area (c .part .long)
+
+  -- one node is made
+  module _ (less : count ≤ blockBits) where
+    full-is : fedPart key params T bytes byte bit count area
+        ≡ (let F : Made = flushedNow key params T area in made (filled (firstOf (F .levels)) (baseOf (params .limit)) bytes (8 * byte + bit) count ∷ restOf (F .levels)) (F .nodes))
+    full-is =
+        let from : ℕ = 8 * byte + bit in
+        ap (feedBits Q T (partBits bytes from count)) (levels-split area)
+        ∙ full-chunk Q count T from (levelWords area 1) bytes (levelsUp area 2) (rw same held) (c .some) (rw same (next-one (params .limit) fits less)) (c .part .inside)
+        ∙ rw (same, levels-split area)
+
+    pub chunk-room : at + 2 * length (flushedNow key params T area .nodes) ≤ length log
+    chunk-room = omega (arith, c .room, ap (λ (x : Made). at + 2 * length (x .nodes)) full-is)
+
+    module _ {area₁ log₁ : List ℕ} {at₁ : ℕ} (l : Left (flushedNow key params T area) area log at area₁ log₁ at₁) where
+      wide-one : Wide (paramsOf area .limit) (flushedNow key params T area .levels)
+      wide-one = wide-flushed Q (params .limit) T (levelsOf area) own-levels
+
+      pub flushed-long : Long area₁
+      flushed-long = left-long (c .part .long) wide-one l
+
+      pub chunk-full : {area′ : List ℕ} {place : ℕ} → place ≡ baseOf (params .limit)
+          → area′ ≡ withLevel area₁ 1 (filled (levelWords area₁ 1) place bytes (8 * byte + bit) count)
+          → Left (fedPart key params T bytes byte bit count area) area log at area′ log₁ at₁
+      chunk-full ep ef =
+          after-filled bytes (baseOf (params .limit)) (8 * byte + bit) count (c .part .long) wide-one l full-is
+          (ef ∙ ap (λ (x : ℕ). withLevel area₁ 1 (filled (levelWords area₁ 1) x bytes (8 * byte + bit) count)) ep)
+
+  -- two nodes are made
+  module _ (more : blockBits < count) where
+    parallel : (1 ≤ params .limit) × (sizeOf (params .limit) ≡ blockBits)
+    parallel = next-two (params .limit) fits more
+
+    held-two : heldBits blockBits T ≡ blockBits
+    held-two = rw (parallel .1) at held
+
+    pub two-most : count - blockBits ≤ blockBits
+    two-most = omega (arith, fits, next-some (params .limit) (parallel .0))
+
+    two-is : fedPart key params T bytes byte bit count area
+        ≡ (let F : Made = flushedBoth key params T (nextBlock bytes byte bit) area in made (filled (firstOf (F .levels)) 0 bytes (8 * byte + bit + blockBits) (count - blockBits) ∷ restOf (F .levels)) (F .nodes))
+    two-is =
+        let from : ℕ = 8 * byte + bit in
+        let e : count ≡ blockBits + (count - blockBits) = omega arith in
+        ap (λ (n : ℕ). feedBits Q T (partBits bytes from n) (levelsOf area)) e
+        ∙ ap (feedBits Q T (partBits bytes from (blockBits + (count - blockBits)))) (levels-split area)
+        ∙ full-two Q (count - blockBits) T from (levelWords area 1) bytes (levelsUp area 2) (rw same (parallel .0)) held-two (omega arith) two-most (omega (arith, c .part .inside))
+        ∙ rw (same, levels-split area, no-words)
+
+    module _ {next : List ℕ} (filled-next : next ≡ nextBlock bytes byte bit) where
+      next-size : length next ≡ 64
+      next-size = ap length filled-next ∙ length-filled (replicate blockWords 0) 0 bytes (8 * byte + bit) blockBits
+
+      pub two-flushing : FlushingTwo key params constants T next area log at
+      two-flushing = record {
+        parallel = record { ready = c .ready; long = c .part .long; own = c .own; some = parallel .0 };
+        full = held-two;
+        words = next-size;
+        room = rw filled-next (omega (arith, c .room, ap (λ (x : Made). at + 2 * length (x .nodes)) two-is));
       }
 
+      module _ {area₁ log₁ : List ℕ} {at₁ : ℕ} (l : Left (flushedBoth key params T next area) area log at area₁ log₁ at₁) where
+        wide-both : Wide (paramsOf area .limit) (flushedBoth key params T next area .levels)
+        wide-both = wide-two Q (params .limit) T next (levelsOf area) next-size own-levels
+
+        pub both-long : Long area₁
+        both-long = left-long (c .part .long) wide-both l
+
+        pub chunk-two : {area′ : List ℕ} {from : ℕ} → from ≡ 8 * byte + bit + blockBits
+            → area′ ≡ withLevel area₁ 1 (filled (levelWords area₁ 1) 0 bytes from (count - blockBits))
+            → Left (fedPart key params T bytes byte bit count area) area log at area′ log₁ at₁
+        chunk-two {area′} ep ef =
+            after-filled bytes 0 (8 * byte + bit + blockBits) (count - blockBits) (c .part .long) wide-both l (rw filled-next two-is)
+            (ef ∙ ap (λ (x : ℕ). withLevel area₁ 1 (filled (levelWords area₁ 1) 0 bytes x (count - blockBits))) ep)
+
 -- ---- one chunk after the other
-
-sets-append : (l : List ℕ) (at : ℕ) (xs ys : List ℕ) → sets l at (xs ++ ys) ≡ sets (sets l at xs) (at + length xs) ys
-sets-append l at [] ys = let e : at + 0 ≡ at = omega arith in rw e
-sets-append l at (x ∷ xs) ys = let e : at + suc (length xs) ≡ suc at + length xs = omega arith in rw e (sets-append (set l at x) (suc at) xs ys)
-
-log-append : (log : List ℕ) (at : ℕ) (ms ns : List Node) → sets log at (nodeLog (ms ++ ns)) ≡ sets (sets log at (nodeLog ms)) (at + 2 * length ms) (nodeLog ns)
-log-append log at ms ns = rw (nodeLog-append ms ns, sets-append log at (nodeLog ms) (nodeLog ns), length-nodeLog ms)
 
 -- the byte and the bit at which a piece goes on after so many of its bits, without the sum of start and count, which may pass 2^64
 abbrev pub byteAfter : Piece → ℕ → ℕ
@@ -193,7 +247,7 @@ pub record Feeding (P : Params) (T : ℕ) (Y : List Bool) (area₀ log₀ area l
   pub within : done ≤ length Y
   pub area-length : length area ≡ length area₀
   pub log-length : length log ≡ length log₀
-  pub left : Leaves (feedBits P T (take done Y) (levelsOf area₀)) area₀ log₀ 0 area log at
+  pub left : Left (feedBits P T (take done Y) (levelsOf area₀)) area₀ log₀ 0 area log at
 
 pub feeding-none : (P : Params) (T : ℕ) (Y : List Bool) (area log : List ℕ) → Feeding P T Y area log area log 0 0
 feeding-none P T Y area log =
@@ -227,7 +281,7 @@ module _ {key : List ℕ} {params : declared.Params} {constants : List ℕ} {T :
   wide = wide-bits P (paramsOf area₀ .limit) T (take done Y) (levelsOf area₀) (wide-levels area₀ (w .long))
 
   kept : paramsOf area ≡ paramsOf area₀
-  kept = ap paramsOf (f .left .levels) ∙ params-withLevels area₀ (before .levels) (w .long) (wide .widths) (wide .size)
+  kept = left-params (w .long) wide (f .left)
 
   longer : Long area
   longer = rw (f .area-length, kept) (w .long)
@@ -238,7 +292,7 @@ module _ {key : List ℕ} {params : declared.Params} {constants : List ℕ} {T :
 
   next-is : (c : ℕ) → done + c ≤ piece .count → feedBits P T (take (done + c) Y) (levelsOf area₀) ≡ made (coming c .levels) (before .nodes ++ coming c .nodes)
   next-is c h =
-      let back : before .levels ≡ levelsOf area = sym (ap levelsOf (f .left .levels) ∙ levelsOf-withLevels area₀ (before .levels) (w .long) (wide .widths) (wide .size)) in
+      let back : before .levels ≡ levelsOf area = sym (left-levels (w .long) wide (f .left)) in
       ap (λ (x : List Bool). feedBits P T x (levelsOf area₀)) (take-add done c Y)
       ∙ feedBits-append P T (take done Y) (take c (drop done Y)) (levelsOf area₀)
       ∙ rw (length-take-le done Y (f .within), back, next-bits piece done c h)
@@ -260,25 +314,18 @@ module _ {key : List ℕ} {params : declared.Params} {constants : List ℕ} {T :
         room = omega (arith, w .room, whole, some-nodes, f .left .next, f .log-length);
       }
 
-  pub feeding-more : (c : ℕ) {area′ log′ : List ℕ} {at′ : ℕ} → done + c ≤ piece .count → Leaves (coming c) area log at area′ log′ at′
+  pub feeding-more : (c : ℕ) {area′ log′ : List ℕ} {at′ : ℕ} → done + c ≤ piece .count → Left (coming c) area log at area′ log′ at′
       → Feeding P T Y area₀ log₀ area′ log′ at′ (done + c)
   feeding-more c h F =
       let C : Made = coming c in
-      let n = next-is c h in
       let s = wide-bits P (paramsOf area .limit) (T + done) (partBits (piece .bytes) (8 * byteAfter piece done + bitAfter piece done) c) (levelsOf area) (wide-levels area longer) in
-      let la = ap length (F .levels) ∙ length-withLevels area (C .levels) longer (s .widths) (s .size) in
       let ll = ap length (F .logged) ∙ length-sets log at (nodeLog (C .nodes)) in
       record {
         within = omega (arith, size);
-        area-length = la ∙ f .area-length;
+        area-length = left-length longer s F ∙ f .area-length;
         log-length = ll ∙ f .log-length;
-        left = record {
-          levels = F .levels ∙ ap (λ (x : List ℕ). withLevels x (C .levels)) (f .left .levels) ∙ withLevels-again area₀ (before .levels) (C .levels) (w .long) (wide .widths) (wide .size) ∙ sym (ap (λ (x : Made). withLevels area₀ (x .levels)) n);
-          logged = F .logged ∙ ap (λ (x : List ℕ). sets x at (nodeLog (C .nodes))) (f .left .logged) ∙ ap (λ (k : ℕ). sets (sets log₀ 0 (nodeLog (before .nodes))) k (nodeLog (C .nodes))) (f .left .next)
-              ∙ sym (log-append log₀ 0 (before .nodes) (C .nodes)) ∙ sym (ap (λ (x : Made). sets log₀ 0 (nodeLog (x .nodes))) n);
-          next = omega (arith, F .next, f .left .next, ap (λ (x : Made). length (x .nodes)) n, length-append (before .nodes) (C .nodes));
-        };
+        left = rw (next-is c h) (left-then (w .long) wide (f .left) F);
       }
 
-  pub feeding-all : piece .count ≤ done → Leaves (fedWhole key params T piece area₀) area₀ log₀ 0 area log at
+  pub feeding-all : piece .count ≤ done → Left (fedWhole key params T piece area₀) area₀ log₀ 0 area log at
   feeding-all h = rw (take-all done Y (omega (arith, size))) at (f .left)

@@ -2,14 +2,14 @@
 -- `feedBits` of Calls makes, which goes bit by bit.
 use mathlib.Core.Path.{_≡_, refl, sym, ap, _∙_}
 use mathlib.Core.Bool.{Bool, true, false}
-use mathlib.Core.List.{List, [], _∷_, append-nil}
+use mathlib.Core.List.{List, [], _∷_, _++_, append-nil}
 use Prim.Native.Nat.{ℕ, zero, suc, _+_, _-_, _*_, _^_, _≤_, _<_, min}
 use native.Mathlib.Omega.{arith}
 use mir.Syntax.{w64}
 use mir.Val.{Fits}
 use lib.Dec.{ltb}
-use lib.ListN.{length, getD}
-use lib.Seq.{drop-cons}
+use lib.ListN.{length, take, drop, getD, length-drop}
+use lib.Seq.{drop-cons, drop-drop, take-add, length-take-le}
 use borrow.Author.Tests.{eq-eqb, lt-ltb, le-ltb, ltb-true, ltb-false}
 use Rattle.lists.specs.Below.{Below}
 use Rattle.lists.specs.BelowLaws.{below-append, below-zeros}
@@ -21,12 +21,11 @@ use Rattle.tree.specs.Tree.{Params, Node, node, output, blockBits, sequentialBi
 use Rattle.calls.specs.Area.{emptyLevel, doneBlocks, heldBits}
 use Rattle.calls.specs.Calls.{Made, withBit, outWords, feedBit, feedBits}
 use Rattle.calls.specs.Blocks.{held-most, held-first}
-use Rattle.calls.specs.FeedLaws.{withBits-filled, fill-parallel, fill-sequential}
+use Rattle.calls.specs.FeedLaws.{feedBits-append, withBits-filled, fill-parallel, fill-sequential}
 use Rattle.calls.specs.Machine
-use Rattle.climb.specs.Levels.{length-empty}
+use Rattle.calls.specs.Widths.{length-chained, length-empty}
 use Rattle.climb.specs.ReceiveLaws.{made}
-use Rattle.climb.specs.FlushLaws.{flushed}
-use Rattle.piece.specs.Widths.{length-chained}
+use Rattle.climb.specs.FlushLaws.{flushed, firstOf, restOf, flushedTwo}
 
 -- the bits that level 1 takes, and the bit of its words at which they begin
 abbrev pub sizeOf : ℕ → ℕ
@@ -41,6 +40,14 @@ baseOf limit = blockBits - sizeOf limit
 pub size-pos : (limit : ℕ) → (0 < sizeOf limit) × (sizeOf limit ≤ 4096)
 size-pos zero = (omega arith, omega arith)
 size-pos (suc n) = (omega arith, omega arith)
+
+pub size-none : (limit : ℕ) → limit < 1 → sizeOf limit ≡ sequentialBits
+size-none zero h = refl
+size-none (suc n) h = absurd (omega arith)
+
+pub size-some : (limit : ℕ) → 1 ≤ limit → sizeOf limit ≡ blockBits
+size-some zero h = absurd (omega arith)
+size-some (suc n) h = refl
 
 pub held-le : (limit T : ℕ) → heldBits (sizeOf limit) T ≤ sizeOf limit
 held-le limit T = held-most (sizeOf limit) (size-pos limit .0) T
@@ -71,14 +78,6 @@ module _ (P : Params) where
 
 -- ---- a full level 1
 
-abbrev pub firstOf : List (List ℕ) → List ℕ
-firstOf [] = []
-firstOf (ws ∷ up) = ws
-
-abbrev pub restOf : List (List ℕ) → List (List ℕ)
-restOf [] = []
-restOf (ws ∷ up) = up
-
 -- the bits of a piece, one and the rest
 bits-cons : (bytes : List ℕ) (from c : ℕ) → from < 8 * length bytes
     → partBits bytes from (suc c) ≡ getD (bitsOf 8 bytes) from false ∷ partBits bytes (suc from) c
@@ -92,6 +91,10 @@ bit-filled ws h bytes from b hw hs = rw (bits-cons bytes from 0 hs) at (withBits
 first-size : (P : Params) (limit T : ℕ) (ws : List ℕ) (up : List (List ℕ)) → length (firstOf (flushed P limit T (ws ∷ up) .levels)) ≡ 64
 first-size P zero T ws up = length-chained P (node P 1 (doneBlocks sequentialBits T) 0 0 ws)
 first-size P (suc n) T ws up = length-empty
+
+first-empty : (P : Params) (limit T : ℕ) (ws : List ℕ) (up : List (List ℕ)) → 1 ≤ limit → firstOf (flushed P limit T (ws ∷ up) .levels) ≡ emptyLevel
+first-empty P zero T ws up h = absurd (omega arith)
+first-empty P (suc n) T ws up h = refl
 
 first-below : (P : Params) (limit T : ℕ) (ws : List ℕ) (up : List (List ℕ)) → Below (2 ^ 64) (firstOf (flushed P limit T (ws ∷ up) .levels))
 unfolding outWords emptyLevel
@@ -141,6 +144,45 @@ module _ (P : Params) where
       ∙ Machine.feedBits-more P T b bs (ws ∷ up)
       ∙ rw (full, rest, more) (ap (made (filled W at bytes from (suc c) ∷ restOf (F .levels))) (append-nil (F .nodes)))
 
+-- ---- a full level 1, and a block and more that come to it
+
+-- bits cut in two
+bits-cut : (bytes : List ℕ) (from m n : ℕ) → partBits bytes from (m + n) ≡ partBits bytes from m ++ partBits bytes (from + m) n
+bits-cut bytes from m n =
+    let B : List Bool = bitsOf 8 bytes in
+    take-add m n (drop from B) ∙ ap (λ (x : List Bool). take m (drop from B) ++ take n x) (drop-drop m from B)
+
+length-part : (bytes : List ℕ) (from m : ℕ) → from + m ≤ 8 * length bytes → length (partBits bytes from m) ≡ m
+length-part bytes from m h = length-take-le m (drop from (bitsOf 8 bytes)) (simp (length-drop, length-bitsOf) (omega arith))
+
+-- a block is done, and the next is full
+held-block : (T : ℕ) → heldBits blockBits T ≡ blockBits → heldBits blockBits (T + blockBits) ≡ blockBits
+held-block T h = omega arith
+
+module _ (P : Params) where
+  -- the next block, and then bits that fit the one after it
+  pub full-two : (count T from : ℕ) (ws bytes : List ℕ) (up : List (List ℕ)) → 1 ≤ P .limit → heldBits blockBits T ≡ blockBits → 1 ≤ count
+      → count ≤ blockBits → from + (blockBits + count) ≤ 8 * length bytes
+      → feedBits P T (partBits bytes from (blockBits + count)) (ws ∷ up)
+      ≡ (let F : Made = flushedTwo P (P .limit) T (filled emptyLevel 0 bytes from blockBits) (ws ∷ up) in made (filled (firstOf (F .levels)) 0 bytes (from + blockBits) count ∷ restOf (F .levels)) (F .nodes))
+  full-two count T from ws bytes up some e l h g =
+      let limit : ℕ = P .limit in
+      let size : sizeOf limit ≡ blockBits = size-some limit some in
+      let base : baseOf limit ≡ 0 = ap (λ (x : ℕ). blockBits - x) size in
+      let next : List ℕ = filled emptyLevel 0 bytes from blockBits in
+      let one : Made = flushed P limit T (ws ∷ up) in
+      let two : Made = flushed P limit (T + blockBits) (next ∷ restOf (one .levels)) in
+      let a : feedBits P T (partBits bytes from blockBits) (ws ∷ up) ≡ made (next ∷ restOf (one .levels)) (one .nodes) =
+      full-chunk P blockBits T from ws bytes up (rw size e) (omega arith) (rw size (omega arith)) (omega arith)
+      ∙ rw (base, first-empty P limit T ws up some) refl in
+      let b : feedBits P (T + blockBits) (partBits bytes (from + blockBits) count) (next ∷ restOf (one .levels))
+      ≡ made (filled (firstOf (two .levels)) 0 bytes (from + blockBits) count ∷ restOf (two .levels)) (two .nodes) =
+      full-chunk P count (T + blockBits) (from + blockBits) next bytes (restOf (one .levels)) (rw size (held-block T e)) l (rw size h) (omega arith)
+      ∙ rw base refl in
+      ap (λ (x : List Bool). feedBits P T x (ws ∷ up)) (bits-cut bytes from blockBits count)
+      ∙ feedBits-append P T (partBits bytes from blockBits) (partBits bytes (from + blockBits) count) (ws ∷ up)
+      ∙ rw (a, length-part bytes from blockBits (omega arith), b)
+
 -- ---- as the code does it
 
 -- the bits that level 1 takes before a node is made: the last of its words' bits
@@ -155,30 +197,48 @@ pub free-le : (limit T : ℕ) → freeOf limit T ≤ 4096
 free-le zero T = omega arith
 free-le (suc n) T = omega arith
 
--- the bits that it takes next: before a node is made, or after it if it is full
+-- the bits that a full level 1 takes next: of two blocks, whose nodes are made at once; of one if it is sequential
+abbrev pub nextOf : ℕ → ℕ
+nextOf zero = sequentialBits
+nextOf (suc n) = 2 * blockBits
+
+-- the bits that level 1 takes next: before a node is made, or after that if it is full
 abbrev pub roomOf : ℕ → ℕ → ℕ
-roomOf limit T = elim (ltb 0 (freeOf limit T)) [ true ↦ freeOf limit T | false ↦ sizeOf limit ]
+roomOf limit T = elim (ltb 0 (freeOf limit T)) [ true ↦ freeOf limit T | false ↦ nextOf limit ]
 
 pub room-free : (limit T : ℕ) → 0 < freeOf limit T → roomOf limit T ≡ freeOf limit T
 room-free limit T h = rw (lt-ltb 0 (freeOf limit T) h, roomOf)
 
-pub room-full : (limit T : ℕ) → freeOf limit T ≤ 0 → roomOf limit T ≡ sizeOf limit
+pub room-full : (limit T : ℕ) → freeOf limit T ≤ 0 → roomOf limit T ≡ nextOf limit
 room-full limit T h = rw (le-ltb 0 (freeOf limit T) h, roomOf)
 
 room-by : (limit T : ℕ) (b : Bool) → ltb 0 (freeOf limit T) ≡ b → 1 ≤ roomOf limit T
 room-by limit T true e = rw (room-free limit T (ltb-true 0 (freeOf limit T) e)) (omega (arith, ltb-true 0 (freeOf limit T) e))
-room-by limit T false e = rw (room-full limit T (ltb-false 0 (freeOf limit T) e)) (size-pos limit .0)
+room-by limit T false e = rw (room-full limit T (ltb-false 0 (freeOf limit T) e)) (next-pos limit)
+  where
+    next-pos : (limit : ℕ) → 1 ≤ nextOf limit
+    next-pos zero = omega arith
+    next-pos (suc n) = omega arith
 
 pub room-some : (limit T : ℕ) → 1 ≤ roomOf limit T
 room-some limit T = room-by limit T (ltb 0 (freeOf limit T)) refl
 
-pub size-none : (limit : ℕ) → limit < 1 → sizeOf limit ≡ sequentialBits
-size-none zero h = refl
-size-none (suc n) h = absurd (omega arith)
+pub next-none : (limit : ℕ) → limit < 1 → nextOf limit ≡ sequentialBits
+next-none zero h = refl
+next-none (suc n) h = absurd (omega arith)
 
-pub size-some : (limit : ℕ) → 1 ≤ limit → sizeOf limit ≡ blockBits
-size-some zero h = absurd (omega arith)
-size-some (suc n) h = refl
+pub next-some : (limit : ℕ) → 1 ≤ limit → nextOf limit ≡ 2 * blockBits
+next-some zero h = absurd (omega arith)
+next-some (suc n) h = refl
+
+-- of the bits that a full level 1 takes, a block at most is taken after one node; only a parallel one takes more
+pub next-one : (limit : ℕ) {count : ℕ} → count ≤ nextOf limit → count ≤ blockBits → count ≤ sizeOf limit
+next-one zero h g = h
+next-one (suc n) h g = g
+
+pub next-two : (limit : ℕ) {count : ℕ} → count ≤ nextOf limit → blockBits < count → (1 ≤ limit) × (sizeOf limit ≡ blockBits)
+next-two zero h g = absurd (omega arith)
+next-two (suc n) h g = (omega arith, refl)
 
 -- the places of count bits among the last size bits of level 1
 pub base-place : {size count : ℕ} → size ≤ 4096 → count ≤ size → (4096 - size) + count ≤ 4096

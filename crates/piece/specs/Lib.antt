@@ -1,4 +1,3 @@
 pub mod ChunkLaws
 pub mod FeedSteps
 pub mod PieceLaws
-pub mod Widths

@@ -17,10 +17,11 @@ use Rattle.calls.specs.WriteLaws.{set-withLevels}
 use Rattle.area.specs.CountLaws.{openAbove-le}
 use Rattle.node.specs.Words.{paramsFrom}
 use Rattle.climb.specs.ReceiveLaws.{log-written}
+use Rattle.climb.specs.Left.{Left}
 use Rattle.climb.specs.OpenArea.{OpenArea, numbered, open-done}
 use Rattle.calls.specs.Accepts.{fed-count}
 use Rattle.piece.specs.FeedSteps.{partBits}
-use Rattle.piece.specs.ChunkLaws.{Part, fedPart, fedWhole, Leaves}
+use Rattle.piece.specs.ChunkLaws.{Part, fedPart, fedWhole}
 
 -- the nodes that n bits make, and those made before
 pub made-count : {area : List ℕ} → OpenArea area → (n : ℕ) (Y : List Bool) → length Y ≡ n → totalOf area + n < 2 ^ 64
@@ -79,7 +80,7 @@ pub record FedPiece (area : List ℕ) (piece : Piece) (log area′ log′ : List
   pub made : count ≡ length (fedBits area (pieceBits piece) .nodes)
 
 module _ {area log : List ℕ} {piece : Piece} (p : FeedPassed area piece log) {area′ log′ : List ℕ} {words : ℕ}
-    (l : Leaves (fedBits area (pieceBits piece)) area log 0 area′ log′ words) where
+    (l : Left (fedBits area (pieceBits piece)) area log 0 area′ log′ words) where
   half : words / 2 ≡ length (fedBits area (pieceBits piece) .nodes)
   half = omega (arith, l .next)
 

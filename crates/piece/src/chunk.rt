@@ -1,12 +1,14 @@
 // The bits of a piece, as many at a time as level 1 takes.
 ghost use mathlib.Core.Path.{_≡_};
-ghost use Prim.Native.Nat.{_+_, _*_, _≤_, min};
+ghost use Prim.Native.Nat.{_+_, _*_, _≤_, _<_, min};
 ghost use Rattle.bits.specs.Bits.{filled};
 ghost use Rattle.bits.specs.PieceLaws.{spanned};
+ghost use Rattle.tree.specs.Tree.{blockBits};
 ghost use Rattle.calls.specs.Area.{levelWords};
 ghost use Rattle.climb.specs.Levels.{withLevel};
-ghost use Rattle.piece.specs.FeedSteps.{sizeOf, freeOf, roomOf};
-ghost use Rattle.piece.specs.ChunkLaws.{Part, fedPart, Chunk, fedWhole, Whole, Leaves};
+ghost use Rattle.climb.specs.Left.{Left};
+ghost use Rattle.piece.specs.FeedSteps.{sizeOf, freeOf, nextOf, roomOf};
+ghost use Rattle.piece.specs.ChunkLaws.{Part, fedPart, Chunk, fedWhole, Whole};
 use area::Area;
 use area::count;
 use bits::Span;
@@ -31,7 +33,18 @@ pub fn free_of(limit: u64, total: u64) -> u64
     size - count::held_bits(size, total)
 }
 
-// The bits that level 1 takes next; all of a block if it is full, since it is compressed when the next bit comes.
+// The bits that a full level 1 takes next: those of two blocks, since two nodes are made at once, and of one at a sequential level,
+// whose next node takes the output of the one before it.
+fn next_of(limit: u64) -> u64
+    ensures { λ r. ⌜ r ≡ nextOf limit ⌝ }
+{
+    if limit < 1 {
+        return Block::SEQUENTIAL_BITS;
+    }
+    2 * Block::BITS
+}
+
+// The bits that level 1 takes next. A full one takes some, too, since it is compressed when the next bit comes.
 fn room_of(limit: u64, total: u64) -> u64
     ensures { λ r. ⌜ r ≡ roomOf limit total ⌝ }
 {
@@ -39,7 +52,7 @@ fn room_of(limit: u64, total: u64) -> u64
     if 0 < free {
         return free;
     }
-    size_of(limit)
+    next_of(limit)
 }
 
 // Copies bits of a piece, from a bit of a byte on, into level 1, through its own part of the area.
@@ -57,6 +70,34 @@ pub fn fill_level(area: &mut [u64], place: u64, piece: &[u8], byte: usize, bit: 
     );
 }
 
+// Feeds to a full level 1 more bits of a piece than a block has, and answers where the log goes on. Two nodes are made at once: of the
+// block that level 1 holds, and of the next, which stands whole in the piece; as level 1 never holds it, it does not go through the area.
+fn feed_two(
+    area: &mut [u64],
+    params: Params,
+    key: &[u64],
+    constants: &[u64],
+    total: u64,
+    piece: &[u8],
+    byte: usize,
+    bit: usize,
+    count: u64,
+    log: &mut [u64],
+    at: usize,
+) -> usize
+    requires { ⌜ Chunk (now key) params (now constants) total (now area) (now piece) byte bit count (now log) at ⌝ }
+    requires { ⌜ (freeOf (params .limit) total ≤ 0) × (blockBits < count) ⌝ }
+    ensures { λ r. ⌜ Left (fedPart (now (key .entry)) params total (now (piece .entry)) byte bit count (now (area .entry))) (now (area .entry)) (now (log .entry)) at (now (area .exit)) (now (log .exit)) r ⌝ }
+{
+    let empty = Block::new();
+    let mut block = empty.words;
+    bits::fill(&mut block, 0, piece, byte, bit, Block::BITS as usize);
+    let next = climb::flush_two(&mut *area, params, key, constants, total, &block, log, at);
+    let after = byte + Block::BYTES as usize;
+    fill_level(&mut *area, 0, piece, after, bit, count - Block::BITS);
+    next
+}
+
 // Feeds bits of a piece that level 1 takes at once, and answers where the log goes on.
 fn feed_chunk(
     area: &mut [u64],
@@ -72,12 +113,27 @@ fn feed_chunk(
     at: usize,
 ) -> usize
     requires { ⌜ Chunk (now key) params (now constants) total (now area) (now piece) byte bit count (now log) at ⌝ }
-    ensures { λ r. ⌜ Leaves (fedPart (now (key .entry)) params total (now (piece .entry)) byte bit count (now (area .entry))) (now (area .entry)) (now (log .entry)) at (now (area .exit)) (now (log .exit)) r ⌝ }
+    ensures { λ r. ⌜ Left (fedPart (now (key .entry)) params total (now (piece .entry)) byte bit count (now (area .entry))) (now (area .entry)) (now (log .entry)) at (now (area .exit)) (now (log .exit)) r ⌝ }
 {
     let free = free_of(params.limit, total);
     if 0 < free {
         fill_level(&mut *area, Block::BITS - free, piece, byte, bit, count);
         return at;
+    }
+    if Block::BITS < count {
+        return feed_two(
+            area,
+            params,
+            key,
+            constants,
+            total,
+            piece,
+            byte,
+            bit,
+            count,
+            log,
+            at,
+        );
     }
     let next = climb::flush(&mut *area, params, key, constants, total, log, at);
     let size = size_of(params.limit);
@@ -97,7 +153,7 @@ pub fn feed_bits(
     log: &mut [u64],
 ) -> usize
     requires { ⌜ Whole (now key) params (now constants) total (now area) (spanned (now piece) span) (now log) ⌝ }
-    ensures { λ r. ⌜ Leaves (fedWhole (now (key .entry)) params total (spanned (now (piece .entry)) span) (now (area .entry))) (now (area .entry)) (now (log .entry)) 0 (now (area .exit)) (now (log .exit)) r ⌝ }
+    ensures { λ r. ⌜ Left (fedWhole (now (key .entry)) params total (spanned (now (piece .entry)) span) (now (area .entry))) (now (area .entry)) (now (log .entry)) 0 (now (area .exit)) (now (log .exit)) r ⌝ }
 {
     let mut done: u64 = 0;
     let mut at: usize = 0;

@@ -3,7 +3,7 @@ ghost use Rattle.bits.specs.Piece.{pieceBits};
 ghost use Rattle.bits.specs.PieceLaws.{spanned};
 ghost use Rattle.calls.specs.Calls.{fedBits};
 ghost use Rattle.calls.specs.CallLaws.{FeedPassed};
-ghost use Rattle.piece.specs.ChunkLaws.{Leaves};
+ghost use Rattle.climb.specs.Left.{Left};
 ghost use Rattle.piece.specs.PieceLaws.{FedPiece};
 use area::Area;
 use bits::Span;
@@ -16,7 +16,7 @@ mod chunk; // chunk.rt: the bits of a piece, as many at a time as level 1 takes
 // copied once.
 fn feed_nodes(area: &mut [u64], piece: &[u8], span: Span, log: &mut [u64]) -> usize
     requires { ⌜ FeedPassed (now area) (spanned (now piece) span) (now log) ⌝ }
-    ensures { λ r. ⌜ Leaves (fedBits (now (area .entry)) (pieceBits (spanned (now (piece .entry)) span))) (now (area .entry)) (now (log .entry)) 0 (now (area .exit)) (now (log .exit)) r ⌝ }
+    ensures { λ r. ⌜ Left (fedBits (now (area .entry)) (pieceBits (spanned (now (piece .entry)) span))) (now (area .entry)) (now (log .entry)) 0 (now (area .exit)) (now (log .exit)) r ⌝ }
 {
     let params = Area::params(area);
     let total = area[Area::TOTAL];
@@ -30,7 +30,7 @@ fn feed_nodes(area: &mut [u64], piece: &[u8], span: Span, log: &mut [u64]) -> us
 // are only copied into it.
 fn feed_levels(area: &mut [u64], piece: &[u8], span: Span, log: &mut [u64]) -> usize
     requires { ⌜ FeedPassed (now area) (spanned (now piece) span) (now log) ⌝ }
-    ensures { λ r. ⌜ Leaves (fedBits (now (area .entry)) (pieceBits (spanned (now (piece .entry)) span))) (now (area .entry)) (now (log .entry)) 0 (now (area .exit)) (now (log .exit)) r ⌝ }
+    ensures { λ r. ⌜ Left (fedBits (now (area .entry)) (pieceBits (spanned (now (piece .entry)) span))) (now (area .entry)) (now (log .entry)) 0 (now (area .exit)) (now (log .exit)) r ⌝ }
 {
     let free = chunk::free_of(area[Area::LIMIT], area[Area::TOTAL]);
     if free < span.bits {

@@ -1,22 +1,22 @@
 -- `climb::flush` meets its contract.
 use native.Mathlib.Omega.{arith}
 use Rattle.area.specs.CountLaws.{done-fits}
-use Rattle.climb.specs.FlushLaws.{flush-room, flush-chained, flush-coming, flush-up}
+use Rattle.climb.specs.FlushLaws.{flush-room, flush-chained, flush-passing, flush-passed}
 use Rattle.climb.proofs.flush.Statement.{statement}
 use Rattle.climb.proofs.flush.Tie as tie
 
 make-level-requires : tie.Need-make-level-requires
 make-level-requires c κs =
     let done = c .before .before in
-    let start = done .before .before .before .before .before .before in
-    (start .pre .ready, omega (arith, flush-room (start .pre), done .done-blocks .ensures, done-fits (start .args .total) (start .fits .total .fits) .1))
+    let test = done .before in
+    let start = test .before .before .before .before .before .before in
+    (start .pre .ready, omega (arith, flush-room (start .pre) (test .if1 .taken), done .done-blocks .ensures, done-fits (start .args .total) (start .fits .total .fits) .1))
 
 add-result : tie.Need-add-result
 add-result c =
-    let chain-level = c .before .before in
-    let make-level = chain-level .before .before .before .before .before in
-    let start = make-level .before .before .before .before .before .before .before .before .before in
-    omega (arith, flush-room (start .pre), start .good)
+    let test = c .before .before .before .before .before .before .before .before .before .before .before in
+    let start = test .before .before .before .before .before .before in
+    omega (arith, flush-room (start .pre) (test .if1 .taken), start .good)
 
 returns : tie.Need-returns
 returns c =
@@ -24,46 +24,44 @@ returns c =
     let make-level = chain-level .before .before .before .before .before in
     let done = make-level .before .before .before in
     let test = done .before in
-    let start = test .before .before .before .before .before in
+    let start = test .before .before .before .before .before .before in
     flush-chained (start .pre) (test .if1 .taken) (done .done-blocks .ensures) (make-level .make-level .ensures) (chain-level .chain-level .ensures)
 
-make-level-requires-2 : tie.Need-make-level-requires-2
-make-level-requires-2 c κs =
-    let done = c .before .before in
-    let start = done .before .before .before .before .before .before in
-    (start .pre .ready, omega (arith, flush-room (start .pre), done .done-blocks2 .ensures, done-fits (start .args .total) (start .fits .total .fits) .0))
+compress-node-requires : tie.Need-compress-node-requires
+compress-node-requires c κs =
+    let place = c .before .before in
+    let done = place .before in
+    let start = done .before .before .before .before .before .before .before in
+    (start .pre .ready, rw (place .full-place .ensures) (omega (arith, done .done-blocks2 .ensures, done-fits (start .args .total) (start .fits .total .fits) .0)))
 
-add-receive : tie.Need-add-receive
-add-receive c =
-    let clear-level = c .before .before .before .before in
-    let make-level = clear-level .before .before .before .before in
-    let start = make-level .before .before .before .before .before .before .before .before .before in
-    omega (arith, flush-room (start .pre), start .good)
-
-receive-requires : tie.Need-receive-requires
-receive-requires c κs =
-    let clear-level = c .before .before .before .before in
-    let make-level = clear-level .before .before .before .before in
-    let done = make-level .before .before .before in
+pass-on-requires : tie.Need-pass-on-requires
+pass-on-requires c κs =
+    let made = c .before .before in
+    let level = made .before in
+    let place = level .before .before in
+    let done = place .before in
     let test = done .before in
-    let start = test .before .before .before .before .before in
+    let start = test .before .before .before .before .before .before in
     let d = done .done-blocks2 .ensures in
-    flush-coming (start .pre) (test .if1 .left) d (make-level .make-level2 .ensures) (clear-level .clear-level .ensures) (omega (arith, d, done-fits (start .args .total) (start .fits .total .fits) .0))
+    let o = rw (place .full-place .ensures, level .level .ensures .0 .words) at (made .compress-node .ensures) in
+    flush-passing (start .pre) (test .if1 .left) d o (omega (arith, d, done-fits (start .args .total) (start .fits .total .fits) .0))
 
 returns-2 : tie.Need-returns-2
 returns-2 c =
-    let receive = c .before .before .before .before in
-    let clear-level = receive .before .before .before .before .before in
-    let make-level = clear-level .before .before .before .before in
-    let done = make-level .before .before .before in
+    let pass-on = c .before .before .before .before in
+    let made = pass-on .before .before .before in
+    let level = made .before in
+    let place = level .before .before in
+    let done = place .before in
     let test = done .before in
-    let start = test .before .before .before .before .before in
-    flush-up (start .pre) (test .if1 .left) (done .done-blocks2 .ensures) (make-level .make-level2 .ensures) (clear-level .clear-level .ensures) (receive .receive .ensures)
+    let start = test .before .before .before .before .before .before in
+    let o = rw (place .full-place .ensures, level .level .ensures .0 .words) at (made .compress-node .ensures) in
+    flush-passed (start .pre) (test .if1 .left) (done .done-blocks2 .ensures) o (pass-on .pass-on .ensures)
 
 pub flush-spec : {M : Type 1} → statement M
 flush-spec =
     tie.close
     (tie.spec
     (λ c κs. omega arith) make-level-requires (λ c. omega arith) (λ c κs. omega arith) add-result
-    (λ c. omega arith) (λ c. omega arith) returns (λ c κs. omega arith) make-level-requires-2
-    (λ c κs. omega arith) add-receive receive-requires (λ c. omega arith) (λ c. omega arith) returns-2)
+    (λ c. omega arith) (λ c. omega arith) returns (λ c κs. omega arith) (λ c κs. omega arith) (λ c κs. omega arith)
+    compress-node-requires pass-on-requires (λ c. omega arith) (λ c. omega arith) returns-2)

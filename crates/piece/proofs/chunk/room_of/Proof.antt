@@ -15,7 +15,7 @@ returns c =
 returns-2 : tie.Need-returns-2
 returns-2 c =
     let a = c .before .before .before .args in
-    c .size-of .ensures ∙ sym (room-full (a .limit) (a .total) (le-at (c .before .before .free-of .ensures) refl (c .before .if1 .left)))
+    c .next-of .ensures ∙ sym (room-full (a .limit) (a .total) (le-at (c .before .before .free-of .ensures) refl (c .before .if1 .left)))
 
 pub room-of-spec : {M : Type 1} → statement M
 room-of-spec = tie.close (tie.spec (λ c κs. omega arith) returns (λ c κs. omega arith) returns-2)

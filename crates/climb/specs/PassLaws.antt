@@ -1,0 +1,98 @@
+-- Laws: the output of a node of level 1 goes up. What the code leaves then.
+use mathlib.Core.Path.{_≡_, refl, sym, _∙_}
+use mathlib.Core.List.{List, [], _∷_}
+use Prim.Native.Nat.{ℕ, _+_, _-_, _*_, _^_, _≤_, _<_}
+use native.Mathlib.Omega.{arith}
+use lib.ListN.{length}
+use lib.Seq.{sets, length-sets}
+use Rattle.refusals.specs.declared.Params as declared
+use Rattle.tree.specs.Tree.{Params, Node, nodeU, nodeV, node}
+use Rattle.calls.specs.Area.{outputWords, Long, paramsOf, levelsUp, emptyLevel}
+use Rattle.calls.specs.Calls.{Made, outWords, receive, nodeLog}
+use Rattle.node.specs.Words.{sized, nodeWords, paramsFrom, Ready}
+use Rattle.node.specs.WordLaws.{v-made}
+use Rattle.climb.specs.Levels.{withLevel, Level, up-step, other-up, length-with, params-with, length-empty, first-level, with-up}
+use Rattle.climb.specs.MakeLaws.{node-out}
+use Rattle.climb.specs.ReceiveLaws.{made, received, Climbed, Coming, log-more}
+use Rattle.climb.specs.Left.{Left}
+
+-- a node of a parallel level 1 is made: level 1 is empty, and the node's output goes to level 2; from there on n levels may be parallel
+abbrev pub passed : Params → ℕ → ℕ → Node → List ℕ → List (List ℕ) → Made
+passed P n index m out up =
+    let above : Made = receive P n 2 index out up in
+    made (emptyLevel ∷ above .levels) (m ∷ above .nodes)
+
+-- the same from the words of its output, as the code does it, which no longer has the block. The node here has no block: the log has U
+-- and V of a node and no word of its block, and `passed-node` gives it the block with that output.
+abbrev pub passedWords : Params → ℕ → ℕ → List ℕ → List ℕ → Made
+passedWords P limit index out area = passed P (limit - 1) index (node P 1 index 0 0 []) out (levelsUp area 2)
+
+-- what the code needs where level 1 is parallel
+pub record Parallel (key : List ℕ) (params : declared.Params) (constants area : List ℕ) : Type 0 where
+  pub ready : Ready key params constants
+  pub long : Long area
+  pub own : paramsOf area .limit ≡ params .limit
+  pub some : 1 ≤ params .limit
+
+-- and to pass an output on
+pub record Passing (key : List ℕ) (params : declared.Params) (constants : List ℕ) (index : ℕ) (out area log : List ℕ) (at : ℕ) : Type 0 where
+  pub parallel : Parallel key params constants area
+  pub small : index < 2 ^ 56
+  pub words : length out ≡ outputWords
+  pub room : at + 2 * length (passedWords (paramsFrom key params) (params .limit) index out area .nodes) ≤ length log
+
+-- the node has any block with that output
+pub passed-node : (P : Params) (limit index : ℕ) {out area log : List ℕ} {at : ℕ} {area′ log′ : List ℕ} {at′ : ℕ} (block : List ℕ)
+    → out ≡ nodeWords P 1 index 0 0 block → Left (passedWords P limit index out area) area log at area′ log′ at′
+    → (let m : Node = node P 1 index 0 0 block in Left (passed P (limit - 1) index m (outWords P m) (levelsUp area 2)) area log at area′ log′ at′)
+passed-node P limit index block e l =
+    rw (sym (e ∙ node-out P 1 index 0 0 block)) record { levels = l .levels; logged = l .logged; next = l .next }
+
+module _ {key : List ℕ} {params : declared.Params} {constants : List ℕ} {index : ℕ} {out area log : List ℕ} {at : ℕ}
+    (p : Passing key params constants index out area log at) where
+  abbrev P : Params
+  P = paramsFrom key params
+
+  abbrev limit : ℕ
+  limit = params .limit
+
+  abbrev noBlock : Node
+  noBlock = node P 1 index 0 0 []
+
+  first : Level area 1
+  first = first-level (p .parallel .long)
+
+  same : paramsOf (withLevel area 1 emptyLevel) ≡ paramsOf area
+  same = params-with first emptyLevel length-empty
+
+  -- the log has room for the node
+  pub pass-room : at + 2 ≤ length log
+  pass-room = omega (arith, p .room)
+
+  module _ {log₁ area₁ : List ℕ} (l₁ : log₁ ≡ sets log at (nodeU 1 index ∷ nodeV (sized params) 0 0 ∷ [])) (e₁ : area₁ ≡ withLevel area 1 emptyLevel) where
+    l : log₁ ≡ sets log at (nodeLog (noBlock ∷ []))
+    l = rw (v-made (p .parallel .ready) 0 0) at l₁
+
+    above-is : received P (limit - 1) 2 index out area₁ ≡ received P (limit - 1) 2 index out area
+    above-is = rw (e₁, other-up first emptyLevel length-empty) refl
+
+    pub pass-coming : Coming key params constants (limit - 1) 2 index out area₁ log₁ (at + 2)
+    pass-coming = record {
+      ready = p .parallel .ready;
+      level = record { long = rw (e₁, length-with first emptyLevel length-empty, same) (p .parallel .long); low = omega arith; high = rw (e₁, same) (omega (arith, p .parallel .own, p .parallel .some)) };
+      left = rw (e₁, same) (omega (arith, p .parallel .own, p .parallel .some));
+      small = p .small;
+      words = p .words;
+      room = rw (above-is, l, length-sets log at (nodeLog (noBlock ∷ []))) (omega (arith, p .room));
+    }
+
+    pub pass-up : {area′ log′ : List ℕ} {at′ : ℕ} → Climbed 2 (received P (limit - 1) 2 index out area₁) area₁ log₁ (at + 2) area′ log′ at′
+        → Left (passedWords P limit index out area) area log at area′ log′ at′
+    pass-up c₁ =
+        let above : Made = received P (limit - 1) 2 index out area in
+        let c : Climbed 2 above area₁ log₁ (at + 2) _ _ _ = rw above-is at c₁ in
+        record {
+          levels = c .levels ∙ rw e₁ (sym (up-step first emptyLevel length-empty (above .levels))) ∙ sym (with-up area (emptyLevel ∷ above .levels));
+          logged = c .logged ∙ rw l (sym (log-more log at noBlock (above .nodes)));
+          next = omega (arith, c .next);
+        }

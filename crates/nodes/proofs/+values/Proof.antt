@@ -1,0 +1,173 @@
+-- `nodes::values` meets its contract. The level falls at each call of itself. The loop's invariant: the words hold the values of the first
+-- j nodes.
+use Rattle.nodes.specs.Value.{held, childWords}
+use Rattle.nodes.specs.BlockLaws.{child-none, child-index, node-index, block-above, child-made}
+use Rattle.node.specs.Words.{paramsFrom}
+use Rattle.node.specs.WordLaws.{length-nodeWords}
+use Rattle.nodes.specs.Value as spec
+use Rattle.bits.specs.Piece.{pieceBits}
+use Rattle.bits.specs.PieceLaws.{spanned}
+use lib.ListN.{length}
+use Prim.Native.Nat.{_≤_, _-_, _+_, _<_, ℕ}
+use mathlib.Core.List.{List}
+use mathlib.Core.Path.{_≡_, refl, ap, sym, _∙_}
+use borrow.Author.Needs.{needs}
+use native.Mathlib.Omega.{arith}
+use borrow.Fn.Kinds.{In}
+use borrow.Fn.PlainCycle.{Measures, is, falls, and}
+use Rattle.nodes.proofs.values.Reads as values
+use Rattle.nodes.proofs.values.Kinds as values-kinds
+use Rattle.nodes.proofs.+values.Lts-values as values-lts
+use Rattle.nodes.proofs.leaves.Reads as leaves-reads
+use Rattle.nodes.proofs.one_value.Reads as one-value-reads
+use Rattle.nodes.proofs.shape.nodes_at.Reads as nodes-at-reads
+use Rattle.nodes.proofs.shape.taken.Reads as taken-reads
+use Rattle.words.proofs.copy.Reads as copy-reads
+use Rattle.nodes.proofs.+values.{statement}
+use Rattle.nodes.proofs.+values.Tie.{close}
+
+abbrev μ-values : Measures 3 values-kinds.ps ℕ
+μ-values κs a = a .1 .1 .1 .1 .1 .0
+
+abbrev values-at : ℕ → In 3 values-kinds.ps
+values-at t = and 3 values-kinds.ps (is 3 values-kinds.ps μ-values t) values.Pre
+
+abbrev values-below : ℕ → In 3 values-kinds.ps
+values-below t = and 3 values-kinds.ps (falls 3 values-kinds.ps _<_ μ-values t) values.Pre
+
+-- what the functions that it calls ask and ensure, itself among them for a lower level
+abbrev callees : ℕ → values-lts.Claims
+callees t = (
+  leaves-reads.Asked,
+  leaves-reads.Learnt,
+  nodes-at-reads.Asked,
+  nodes-at-reads.Learnt,
+  taken-reads.Asked,
+  taken-reads.Learnt,
+  values-below t,
+  values.Post,
+  one-value-reads.Asked,
+  one-value-reads.Learnt,
+  copy-reads.Asked,
+  copy-reads.Learnt,
+)
+
+abbrev Inv-loop : values-lts.InvT-loop
+Inv-loop message span params k constants level index n below words₀ j₀ words j = (j ≤ n) × (words ≡ childWords (λ i. spec.value (paramsFrom k params) (pieceBits (spanned message span)) level i 0) 4 index j) × (length words ≡ 64)
+
+abbrev μ-loop : values-lts.MeasureT-loop
+μ-loop message span params k constants level index n below words₀ j₀ words j = n - j
+
+leaves-requires : (t : ℕ) → values-lts.Need-leaves-requires (callees t) (values-at t) values.Post Inv-loop μ-loop
+leaves-requires t c κs = let s = c .before .before .before .before in (s .pre .1 .0, (s .pre .1 .1 .2, rw (c .if1 .taken) at (s .pre .1 .1 .3)))
+
+returns : (t : ℕ) → values-lts.Need-returns (callees t) (values-at t) values.Post Inv-loop μ-loop
+returns t c =
+    let a = c .before .before .before .before .before .args in
+    c .leaves .ensures
+    ∙ ap (λ (l : ℕ). childWords (λ i. spec.value (paramsFrom (a .k .now) (a .params)) (pieceBits (spanned (a .message .now) (a .span))) l i 0) 4 (a .index) (a .n)) (sym (c .before .if1 .taken))
+
+nodes-at-requires : (t : ℕ) → values-lts.Need-nodes-at-requires (callees t) (values-at t) values.Post Inv-loop μ-loop
+nodes-at-requires t c κs = let s = c .before .before .before .before in omega (arith, s .pre .1 .1 .0, c .if1 .left)
+
+loop-holds : (t : ℕ) → values-lts.Need-loop-holds (callees t) (values-at t) values.Post Inv-loop μ-loop
+loop-holds t c =
+    let a = c .before .before .before .before .before .args in
+    (omega arith, child-none (λ i. spec.value (paramsFrom (a .k .now) (a .params)) (pieceBits (spanned (a .message .now) (a .span))) (a .level) i 0) 4 (a .index), refl)
+
+add-i : (t : ℕ) → values-lts.Need-add-i (callees t) (values-at t) values.Post Inv-loop μ-loop
+add-i t c =
+    let at = c .before in
+    let s = at .before .before .before .before .before .before in
+    record { fits = omega (arith, node-index (s .args .span .bits) (s .args .level) (s .args .index + at .loop .j) (omega (arith, s .good .1 .0)) (s .pre .1 .1 .0) (omega (arith, s .pre .1 .1 .3, c .loop-test .taken))) }
+
+taken-requires : (t : ℕ) → values-lts.Need-taken-requires (callees t) (values-at t) values.Post Inv-loop μ-loop
+taken-requires t c κs =
+    let at = c .before in
+    let s = at .before .before .before .before .before .before in
+    rw (at .before .nodes-at .ensures) (child-index (s .args .span .bits) (s .args .level) (s .args .index + at .loop .j) (omega (arith, s .pre .1 .1 .0, at .before .before .if1 .left)) (omega (arith, s .pre .1 .1 .3, c .loop-test .taken)))
+
+mul-values : (t : ℕ) → values-lts.Need-mul-values (callees t) (values-at t) values.Post Inv-loop μ-loop
+mul-values t c =
+    let at = c .before .before in
+    let s = at .before .before .before .before .before .before in
+    record { fits = omega (arith, node-index (s .args .span .bits) (s .args .level) (s .args .index + at .loop .j) (omega (arith, s .good .1 .0)) (s .pre .1 .1 .0) (omega (arith, s .pre .1 .1 .3, c .before .loop-test .taken))) }
+
+values-requires : (t : ℕ) → values-lts.Need-values-requires (callees t) (values-at t) values.Post Inv-loop μ-loop
+values-requires t c κs =
+    let at = c .before .before in
+    let s = at .before .before .before .before .before .before in
+    let one = at .before .before .if1 .left in
+    let i = child-index (s .args .span .bits) (s .args .level) (s .args .index + at .loop .j) (omega (arith, s .pre .1 .1 .0, one)) (omega (arith, s .pre .1 .1 .3, c .before .loop-test .taken)) in (
+      omega (arith, s .pre .0, s .pre .1 .1 .0),
+      (
+        s .pre .1 .0,
+        (
+          omega (arith, s .pre .1 .1 .0, one),
+          omega (arith, s .pre .1 .1 .1),
+          omega (arith, c .taken .ensures),
+          omega (arith, c .taken .ensures, at .before .nodes-at .ensures, i),
+        ),
+      ),
+    )
+
+one-value-requires : (t : ℕ) → values-lts.Need-one-value-requires (callees t) (values-at t) values.Post Inv-loop μ-loop
+one-value-requires t c κs =
+    let test = c .before .before .before in
+    let s = test .before .before .before .before .before .before .before in
+    (s .pre .1 .0 .ready, (s .pre .1 .1 .0, s .pre .1 .1 .1, omega (arith, s .pre .1 .1 .3, test .loop-test .taken), omega arith))
+
+mul-at : (t : ℕ) → values-lts.Need-mul-at (callees t) (values-at t) values.Post Inv-loop μ-loop
+mul-at t c =
+    let test = c .before .before .before .before in
+    let s = test .before .before .before .before .before .before .before in
+    record { fits = omega (arith, s .pre .1 .1 .2, test .loop-test .taken) }
+
+slice-aggregate-copy : (t : ℕ) → values-lts.Need-slice-aggregate-copy (callees t) (values-at t) values.Post Inv-loop μ-loop
+slice-aggregate-copy t c = sym (c .before .before .before .before .before .before .loop .inv .2)
+
+copy-requires : (t : ℕ) → values-lts.Need-copy-requires (callees t) (values-at t) values.Post Inv-loop μ-loop
+copy-requires t c κs =
+    let made = c .before .before in
+    let test = made .before .before .before .before in
+    let at = test .before in
+    let s = at .before .before .before .before .before .before in
+    let l : length (made .one-value .result) ≡ 16 = ap length (made .one-value .ensures) ∙ length-nodeWords _ _ _ _ _ _ in
+    omega (arith, l, at .loop .inv .2, s .pre .1 .1 .2, test .loop-test .taken)
+
+loop-again : (t : ℕ) → values-lts.Need-loop-again (callees t) (values-at t) values.Post Inv-loop μ-loop
+loop-again t c =
+    let copied = c .before in
+    let made = copied .before .before .before in
+    let below = made .before .before in
+    let taken = below .before in
+    let test = taken .before in
+    let at = test .before in
+    let s = at .before .before .before .before .before .before in
+    let a = s .args in
+    let j = at .loop .j in
+    let block = below .values .ensures
+    ∙ block-above (paramsFrom (a .k .now) (a .params)) (spanned (a .message .now) (a .span)) (a .level) (a .index + j) (taken .taken .result)
+    (omega (arith, s .pre .1 .1 .0, at .before .before .if1 .left))
+    (s .pre .1 .0 .enough)
+    (taken .taken .ensures ∙ ap (λ (m : ℕ). held 4 m (a .index + j)) (at .before .nodes-at .ensures)) in (
+      omega (arith, test .loop-test .taken),
+      copied .copy .ensures
+          ∙ child-made (paramsFrom (a .k .now) (a .params)) (spanned (a .message .now) (a .span)) (a .level) (a .index) j (at .loop .words) (below .values .result) (made .one-value .result)
+          (s .pre .1 .1 .0) (s .pre .1 .0 .enough) (omega (arith, s .pre .1 .1 .2, test .loop-test .taken)) (at .loop .inv .1) block (made .one-value .ensures),
+      copied .copy .kept .0 ∙ at .loop .inv .2,
+    )
+
+returns-2 : (t : ℕ) → values-lts.Need-returns-2 (callees t) (values-at t) values.Post Inv-loop μ-loop
+returns-2 t c =
+    let at = c .before in
+    let a = at .before .before .before .before .before .before .args in
+    let f : ℕ → List ℕ = λ i. spec.value (paramsFrom (a .k .now) (a .params)) (pieceBits (spanned (a .message .now) (a .span))) (a .level) i 0 in
+    let e : at .loop .j ≡ a .n = omega (arith, at .loop .inv .0, c .loop-test .left) in
+    at .loop .inv .1 ∙ ap (childWords f 4 (a .index)) e
+
+pub +values-spec : {M : Type 1} → statement M
++values-spec = close μ-values λ t. values-lts.spec (callees t) (values-at t) values.Post Inv-loop μ-loop
+    (leaves-requires t) (returns t) (λ c. omega arith) (nodes-at-requires t) (loop-holds t) (add-i t) (taken-requires t)
+    (λ c. omega arith) (mul-values t) (values-requires t) (one-value-requires t) (mul-at t) (slice-aggregate-copy t)
+    (λ c. search needs) (copy-requires t) (λ c. omega arith) (λ c. omega arith) (loop-again t) (returns-2 t)
