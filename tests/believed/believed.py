@@ -10,6 +10,9 @@ Roots are the contracts of the public calls and their exports, those of the func
 `crate::function`, and the names that it cites after a `crate/File`. Of a theorem the statement counts and not the proof;
 of a definition all of it. From each name to the names in it, and so on. A file that has a definition so reached has to
 be believed.
+
+A text is refused where this script and the prover could read it in two ways: comments in `/* */` and `{- -}`, a name
+that a file brings in or declares twice, an item or a clause that does not stand as `rt fmt` lays it out.
 """
 import os
 import re
@@ -17,32 +20,42 @@ import shutil
 import sys
 import tempfile
 
-# The fifteen public calls, each with the source that has it; those of the exports are all that the file exports.
+# The public calls, a line each: the call, and crate/file of the source that has it, which its own crate's lib passes on if it is
+# another. Their contracts are roots, and none may have a `requires`. First the fifteen, then those of the program.
 CALLS = [
-    ("hash", "lib", "hash"),
-    ("hash", "lib", "default_rounds"),
-    ("layers", "lib", "layers"),
-    ("layers", "lib", "layer_words"),
-    ("layers", "lib", "layer_log_words"),
-    ("stream", "lib", "open"),
-    ("stream", "lib", "feed"),
-    ("stream", "ending", "end"),
-    ("stream", "ending", "preview"),
-    ("stream", "ending", "close"),
-    ("stream", "lib", "level"),
-    ("stream", "lib", "log_words"),
-    ("stream", "lib", "area_words"),
-    ("text", "lib", "write"),
-    ("text", "lib", "read"),
+    ("hash::hash", "hash/lib"),
+    ("hash::default_rounds", "hash/lib"),
+    ("layers::layers", "layers/lib"),
+    ("layers::layer_words", "layers/lib"),
+    ("layers::layer_log_words", "layers/lib"),
+    ("stream::open", "stream/lib"),
+    ("stream::feed", "stream/lib"),
+    ("stream::end", "ending/lib"),
+    ("stream::preview", "ending/lib"),
+    ("stream::close", "ending/lib"),
+    ("stream::level", "stream/lib"),
+    ("stream::log_words", "stream/lib"),
+    ("stream::area_words", "stream/lib"),
+    ("text::write", "text/lib"),
+    ("text::read", "text/lib"),
+    ("program::Program::new", "program/lib"),
+    ("program::take", "program/lib"),
+    ("program::finish", "program/lib"),
 ]
-EXPORTS = ("md6_c", "lib")
+# The crate whose exports are roots too, all of them.
+EXPORTS = "md6_c"
 
 PAGE = "docs/PROOFS.md"
 TABLE = "What has to be believed"
-# sections of the page that cite no theorem: a table of crates, and a table of edits
-NO_CITATIONS = {TABLE, "Sizes", "How to try to break it"}
+# the section with the table of edits that the prover must refuse
+EDITS = "How to try to break it"
+# sections of the page that cite no theorem: this table, and a table of crates
+NO_CITATIONS = {TABLE, "Sizes", EDITS}
 # words in backticks that are plainly no names of theorems or definitions: the language's, and the C library's
 NO_NAMES = {"requires", "ensures", "axioms=", "read", "write"}
+
+# the characters past ASCII that a source or a definition may have: of two that look alike only one
+LETTERS = set("«»·¬×λᴰ′₀₁₂₃ℓℕ←→↔↦∙∣∥∷≡≢≤⊎⊥⌜⌝⟦⟧")
 
 # what the language brings of its own into every file and clause
 PRELUDE = {"now", "ℓ", "⊥", "¬", "Unit"}
@@ -53,9 +66,10 @@ KINDS = ("-- Definitions: ", "-- Laws: ", "-- Examples: ")
 # ---- reading text: words, groups, scopes
 
 KEYWORDS = {
-    "→", ":", "=", "|", "↦", ".", "_", "λ", "∀", "let", "in", "elim", "as", "record", "unfold", "where", "Type", "do", "×", "[]",
+    "→", ":", "=", "|", "↦", ".", "_", "λ", "∀", "let", "in", "elim", "as", "record", "unfold", "where", "Type", "do", "×",
 }
-WORD = re.compile(r'"(?:\\.|[^"\\])*"|[(){};,⌜⌝]|[^\s(){};,"⌜⌝]+')
+WORD = re.compile(r'"(?:\\.|[^"\\])*"|[(){};,]|[^\s(){};,"]+')
+NUMERAL = re.compile(r"[0-9]+(?:_[0-9]+)*|0[xob][0-9a-fA-F_]+")
 CLOSING = {"(": ")", "{": "}", "[": "]"}
 
 
@@ -63,23 +77,41 @@ class Unreadable(Exception):
     pass
 
 
-def without_comments(text, mark="--"):
-    """The text without its comments, which begin with the mark; a quoted text is left as it is."""
-    out = []
-    for line in text.split("\n"):
-        if mark in line:
-            quoted, i = False, 0
-            while i < len(line):
-                if line[i] == '"':
-                    quoted = not quoted
-                elif line[i] == "\\" and quoted:
-                    i += 1
-                elif not quoted and line.startswith(mark, i) and (mark != "--" or i == 0 or line[i - 1] in " ("):
-                    line = line[:i]
-                    break
-                i += 1
-        out.append(line.rstrip())
-    return "\n".join(out)
+def plain(text, *never):
+    """Fails if a text has what it never may have, or a character that is not in the table."""
+    for number, line in enumerate(text.split("\n"), 1):
+        for mark in never:
+            if mark in line:
+                raise Unreadable("line %d has `%s`: comments are `//` and `--` alone" % (number, mark))
+        for c in line:
+            if not (" " <= c <= "~" or c in LETTERS):
+                raise Unreadable("line %d has the character U+%04X, which LETTERS does not have" % (number, ord(c)))
+
+
+QUOTED = {
+    "//": re.compile(r"""b?"(?:\\.|[^"\\])*"|b'(?:\\.[^']*|[^'\\])'|//.*"""),
+    "--": re.compile(r""""(?:\\.|[^"\\])*"|(?<![^ (){}.;,@"«»])--.*"""),
+}
+
+
+def live(line, mark):
+    """A line without its comment, which begins with the mark, and with its quotations empty, but for the "C" of an export."""
+    raw = mark == "//" and re.search(r'\b[bc]?r#*"', line)
+    line = QUOTED[mark].sub(lambda m: m.group() if m.group() == '"C"' else "" if m.group().startswith(mark) else '""', line).rstrip()
+    if raw or line.count('"') % 2 or "--" in line:
+        raise Unreadable("a quotation or a comment is not read: " + line.strip())
+    return line
+
+
+def once(names):
+    """In one file a name, and a part of an operator, stands for one thing."""
+    seen = {}
+    for name in names:
+        for word in {name} | {p for p in name.split("_") if p}:
+            if word in seen:
+                both = " (%s, %s)" % (seen[word], name) if seen[word] != name else ""
+                raise Unreadable("`%s` is brought in or declared twice%s" % (word, both))
+            seen[word] = name
 
 
 def words(text):
@@ -87,7 +119,7 @@ def words(text):
         w = m.group()
         if w[0] == '"' or w in "⌜⌝":
             continue
-        if re.search(r"[\[\]]", w) and w not in "[]" and not w.endswith(".[]"):
+        if re.search(r"[\[\]⌜⌝@]", w) and w not in "[]" and not w.endswith(".[]"):
             raise Unreadable("a bracket within a word: " + w)
         if len(w) > 1 and w[-1] == "." and w != "..":
             yield w[:-1]
@@ -147,6 +179,11 @@ class Scan:
     def __init__(self, ref, constructor):
         self.ref = ref
         self.constructor = constructor
+        self.binds = set()
+
+    def bind(self, names, env):
+        env.update(names)
+        self.binds.update(names)
 
     def term(self, items, env):
         for part in parts(items, {",", ";"}):
@@ -198,7 +235,7 @@ class Scan:
             i += 1
 
     def word(self, x, env):
-        if x[0] == "." or x[0].isdigit():
+        if x[0] == "." or NUMERAL.fullmatch(x):
             return
         if "." in x and x.split(".")[0] in env:  # a field of something bound here
             return
@@ -207,12 +244,12 @@ class Scan:
     def bound(self, x, env):
         """A binder of a λ."""
         if isinstance(x, str):
-            env.add(x)
+            self.bind([x], env)
             return
         b = binder(x[1])
         if b:
             self.part(b[1], set(env))
-            env.update(b[0])
+            self.bind(b[0], env)
         else:
             self.pattern([x], env)
 
@@ -228,7 +265,7 @@ class Scan:
                 self.term(branch[at + 1 :], inside)
         elif b:
             self.part(b[1], set(env))
-            env.update(b[0])
+            self.bind(b[0], env)
         elif bracket == "{":
             for part in parts(inner, {",", ";"}):  # an implicit argument, `{x = e}`
                 self.part(part[2:] if index(part, "=") == 1 else part, set(env))
@@ -250,12 +287,12 @@ class Scan:
             if isinstance(x, tuple):
                 for part in parts(x[1], {",", ";"}):
                     self.pattern(part[2:] if index(part, "=") == 1 else part, env)
-            elif x in KEYWORDS or x[0] == "." or x[0].isdigit():
+            elif x in KEYWORDS or x[0] == "." or NUMERAL.fullmatch(x):
                 continue
             elif self.constructor(x):
                 self.ref(x)
             else:
-                env.add(x)
+                self.bind([x], env)
 
 
 # ---- declarations
@@ -309,13 +346,12 @@ def declarations(lines, file, tele, on_use=None):
         while first and first[0] in ("pub", "abbrev", "unfoldable", "axiom"):
             marks.append(first.pop(0))
         head = first[0] if first else ""
-        if head == "use":
-            if on_use:
-                on_use(" ".join(" ".join(chunk).split()), "pub" in marks)
-        elif head in ("mod", "infix", "infixl", "infixr", "unfolding", "ruleset"):
+        if head == "use" and on_use:
+            on_use(" ".join(" ".join(chunk).split()), "pub" in marks)
+        elif head in ("infix", "infixl", "infixr", "unfolding", "ruleset"):
             continue
-        elif head == "open":
-            raise Unreadable("`open` is not read")
+        elif head in ("open", "mod", "use"):  # a `mod` makes a name with which a `use` can begin
+            raise Unreadable("`%s` is not read here" % head)
         elif head in ("module", "mutual"):
             up, under = at_where(chunk)
             if head == "mutual":
@@ -364,25 +400,42 @@ class Imports:
         self.names = {}  # name -> (module, name there)
         self.modules = {}  # name -> module
         self.passed = {}  # of those, what `pub use` passes on
+        self.brought = []  # all these names, in their order
+        self.others = {}  # name -> (module, name there), of names that are brought in again as something else
 
     def add(self, line, public=False):
-        m = re.match(r"^(?:pub |ghost )?use ([^\s{]+?)(?:\.\{(.*)\})?(?: as (\S+))?;?$", line)
+        m = re.match(r"^(?:pub |ghost )?use ([^\s{}*«]+?)(?:\.\{([^{}«]*)\}| as ([^\s«]+))?;?$", line)
         if not m:
             raise Unreadable("a use line is not read: " + line)
         module, items, alias = m.groups()
         if items is None:
-            self.modules[alias or module.split(".")[-1]] = module
+            name = alias or module.split(".")[-1]
+            self.modules[name] = module
+            self.brought.append(name)
             return
         for item in items.split(","):
             item = item.split()
             if not item:
                 continue
+            if len(item) != 1 and (len(item) != 3 or item[1] != "as"):
+                raise Unreadable("a use line is not read: " + line)
             path = item[0].split(".") if not item[0].startswith(".") else [item[0]]
             where = ".".join([module] + path[:-1])
-            name = item[2] if len(item) == 3 and item[1] == "as" else path[-1]
-            self.names[name] = (where, path[-1])
+            name = item[2] if len(item) == 3 else path[-1]
+            if name not in self.names:
+                self.names[name] = (where, path[-1])
+                self.brought.append(name)
+            elif self.names[name] != (where, path[-1]):
+                self.others.setdefault(name, []).append((where, path[-1]))
             if public:
                 self.passed[name] = (where, path[-1])
+
+    def once(self, own=()):
+        """Fails if a name stands for two things, or if a `use` line begins with a name that is the file's own."""
+        once(self.brought + list(own))
+        for module in [m for m, _ in self.names.values()] + list(self.modules.values()):
+            if module.split(".")[0] in self.brought + list(own):
+                raise Unreadable("`%s` is brought in or declared, and a use line begins with it" % module.split(".")[0])
 
 
 class File:
@@ -390,9 +443,13 @@ class File:
         self.key = key
         self.text = text
         self.imports = Imports()
-        self.all = declarations(without_comments(text).split("\n"), key, [], self.imports.add)
+        plain(text, "{-")
+        if "«" in text:  # an escaped name is another spelling of the bare one
+            raise Unreadable("an escaped name is not read")
+        self.all = declarations([live(l, "--") for l in text.split("\n")], key, [], self.imports.add)
         self.decls = {d.name: d for d in self.all}
         self.constructors = {m: d for d in self.all if d.kind == "data" for m, _ in d.members}
+        self.imports.once([d.name for d in self.all] + [m for d in self.all if d.kind == "data" for m, _ in d.members])
         self.fields = {}
         for d in self.all:
             if d.kind == "record":
@@ -422,39 +479,91 @@ def matching(text, i):
     raise Unreadable("a bracket is open")
 
 
+CLAUSE = re.compile(r" +(?:requires|ensures|decreases) \{ .* \}")
+ITEM = re.compile(r"\b(?:ghost|requires|ensures|decreases|fn|impl|mod|use)\b")
+
+
 class Source:
-    """A source file: its public functions with their parameters and contracts."""
+    """A source file: its functions with their parameters and contracts. Each item stands as `rt fmt` lays it out: a `ghost use` and
+    a clause on a line of its own, with no comment, and a function at the top of the file or in an `impl` there."""
 
     def __init__(self, text):
-        text = without_comments(text, "//")
+        plain(text, "/*", "{-")
         self.imports = Imports()
-        for m in re.finditer(r"^ghost use [^;]*;", text, re.M):
-            self.imports.add(" ".join(m.group().split()))
-        self.functions = {}
+        self.functions = {}  # name, or Type::name -> (parameters, clauses), of the public ones
         self.exports = []
-        self.uses = dict((m[1], m[0]) for m in re.findall(r"^pub use (\w+)::(\w+);", text, re.M))
-        for m in re.finditer(r'^( *)pub (extern "C" )?fn (\w+)', text, re.M):
-            inside, export, name = m.groups()
-            i = m.end()
-            if text[i] == "<":
-                i = matching(text, i)
-            end = matching(text, i)
-            params = set(re.findall(r"(\w+)\s*:", re.sub(r"::", "  ", text[i:end])))
-            params |= {"«%s»" % p for p in params if "_" in p}  # so a clause spells a name with a low line
-            clauses = []
-            j = end
-            while True:
-                k = re.compile(r"[^{}]*?\b(requires|ensures|decreases)\s*(?=\{)").match(text, j)
-                if not k:
-                    break
-                j = matching(text, k.end())
-                clauses.append((k.group(1), text[k.end() + 1 : j - 1]))
-            if clauses and not re.compile(r"\s*[{;]").match(text, j):
-                raise Unreadable("the contract of %s is not read to its end" % name)
-            if not inside or name not in self.functions:  # a method does not hide a function
-                self.functions[name] = (params, clauses)
-            if export:
+        self.modules = []
+        self.uses = {}
+        brought, declared, found = [], [], []  # found: (the place behind its name, what is written before it, name)
+        code, size, depth, within = [], 0, 0, ""
+        for line in text.split("\n"):
+            if re.fullmatch(r"ghost use [^;]*;", line) and depth == 0 and "--" not in line:
+                self.imports.add(line)
+                line = ""
+            elif CLAUSE.fullmatch(line):
+                if re.search(r'//|--|"', line):
+                    raise Unreadable("a comment or a quotation in a clause: " + line.strip())
+                if matching(line, line.index("{")) != len(line):
+                    raise Unreadable("something stands behind a clause: " + line.strip())
+            else:
+                line = live(line, "//")
+                fn = re.fullmatch(r' *((?:pub )?(?:extern "C" )?)fn (\w+)[(<].*', line)
+                impl = re.fullmatch(r"impl (\w+) \{", line)
+                mod = re.fullmatch(r"(?:pub )?mod (\w+);", line)
+                use = re.fullmatch(r"use (?:\w+::)*(\w+);", line)
+                passed = re.fullmatch(r"pub use (\w+)::(\w+);", line)
+                if fn and (depth == 0 or depth == 1 and within) and not ITEM.search(line, fn.end(2)):
+                    declared.append((within + "::" if depth else "") + fn.group(2))
+                    found.append((size + fn.end(2), fn.group(1), declared[-1]))
+                elif impl and depth == 0:
+                    within = impl.group(1)
+                elif mod and depth == 0:
+                    self.modules.append(mod.group(1))
+                elif use and depth == 0:
+                    brought.append(use.group(1))
+                elif passed and depth == 0:
+                    self.uses[passed.group(2)] = passed.group(1)
+                    brought.append(passed.group(2))
+                elif ITEM.search(line):
+                    raise Unreadable("not read: " + line.strip())
+            code.append(line)
+            size += len(line) + 1
+            depth += line.count("{") - line.count("}")
+            within = within if depth else ""
+        if depth:
+            raise Unreadable("a bracket is open")
+        for name in self.uses.values():
+            if name in brought:
+                raise Unreadable("`%s` is brought in or declared, and a use line begins with it" % name)
+        self.imports.once()
+        for names in (brought, declared, list(self.imports.others) * 2):
+            for name in names:
+                if names.count(name) > 1:
+                    raise Unreadable("`%s` is brought in or declared twice" % name)
+        text = "\n".join(code)
+        for at, marks, name in found:
+            if "pub" in marks:
+                self.functions[name] = self.contract(text, at, name)
+            if "extern" in marks:
                 self.exports.append(name)
+
+    def contract(self, text, i, name):
+        if text[i] == "<":
+            i = matching(text, i)
+        end = matching(text, i)
+        params = set(re.findall(r"(\w+)\s*:", re.sub(r"::", "  ", text[i:end])))
+        params |= {"«%s»" % p for p in params if "_" in p}  # so a clause spells a name with a low line
+        clauses = []
+        j = end
+        while True:
+            k = re.compile(r"[^{}]*?\b(requires|ensures|decreases)\s*(?=\{)").match(text, j)
+            if not k:
+                break
+            j = matching(text, k.end())
+            clauses.append((k.group(1), text[k.end() + 1 : j - 1]))
+        if clauses and not re.compile(r"\s*[{;]").match(text, j):
+            raise Unreadable("the contract of %s is not read to its end" % name)
+        return params, clauses
 
 
 # ---- the repository
@@ -463,18 +572,23 @@ class Source:
 CACHE = {}
 
 
-def cached(kind, key, text):
+def cached(kind, key, text, path):
     if (kind, key, text) not in CACHE:
         try:
             CACHE[kind, key, text] = File(key, text) if kind is File else Source(text)
         except Unreadable as e:
-            raise Unreadable("%s: %s" % (key, e))
+            raise Unreadable("%s: %s" % (path, e))
     return CACHE[kind, key, text]
 
 
 def read(path):
-    with open(path, encoding="utf-8") as f:
+    with open(path, encoding="utf-8", newline="") as f:
         return f.read()
+
+
+def write(path, text):
+    with open(path, "w", encoding="utf-8", newline="") as f:
+        f.write(text)
 
 
 RELATIONS = {"≡", "≢", "≤", "<", "⊥", "¬", "↔", "⊎", "T"}
@@ -526,20 +640,27 @@ class Repository:
         self.sources = {}
         self.crates = sorted(c for c in os.listdir(os.path.join(root, "crates")) if os.path.isdir(os.path.join(root, "crates", c)))
         for c in self.crates:
-            for folder, kind, end in (("specs", File, ".antt"), ("src", Source, ".rt")):
+            for folder, kind, end in (("specs", File, ".antt"), ("src", Source, ".rt"), ("proofs", None, ".antt")):
                 at = os.path.join(root, "crates", c, folder)
                 for base, _, names in os.walk(at):
                     for n in sorted(names):
                         if not n.endswith(end):
                             continue
                         path = os.path.join(base, n)
-                        if kind is File and n == "Lib.antt":
-                            if re.search(r"^(?!(pub )?mod )\S", without_comments(read(path)), re.M):
-                                self.fail("crates/%s/specs/Lib.antt has more than mod lines" % c)
+                        text = read(path)
+                        name = os.path.relpath(path, root)
+                        if kind is None or n == "Lib.antt":
+                            if "{-" in text:
+                                self.fail("%s has `{-`: comments are `//` and `--` alone" % name)
+                            if kind and re.search(r"^(?!(pub )?mod \w+$|--|$)", text, re.M):
+                                self.fail("%s has more than mod lines" % name)
                             continue
                         key = c + "/" + os.path.relpath(path, at)[: -len(end)]
-                        (self.files if kind is File else self.sources)[key] = cached(kind, key, read(path))
+                        (self.files if kind is File else self.sources)[key] = cached(kind, key, text, name)
         self.page = read(os.path.join(root, PAGE))
+        if "<!--" in self.page:
+            self.fail("%s has a comment, which a reader does not see" % PAGE)
+        self.exports = {n: k for k in sorted(self.sources) if k.startswith(EXPORTS + "/") for n in self.sources[k].exports}
         self.rests = {}
         self.reached = {}  # (declaration, whether all of it) -> such a pair before it, or a root's label
 
@@ -589,9 +710,21 @@ class Repository:
                 return self.lookup(*imports.names[full])
         return None
 
+    def meanings(self, word, imports, file=None):
+        """The declarations that a word can mean: several only for a constructor's name, which types may share."""
+        found = [self.resolve(word, imports, file)] + [self.lookup(*at) for at in imports.others.get(word, [])]
+        return [d for d in found if d is not None]
+
     def is_constructor(self, word, imports, file=None):
-        d = self.resolve(word, imports, file)
-        return d is not None and d.kind == "data" and word.split(".")[-1] in dict(d.members)
+        return any(d.kind == "data" and word.split(".")[-1] in dict(d.members) for d in self.meanings(word, imports, file))
+
+    def brought_once(self):
+        """A name is brought into a file as one thing, but for constructors, which the prover tells apart by their types."""
+        for key, f in sorted(self.files.items()):
+            for name, others in sorted(f.imports.others.items()):
+                ours = [(at[1], self.lookup(*at)) for at in [f.imports.names[name]] + others if OURS.match(at[0])]
+                if not ours or not all(d and d.kind == "data" and n in dict(d.members) for n, d in ours):
+                    self.fail("%s: `%s` is brought in or declared twice" % (key, name))
 
     # -- what a declaration rests on
 
@@ -612,11 +745,10 @@ class Repository:
             found = []
 
             def ref(word):
-                r = self.resolve(word, f.imports, f)
-                if r is None:
+                means = self.meanings(word, f.imports, f)
+                if not means:
                     self.unknown(word, f.imports, self.reading)
-                elif r is not d and r not in found:
-                    found.append(r)
+                found.extend(r for r in means if r is not d and r not in found)
 
             scan = Scan(ref, lambda w: self.is_constructor(w, f.imports, f))
             self.reading = "%s of %s" % (d.name, d.file)
@@ -673,6 +805,7 @@ class Repository:
             return
         self.reading = label
         params, clauses = source.functions[name]
+        binds = set()
         if not any(kind == "ensures" for kind, _ in clauses):
             self.fail("%s has no contract" % label)
         for kind, text in clauses:
@@ -680,41 +813,53 @@ class Repository:
                 self.fail("%s is a public call and has a `requires`" % label)
 
             def ref(word):
-                r = self.resolve(word, source.imports)
-                if r is None:
+                means = self.meanings(word, source.imports)
+                if not means:
                     self.unknown(word, source.imports, label)
-                else:
+                for r in means:
                     self.reach(r, label)
 
-            Scan(ref, lambda w: self.is_constructor(w, source.imports)).term(groups(text), params)
+            scan = Scan(ref, lambda w: self.is_constructor(w, source.imports))
+            scan.term(groups(text), params)
+            binds |= scan.binds
+        for word in sorted(binds.intersection(source.imports.brought)):
+            self.fail("%s binds %s, which its file brings in" % (label, word))
 
     def roots(self):
-        for crate, file, name in CALLS:
-            lib = self.sources.get(crate + "/lib")
-            if file != "lib" and (not lib or lib.uses.get(name) != file):
-                self.fail("crates/%s/src/lib.rt does not pass on %s of %s.rt" % (crate, name, file))
-            self.contract(crate + "/" + file, name, "%s::%s" % (crate, name), True)
-        exports = self.sources.get("/".join(EXPORTS))
-        if exports is None or not exports.exports:
-            self.fail("no exports in crates/%s/src/%s.rt" % EXPORTS)
-        for name in exports.exports if exports else []:
-            self.contract("/".join(EXPORTS), name, "%s::%s" % (EXPORTS[0], name), True)
-        calls = {"%s::%s" % (c, n) for c, _, n in CALLS}
-        for function in sorted(self.cited_functions - calls):
-            crate, *path = function.split("::")
-            name = path[-1]
-            at = [k for k in self.sources if k.startswith(crate + "/") and name in self.sources[k].functions]
-            lib = self.sources.get(crate + "/lib")
-            if len(path) > 1:
-                at = [k for k in at if k == crate + "/" + "/".join(path[:-1])]
-            elif lib and name in lib.functions:
-                at = [crate + "/lib"]
-            elif lib and name in lib.uses:
-                at = [crate + "/" + lib.uses[name]]
+        for call, key in CALLS:
+            crate, name = call.split("::", 1)
+            if key != crate + "/lib" and self.passed(crate, name) != key:
+                self.fail("crates/%s/src/lib.rt does not pass on %s of crates/%s.rt" % (crate, name, key.replace("/", "/src/")))
+            self.contract(key, name, call, True)
+        if not self.exports:
+            self.fail("no exports in crates/%s" % EXPORTS)
+        for name, key in self.exports.items():
+            self.contract(key, name, "%s::%s" % (EXPORTS, name), True)
+        for function in sorted(self.cited_functions - {call for call, _ in CALLS}):
+            at = self.places(function)
             if len(at) != 1:
                 self.fail("%s cites %s, and there is no such public function" % (PAGE, function))
             else:
-                self.contract(at[0], name, function, False)
+                self.contract(*at[0], function, False)
+
+    def passed(self, crate, name):
+        """The source whose function a crate's lib passes on: one of its own modules, or another crate's lib."""
+        lib = self.sources.get(crate + "/lib")
+        if not lib or name not in lib.uses:
+            return None
+        at = lib.uses[name]
+        return crate + "/" + at if at in lib.modules else at + "/lib"
+
+    def places(self, function):
+        """The sources that have a function `crate::name`, and its name there: lib, or the source that lib passes on, or that of
+        the module that is named, or the one file of the crate that has it."""
+        crate, *path = function.split("::")
+        name = "::".join(path)
+        has = lambda key, n: [(key, n)] if key in self.sources and n in self.sources[key].functions else []
+        found = has(crate + "/lib", name) or has(self.passed(crate, name), name)
+        for i in range(1, len(path)):
+            found = found or has(crate + "/" + "/".join(path[:i]), "::".join(path[i:]))
+        return found or [at for key in sorted(self.sources) if key.startswith(crate + "/") for at in has(key, name)]
 
     def read_page(self):
         """The table of files, and the citations: a `crate/File` sets the file that names after it are of."""
@@ -737,6 +882,10 @@ class Repository:
                     self.listed.append(entry)
                     if entry not in self.files:
                         self.fail("%s lists %s, and there is no such file" % (PAGE, entry))
+            if section == EDITS and line.startswith("|"):
+                for entry in re.findall(r"`(\w+/\w+)`", line):
+                    if not os.path.isfile(os.path.join(self.root, "crates/%s.edit" % entry.replace("/", "/must-fail/"))):
+                        self.fail("%s names the edit %s, and there is no such file" % (PAGE, entry))
             if section in NO_CITATIONS:
                 continue
             if line.startswith("    "):  # a theorem set out with its statement
@@ -764,8 +913,7 @@ class Repository:
                     continue
                 if name in library and not (file and self.files[file].own(name)):
                     continue
-                exports = self.sources.get("/".join(EXPORTS))
-                if exports and name in exports.exports:
+                if name in self.exports:
                     continue
                 self.cite(name, file, number)
 
@@ -843,6 +991,7 @@ class Repository:
                 self.fail("%s is listed on %s, and no contract or cited theorem rests on it" % (key, PAGE))
             if self.listed.count(key) > 1:
                 self.fail("%s is listed twice on %s" % (key, PAGE))
+        self.brought_once()
         self.names_once()
         self.library_names()
         self.headers()
@@ -871,23 +1020,34 @@ class Repository:
     def library_names(self):
         rt = shutil.which("rt")
         kit = os.path.dirname(os.path.dirname(os.path.realpath(rt))) if rt else ""
-        if not os.path.isdir(os.path.join(kit, "logic", "Lib")):
+        found = os.path.isdir(os.path.join(kit, "logic", "Lib"))
+        if not found:
             self.notes.append("the toolchain's library is not found: names are not compared with its names")
-            return
         modules = set()
         for f in list(self.files.values()) + list(self.sources.values()):
             modules.update(m for m, _ in f.imports.names.values())
             modules.update(f.imports.modules.values())
-        theirs = library(kit, frozenset(m for m in modules if not OURS.match(m)))
+        theirs = library(kit, frozenset(m for m in modules if not OURS.match(m))) if found else {}
         # a module of the primitives has no source: its names are those that are brought from it
         for f in list(self.files.values()) + list(self.sources.values()):
             for m, n in f.imports.names.values():
                 if m.startswith("Prim."):
                     theirs.setdefault(n, m)
-        for key in sorted(set(self.believed) - self.examples):
-            for d in self.definitions(key):
-                if d.name in theirs:
-                    self.fail("%s of %s has the name of the library's %s.%s" % (d.name, key, theirs[d.name], d.name))
+        ours = {d.name: key for key in sorted(set(self.believed) - self.examples) for d in self.definitions(key)}
+        for name, key in ours.items():
+            if name in theirs:
+                self.fail("%s of %s has the name of the library's %s.%s" % (name, key, theirs[name], name))
+        self.brought_as(dict(theirs, **ours))
+
+    def brought_as(self, taken):
+        """In a source and in a file that is believed a library's name means one thing, and nothing has a name that is taken."""
+        modules = {}
+        for key, f in [(k + ".rt", f) for k, f in sorted(self.sources.items())] + [(k, self.files[k]) for k in sorted(self.believed)]:
+            for name, (module, there) in f.imports.names.items():
+                if name != there and name in taken:
+                    self.fail("%s brings %s.%s under the name of %s.%s" % (key, module, there, taken[name], name))
+                if not OURS.match(module) and modules.setdefault(name, module) != module:
+                    self.fail("%s brings %s of %s, which elsewhere is that of %s" % (key, name, module, modules[name]))
 
     def headers(self):
         none, other = [], []
@@ -947,38 +1107,60 @@ def check(root):
 def self_test(root):
     """Faults, one at a time, on a copy: each must be found, and told by what it is."""
     base = check(root)
-    unbelieved = [k for k in sorted(base.files) if k not in base.believed and k not in base.listed]
-    helper = next(k for k in unbelieved if k.startswith("stream/"))
+    helper = next(k for k in sorted(base.files) if k not in base.believed and k not in base.listed)
     listed = next(k for k in base.listed if k in base.believed)
     theorem = base.theorems[0].name
-    source = "crates/stream/src/lib.rt"
+    # the call that most faults are tried on, and a definition that its contract names
+    call, key = CALLS[0]
+    crate, name = call.split("::")
+    source = "crates/%s.rt" % key.replace("/", "/src/")
+    brought = base.sources[key].imports.names
+    params, clauses = base.sources[key].functions[name]
+    word = next(n for n, (module, _) in brought.items() if OURS.match(module) and n not in params and n in re.findall(r"\w+", clauses[0][1]))
+    operator = next(n for n in brought if n.count("_") == 2)
+    spec = "crates/%s.antt" % listed.replace("/", "/specs/")
+    in_spec = next(iter(base.files[listed].imports.names))
+    proofs = os.path.join("crates", crate, "proofs")
+    proof = next(os.path.join(at, n) for at, _, names in os.walk(os.path.join(root, proofs)) for n in names if n.endswith(".antt"))
+
+    helps = "Rattle.%s.specs.%s" % tuple(helper.split("/"))
+    to_believe = "%s has to be believed and %s does not list it: %s -> %s (%s)" % (helper, PAGE, call, "%s", helper)
+
+    def define(d, body="%s n = n"):
+        return ("crates/%s.antt" % helper.replace("/", "/specs/"), r"\Z", "\nabbrev pub %s : ℕ → ℕ\n%s\n" % (d, body.replace("%s", d)))
+
+    def bring(items, how="ghost use %s;\n"):
+        return (source, r"^(?=ghost use )", how % (helps + items))
+
+    def ensure(text, of=source, fn=name):
+        return (of, r"^( *pub fn %s\([^)]*\) -> [^\n]*\n)" % fn.split("::")[-1], "\\1    %s\n" % text)
+
+    def instead(to):
+        """For the line that brings the definition another one; what else it brings it goes on to bring."""
+        return (source, r"^(ghost use %s\.\{.*?)\b%s\b,? ?(.*)$" % (re.escape(brought[word][0]), word), "\\1\\2\n" + to)
+
+    honest = "ghost use %s.{%s};" % (brought[word][0], word)
+    evil = "ghost use %s.{twisted as %s};" % (helps, word)
+    signature = re.search(r"^pub fn %s\(.*?\n\{" % name, read(os.path.join(root, source)), re.M | re.S).group()
     faults = [
+        ("an edit that is gone", [(PAGE, r"`(\w+/all_refused)`", r"`\1_twice`")], "%s names the edit hash/all_refused_twice, and" % PAGE),
         (
             "a helper of a contract in a file that is not listed",
-            [
-                ("crates/%s.antt" % helper.replace("/", "/specs/"), r"\Z", "\nabbrev pub twisted : ℕ → ℕ\ntwisted n = n\n"),
-                (source, r"^ghost use ", "ghost use Rattle.stream.specs.%s.{twisted};\nghost use " % helper.split("/")[1]),
-                (source, r"^(pub fn open\([^)]*\) -> [^\n]*\n)", "\\1    ensures { λ o. ⌜ o .count ≡ twisted (o .count) ⌝ }\n"),
-            ],
-            "%s has to be believed and %s does not list it: stream::open -> twisted (%s)" % (helper, PAGE, helper),
+            [define("twisted"), bring(".{twisted}"), ensure("ensures { λ o. ⌜ o .count ≡ twisted (o .count) ⌝ }")],
+            to_believe % "twisted",
         ),
         (
             "a helper that is brought under the name of a definition, and whose type hides that it is one",
             [
                 ("crates/%s.antt" % helper.replace("/", "/specs/"), r"\Z", "\npub twisted : ℕ → let T : Type 0 = ℕ in T\ntwisted n = n\n"),
-                (source, r"^(ghost use Rattle.calls.specs.Calls.\{.*?), logWordsOf(.*)$", "\\1\\2\nghost use Rattle.stream.specs.%s.{twisted as logWordsOf};" % helper.split("/")[1]),
+                instead(evil),
             ],
-            "%s has to be believed and %s does not list it: stream::log_words -> twisted (%s)" % (helper, PAGE, helper),
+            to_believe % "twisted",
         ),
         (
             "a word of a contract that no line brings",
-            [(source, r"^(pub fn open\([^)]*\) -> [^\n]*\n)", "\\1    ensures { λ o. ⌜ o .count ≡ «guess» ⌝ }\n")],
-            "cannot tell what «guess» in stream::open means",
-        ),
-        (
-            "another function passed on as the end",
-            [(source, r"^pub use ending::end;", "pub use number::end;")],
-            "crates/stream/src/lib.rt does not pass on end of ending.rt",
+            [ensure("ensures { λ o. ⌜ o .count ≡ «guess» ⌝ }")],
+            "cannot tell what «guess» in %s means" % call,
         ),
         (
             "a row missing in the table",
@@ -991,38 +1173,175 @@ def self_test(root):
             "%s is listed on %s, and no contract or cited theorem rests on it" % (helper, PAGE),
         ),
         (
+            "a row in a comment of the page",
+            [(PAGE, r"^(\| `%s`.*)\n" % listed, "<!--\n\\1\n-->\n")],
+            "%s has a comment, which a reader does not see" % PAGE,
+        ),
+        (
             "a theorem cited that does not exist",
             [(PAGE, "`%s`" % re.escape(theorem), "`no-such-theorem`")],
             "cites `no-such-theorem`, and no file of specs/ has that name",
         ),
+        # comments that the prover skips and a reader by lines does not
         (
-            "a public call with a requires",
-            [(source, r"^(pub fn log_words\([^)]*\) -> [^\n]*\n)", "\\1    requires { ⌜ bits ≡ bits ⌝ }\n")],
-            "stream::log_words is a public call and has a `requires`",
+            "the honest line in a comment of a source",
+            [instead("%s\n/*\n%s\n*/" % (evil, honest))],
+            "%s: line " % source + "%d has `/*`",
+        ),
+        (
+            "the honest function in a comment of a source",
+            [ensure("ensures { λ o. ⌜ o ≡ o ⌝ }"), (source, r"\Z", "/*\n%s\n}\n*/\n" % signature.replace("\\", "\\\\"))],
+            "%s: line " % source + "%d has `/*`",
+        ),
+        (
+            "a comment in a clause, which reads as a binder",
+            [ensure("ensures { λ o. {- %s : o -} ⌜ o ≡ o ⌝ }" % word)],
+            "%s: line " % source + "%d has `{-`",
+        ),
+        (
+            "the honest line in a comment of a definition's file",
+            [(spec, r"^(use .*)$", "use %s.{twisted as %s}\n{-\n\\1\n-}" % (helps, in_spec))],
+            "%s: line " % spec + "%d has `{-`",
+        ),
+        (
+            "a comment of that kind in a proof",
+            [(os.path.relpath(proof, root), r"\Z", "{- -}\n")],
+            "%s has `{-`" % os.path.relpath(proof, root),
+        ),
+        (
+            "a comment in a clause that is none to the prover",
+            [ensure("ensures { λ o. ⌜ o ≡ o // %s ⌝ }" % word)],
+            "a comment or a quotation in a clause",
+        ),
+        # one name, two things
+        ("a name brought into a source twice", [bring(".{twisted as %s}" % word)], "%s: `%s` is brought in or declared twice" % (source, word)),
+        (
+            "a name brought into a definition's file twice",
+            [define("twisted"), (spec, r"^(?=use )", "use %s.{twisted as %s}\n" % (helps, in_spec))],
+            "%s: `%s` is brought in or declared twice" % (listed, in_spec),
+        ),
+        (
+            "an operator with the parts of another",
+            [bring(".{%s%s}" % (operator, operator[1:]))],
+            "is brought in or declared twice (%s%s, %s)" % (operator, operator[1:], operator),
+        ),
+        (
+            "a public function declared twice",
+            [(source, r"\Z", signature.replace("\\", "\\\\") + "\n}\n")],
+            "%s: `%s` is brought in or declared twice" % (source, name),
+        ),
+        (
+            "a library's name that is another file",
+            [(spec, r"^(?=use )", "use %s as lib\nuse lib.{twisted}\n" % helps)],
+            "`lib` is brought in or declared, and a use line begins with it",
+        ),
+        ("a library's name that is a file below", [(spec, r"^(?=use )", "mod lib\n")], "`mod` is not read here"),
+        (
+            "something of the library under the name of a definition",
+            [instead("ghost use lib.ListN.{length as %s};" % word)],
+            "%s.rt brings lib.ListN.length under the name of " % key,
+        ),
+        (
+            "a symbol from another place of the library",
+            [(source, r"\b%s(?=\.\{[^}]*%s)" % (re.escape(brought[operator][0]), re.escape(operator)), "mathlib.Other")],
+            "brings %s of mathlib.Other, which elsewhere is that of %s" % (operator, brought[operator][0]),
+        ),
+        (
+            "a clause that binds the name of a definition",
+            [ensure("ensures { λ %s. ⌜ %s ≡ %s ⌝ }" % (word, word, word))],
+            "%s binds %s, which its file brings in" % (call, word),
+        ),
+        # items, words and letters that are not what they seem
+        ("an item with a space more", [(source, r"^ghost use ", "ghost  use ")], "%s: not read: ghost  use " % source),
+        (
+            "an item behind a function on its line",
+            [(source, r"\Z", "fn decoy() {} %s\n" % evil)],
+            "%s: not read: fn decoy() {} ghost use" % source,
+        ),
+        (
+            "an item behind a clause on its line",
+            [(source, r"\Z", "fn decoy()\n    ensures { λ _. ⌜ 0 ≡ 0 ⌝ } {} %s fn other() { }\n" % evil)],
+            "%s: something stands behind a clause: " % source,
+        ),
+        (
+            "a function in a module within a source",
+            [(source, r"\Z", "mod decoy {\n%s\n}\n}\n" % signature.replace("\\", "\\\\"))],
+            "%s: not read: mod decoy {" % source,
+        ),
+        (
+            "an item within a quotation",
+            [(source, r"\Z", 'const DECOY: &[u8; 13] = b"\nmod decoy;\n";\n')],
+            "%s: a quotation or a comment is not read: const DECOY" % source,
+        ),
+        (
+            "an item within a quotation, behind one in which a stroke escapes nothing",
+            [(source, r"\Z", 'const RAW: &[u8; 1] = br"\\\\"; const DECOY: &[u8; 13] = b"\nmod decoy;\n";\n')],
+            "%s: a quotation or a comment is not read: const RAW" % source,
+        ),
+        (
+            "a name that begins like a clause",
+            [define("⌜twisted"), bring(".{⌜twisted}"), ensure("ensures { λ o. ⌜ o .count ≡ ⌜twisted (o .count) ⌝ }")],
+            "a bracket within a word: ⌜twisted",
+        ),
+        (
+            "a name that begins like a number",
+            [define("1twisted"), bring(".{1twisted}"), ensure("ensures { λ o. ⌜ o .count ≡ 1twisted (o .count) ⌝ }")],
+            to_believe % "1twisted",
+        ),
+        (
+            "the empty list that is another thing",
+            [define("twisted"), bring(".{twisted as []}"), ensure("ensures { λ o. ⌜ o .count ≡ [] (o .count) ⌝ }")],
+            to_believe % "twisted",
+        ),
+        (
+            "a letter that looks like another",
+            [bring(".{tw\u0456sted}")],
+            "has the character U+0456, which LETTERS does not have",
         ),
     ]
+    for c, k in [CALLS[0]] + [c for c in CALLS if c[0].count("::") > 1]:
+        path = "crates/%s.rt" % k.replace("/", "/src/")
+        message = "%s is a public call and has a `requires`" % c
+        faults.append(("a public call with a requires", [ensure("requires { ⌜ 0 ≡ 0 ⌝ }", path, c)], message))
+    for c, k in [c for c in CALLS if c[1] != c[0].split("::")[0] + "/lib"][:1]:
+        at, n = c.split("::")
+        lib = "crates/%s/src/lib.rt" % at
+        use = "pub use %s::%s;" % (base.sources[at + "/lib"].uses[n], n)
+        message = "%s does not pass on %s of crates/%s.rt" % (lib, n, k.replace("/", "/src/"))
+        k_crate, k_file = k.split("/")
+        other = (lib, r"\A", "mod %s;\n" % k_crate) if k_file == "lib" else (lib, r"^mod %s;.*\n" % k_file, "")
+        faults += [
+            ("another function passed on", [(lib, "^" + use, "pub use decoy::%s;" % n)], message),
+            ("a function passed on of a crate for that of a module, or the other way", [other], message),
+            ("another function passed on under the name", [(lib, "^" + use, use.replace("::", "::other as "))], "%s: not read: pub use " % lib),
+        ]
     missed = 0
-    for what, edits, message in faults:
-        with tempfile.TemporaryDirectory() as copy:
-            for crate in base.crates:
-                for folder in ("specs", "src"):
-                    at = os.path.join("crates", crate, folder)
-                    if os.path.isdir(os.path.join(root, at)):
-                        shutil.copytree(os.path.join(root, at), os.path.join(copy, at))
-            os.makedirs(os.path.dirname(os.path.join(copy, PAGE)))
-            shutil.copy(os.path.join(root, PAGE), os.path.join(copy, PAGE))
-            found = []
+    with tempfile.TemporaryDirectory() as copy:
+        for folder in ("specs", "src", "proofs", "must-fail"):
+            for at in [os.path.join("crates", c, folder) for c in base.crates]:
+                if os.path.isdir(os.path.join(root, at)):
+                    shutil.copytree(os.path.join(root, at), os.path.join(copy, at))
+        os.makedirs(os.path.dirname(os.path.join(copy, PAGE)))
+        shutil.copy(os.path.join(root, PAGE), os.path.join(copy, PAGE))
+        for what, edits, message in faults:
+            kept = {}
             for path, old, new in edits:
-                path = os.path.join(copy, path)
-                text, n = re.subn(old, new, read(path), count=1, flags=re.M)
+                text = read(os.path.join(copy, path))
+                kept.setdefault(path, text)
+                text, n = re.subn(old, new, text, count=1, flags=re.M)
                 if n != 1:
-                    print("FAIL: self-test: nothing to change in " + path)
-                with open(path, "w", encoding="utf-8") as f:
-                    f.write(text)
-            found = [f for f in check(copy).failures if f not in base.failures]
-        if not any(message in f for f in found):
-            missed += 1
-            print("FAIL: self-test: %s is not found; found: %s" % (what, "; ".join(found) or "nothing"))
+                    missed += 1
+                    print("FAIL: self-test: %s: nothing to change in %s" % (what, path))
+                write(os.path.join(copy, path), text)
+            try:
+                found = [f for f in check(copy).failures if f not in base.failures]
+            except Unreadable as e:
+                found = [str(e)]
+            for path, text in kept.items():
+                write(os.path.join(copy, path), text)
+            if not any(re.search(re.escape(message).replace("%d", r"\d+"), f) for f in found):
+                missed += 1
+                print("FAIL: self-test: %s is not found; found: %s" % (what, "; ".join(found) or "nothing"))
     if not missed:
         print("self-test: %d faults put in, each found" % len(faults))
     return missed == 0

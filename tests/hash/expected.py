@@ -1,10 +1,10 @@
 #!/usr/bin/env python3
-"""expected.py MD6REF: the lines that the program hash_test must write.
+"""expected.py MD6REF [--rattle]: the lines that the host rows.c must write, or the program hash_test.
 
 MD6REF is the second program (tests/second/md6ref.c), compiled. Accepted calls are run by it: it prints a line for each node
 and then the digest. Bits from a start bit on are cut out here, and given to it as a message of their own. Refusals are those
 of document 01's table, numbers 4 and 5 as document 02 has them, and a refused call leaves the output as it was, a5. The default
-rounds are worked out from document 02.
+rounds are worked out from document 02. A call is number, count and output; in C md6_hash does not answer the count.
 """
 import subprocess
 import sys
@@ -18,11 +18,11 @@ def accepted(message, bits, key, d, limit, rounds, room):
     run = subprocess.run([sys.argv[1], "--m108", "--bits", str(bits)], input=line + message, stdout=subprocess.PIPE, check=True)
     lines = run.stdout.decode().split()
     digest = lines[-1]
-    return f"0 {(len(lines) - 1) // 2} {digest}{'a5' * (room - len(digest) // 2)}"
+    return 0, (len(lines) - 1) // 2, digest + "a5" * (room - len(digest) // 2)
 
 
 def refused(number, room):
-    return f"{number} 0 {'a5' * room}"
+    return number, 0, "a5" * room
 
 
 def reels():
@@ -108,14 +108,19 @@ def refused_starts():
     return [from_start(b"abc", start, bits, 64) for start, bits in rows] + [refused(5, 8), refused(5, 8), refused(1, 8)]
 
 
+def by_default(d, key_bytes):
+    """Document 02, M-102: "the default is the larger of 80 and 40 + d/4 if the key has any byte"."""
+    rounds = 40 + d // 4
+    return max(80, rounds) if key_bytes > 0 else rounds
+
+
 def told(d, key_bytes):
-    """Document 02, M-102: "the default is the larger of 80 and 40 + d/4 if the key has any byte", "refuses 1, then 2"."""
+    """M-102: "refuses 1, then 2"."""
     if not 1 <= d <= 512:
         return "1 0"
     if key_bytes > 64:
         return "2 0"
-    rounds = 40 + d // 4
-    return f"0 {max(80, rounds) if key_bytes > 0 else rounds}"
+    return f"0 {by_default(d, key_bytes)}"
 
 
 def defaults():
@@ -123,4 +128,34 @@ def defaults():
     return [" ".join(told(d, key_bytes) for key_bytes in (0, 1, 63, 64, 65, 2**32, 2**64 - 1)) for d in sizes]
 
 
-print("\n".join(reels() + edges() + each_rounds() + report() + starts() + last_bits() + refused_starts() + defaults()))
+def all_bits():
+    """Messages of ones: the bit counts of the rows above, at each height limit from another start bit on."""
+    counts = (0, 1, 7, 8, 9, *range(17, 25), 3071, 3072, 3073, 4095, 4096, 4097, 4800, 6400, 12288, 12289, 16384, 16385)
+    return [accepted(ONES, bits, b"key", 9, limit, 0, 3) for bits in counts for limit in (0, 1, 64)]
+
+
+def orders():
+    """Refusals, and all the bits of 2,050 bytes from the last start bit on."""
+    return [refused(number, 3) for number in (5, 1, 2, 3, 4, 9)] + [accepted(b"\xff" * 2050, 16393, b"key", 24, 64, 4095, 3)]
+
+
+def far_out():
+    """Start and count whose sum passes 2^64, a start bit and a size of over 32 bits, and no digest bit."""
+    return [refused(number, 3) for number in (5, 5, 5, 1, 1)]
+
+
+def some_told():
+    return [f"{told(d, key_bytes)} {by_default(d, key_bytes)}" for d, key_bytes in ((8, 0), (8, 1), (512, 64), (513, 65), (512, 65))]
+
+
+def lines_from_c():
+    calls = reels() + edges() + each_rounds() + report() + starts() + last_bits() + refused_starts()
+    return [f"{number} {output}" for number, _, output in calls] + defaults()
+
+
+def lines_from_rattle():
+    """In Rattle the number is told by a call of its own, too."""
+    return [f"{number} {number} {count} {output}" for number, count, output in all_bits() + orders() + far_out()] + some_told()
+
+
+print("\n".join(lines_from_rattle() if sys.argv[2:] == ["--rattle"] else lines_from_c()))

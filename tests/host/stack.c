@@ -40,7 +40,7 @@ static const struct { const char *name; size_t most; } calls[CALLS] = {
     [WRITE] = { "md6_write", 512 },
     [READ] = { "md6_read", 42496 },
 };
-enum { TWO_LEVELS = 24064, A_LEVEL = 1536 };
+enum { TWO_LEVELS = 23552, A_LEVEL = 1536 };
 
 /* what is lent to the calls, and their answer */
 static uint8_t message[MESSAGE_BYTES + 1], digest[64], text[MD6_TEXT_BYTES];

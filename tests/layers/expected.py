@@ -1,5 +1,5 @@
 #!/usr/bin/env python3
-"""expected.py: the lines that the program layers_test must write.
+"""expected.py [--rattle]: the lines that the host rows.c must write, or the program layers_test.
 
 MD6 is written here once more, from document 01's "Compression" and "Tree", level by level, with bits as a string of digits. Document
 02, M-100, says in which order the log has the nodes, what the words end with, and the numbers 7 and 8; the other refusals are those
@@ -8,6 +8,7 @@ the words used, past the nodes of the log and past the digest stays, and so does
 """
 import functools
 import math
+import sys
 
 MASK = 2 ** 64 - 1
 Q = math.isqrt(6 << 1920) - 2 ** 961
@@ -177,10 +178,32 @@ def orders():
     return [line for i, first in enumerate(order) for second in order[i:] for line in refused_by(first, second)]
 
 
-def told():
+def told(bits, limit):
+    return "3 0 3 0" if limit > 64 else f"0 {needed_words(bits, limit)} 0 {needed_log(bits, limit)}"
+
+
+def all_told():
     counts = (0, 1, 3073, 4097, 16384, 16385, 2 ** 64 - 4096, 2 ** 64 - 1)
-    return ["3 0 3 0" if limit > 64 else f"0 {needed_words(bits, limit)} 0 {needed_log(bits, limit)}"
-            for limit in (*range(67), 2 ** 32 + 5, 2 ** 64 - 1) for bits in counts]
+    return [told(bits, limit) for limit in (*range(67), 2 ** 32 + 5, 2 ** 64 - 1) for bits in counts]
 
 
-print("\n".join(reels() + trees() + starts() + edges() + orders() + told()))
+def filled(count, width):
+    return rows([int("a5" * 8, 16)] * count, width)
+
+
+def whole(bits, d, limit):
+    """The lines of a call in Rattle, with 96 words and 16 log words, of which all are printed: the last have stayed."""
+    shown = show(b"\xff" * 3585, 0, bits, b"key", d, limit, 5, 96, 16, 3)
+    words, log = (0, 0) if len(shown) == 1 else (needed_words(bits, limit), needed_log(bits, limit))
+    first, nodes, outputs = shown[0].removesuffix(" same same"), shown[1:1 + log // 2], shown[1 + log // 2:]
+    return [first] + nodes + filled(16 - log, 2) + outputs + filled(96 - words, 16)
+
+
+def rattle():
+    calls = [(16385, 8, 64), (12289, 20, 1), (3073, 9, 0), (0, 24, 64),
+             (28681, 0, 65), (28680, 0, 65), (28680, 25, 65), (28680, 25, 64), (28680, 24, 64), (20481, 24, 64)]
+    tellings = [(16385, 64), (16385, 0), (MASK, 1), (16385, 65)]
+    return [line for call in calls for line in whole(*call)] + [told(*telling) for telling in tellings]
+
+
+print("\n".join(rattle() if sys.argv[1:] == ["--rattle"] else reels() + trees() + starts() + edges() + orders() + all_told()))

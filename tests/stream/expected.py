@@ -1,5 +1,5 @@
 #!/usr/bin/env python3
-"""expected.py MD6REF: the lines that the program stream_test must write.
+"""expected.py [--rattle] MD6REF: the lines that the host rows.c must write, or, with --rattle, those of the program stream_test.
 
 MD6REF is the second program (tests/second/md6ref.c), compiled: it prints a line for each node of the tree of the message fed
 so far, and the digest. Document 01, "Runs", says which of those nodes have been made before the end: those that do not reach
@@ -8,7 +8,7 @@ given to it as one message. Refusals are those of document 01's table, numbers 4
 nothing. Told log words are those of document 02, M-103: two for each node that the feed would make; what is past the second
 program is counted level by level, by document 01's "Tree". An area has the words that M-109 gives for its L, those lent past
 them are as they were after every call, and whatever they hold no call answers otherwise. What a preview writes is the digest
-of the message fed so far, and a close is an end if it is given just that, by M-106.
+of the message fed so far, and a close is an end if it is given just that, by M-106. Levels are shown in Rattle alone, by M-109.
 """
 import functools
 import subprocess
@@ -23,7 +23,7 @@ FILL = int("a5" * 8, 16)
 @functools.lru_cache(None)
 def tree(message, bits, key, d, limit, rounds):
     line = f"{d} {limit} {rounds} {key.hex() or '-'}\n".encode()
-    run = subprocess.run([sys.argv[1], "--m108", "--bits", str(bits)], input=line + message, stdout=subprocess.PIPE, check=True)
+    run = subprocess.run([sys.argv[-1], "--m108", "--bits", str(bits)], input=line + message, stdout=subprocess.PIPE, check=True)
     lines = run.stdout.decode().splitlines()
     return lines[:-1], lines[-1]
 
@@ -199,61 +199,70 @@ def opens():
     return [line for words in (0, 80, 1743, 1744) for r in rows for line in opened(words, *r)]
 
 
-def unsound(count, number=7, room=3, shown=0):
-    lines = telling(number) + refused(number) + refused_preview(number, room) + refused(number) + refused_end(number, room)
-    return (lines + [str(shown)]) * count
+def unsound(count, number=7, room=3):
+    return count * (telling(number) + refused(number) + refused_preview(number, room) + refused(number) + refused_end(number, room))
 
 
 def sound(limit, bits, message, rounds=0):
     """A byte `a` is fed after so many bits; the message has both."""
     stream = Stream(KEY, 8, limit, message, rounds)
     stream.feed(bits)
-    return told(limit, bits, 8) + stream.feed(8) + stream.preview(3) + stream.close(b"", 54) + stream.end(3) + ["64"]
+    return told(limit, bits, 8) + stream.feed(8) + stream.preview(3) + stream.close(b"", 54) + stream.end(3)
+
+
+def is_past(limit, at):
+    """Whether a word stands past the area. In each row a bit is set there that is neither held nor of a sequential output."""
+    return at >= area_words(limit)
 
 
 def altered(limit, bits, at):
-    """A bit is set that is neither held nor of a sequential output, unless it stands past the area."""
-    if at < area_words(limit):
+    if not is_past(limit, at):
         return unsound(1)
     return sound(limit, bits, in_bytes("1" * bits + cut(b"a", 0, 8)))
 
 
 def altered_ended(limit, at):
-    return unsound(1, 7, 0) if at < area_words(limit) else unsound(1, 10, 0, 64)
+    return unsound(1, 10 if is_past(limit, at) else 7, 0)
+
+
+LIMITS = (0, 1, 2, 25, 26, 27, 64)
+
+# words lent, the first L, bits fed, and the L that word 4 then has
+OTHER_LIMITS = [(*r, limit) for limit in (65, 2 ** 64 - 1) for r in ((80, 0, 0), (1744, 0, 0), (1750, 64, 1))]
+OTHER_LIMITS += [(80, 64, 0, 0), (143, 64, 0, 1), (144, 64, 0, 1), (1750, 0, 0, 1)]
+
+# L, bits fed, and the word changed
+ALTERED_LEVELS = [(64, 1, 16), (64, 4095, 79), (64, 4096, 80), (64, 4097, 96), (0, 3072, 31), (0, 3073, 32), (0, 3073, 80),
+                  (1, 4097, 95), (1, 12289, 96), (1, 12289, 144)]
+
+
+def is_other(first, bits, limit):
+    """Word 4 has another L than the first, past whose words nothing is zero; its levels are zeros if no bits were fed."""
+    return limit <= 64 and not bits and area_words(limit) <= area_words(first)
 
 
 def other_limit(words, first, bits, limit):
-    """Word 4 has another L than the first, past whose words nothing is zero; its levels are zeros if no bits were fed."""
-    if limit > 64 or bits or area_words(limit) > min(words, area_words(first)):
-        return unsound(1)
-    return sound(limit, 0, b"a")
+    if is_other(first, bits, limit) and area_words(limit) <= words:
+        return sound(limit, 0, b"a")
+    return unsound(1)
 
 
 def other_limits():
-    rows = [(*r, limit) for limit in (65, 2 ** 64 - 1) for r in ((80, 0, 0), (1744, 0, 0), (1750, 64, 1))]
-    rows += [(80, 64, 0, 0), (143, 64, 0, 1), (144, 64, 0, 1), (1750, 0, 0, 1)]
-    return [line for r in rows for line in other_limit(*r)]
+    return [line for r in OTHER_LIMITS for line in other_limit(*r)]
 
 
 def altered_levels():
-    rows = [(64, 1, 16), (64, 4095, 79), (64, 4096, 80), (64, 4097, 96), (0, 3072, 31), (0, 3073, 32), (0, 3073, 80),
-            (1, 4097, 95), (1, 12289, 96), (1, 12289, 144)]
-    return [line for r in rows for line in altered(*r)]
-
-
-def shown(limit):
-    levels = (0, 1, 2, 3, 4, 26, 27, 28, 29, 65, 66, 2 ** 63)
-    return ["64" if 1 <= level <= area_levels(limit) else "0" for level in levels]
+    return [line for r in ALTERED_LEVELS for line in altered(*r)]
 
 
 def stream_in(words, limit):
-    """M-109: "Showing a level that the area lacks gives the empty part." An area that was not opened shows none."""
+    """An area that was not opened is unsound."""
     lines = opened(words, 0, 24, limit, 9)
     if lines != OPENED:
-        lines += telling(7) + refused(7) + shown(-1) + refused_preview(7, 3) + refused_end(7, 3) + refused(7)
+        lines += telling(7) + refused(7) + refused_preview(7, 3) + refused_end(7, 3) + refused(7)
         return lines + [f"{FILL} {FILL} same"]
     stream = Stream(b"", 24, limit, rounds=9)
-    return lines + told(limit, 0, 16385) + stream.feed(16385) + shown(limit) + stream.preview(3) + stream.end_and_close()
+    return lines + told(limit, 0, 16385) + stream.feed(16385) + stream.preview(3) + stream.end_and_close()
 
 
 def shortened(words, limit):
@@ -277,7 +286,7 @@ def by_limit(limit):
 
 
 def all_lengths():
-    lines = [line for limit in (0, 1, 2, 25, 26, 27, 64) for line in by_limit(limit)]
+    lines = [line for limit in LIMITS for line in by_limit(limit)]
     lines += [line for limit in (65, 2 ** 32, 2 ** 64 - 1) for line in told_words(limit)]
     return lines + shortened(80, 64) + [line for words in range(17) for line in shortened(words, 0)]
 
@@ -412,7 +421,7 @@ def refused_closes():
     right = bytes.fromhex("ff80")
     lines += [line for words in (4, 3) for figure in wrong for line in stream.close(figure, words)]
     lines += stream.close(right, 3) + stream.preview(1) + stream.preview(2) + stream.close(right, 4)
-    return lines + refused(10) + unsound(1, 10, 3, 64) + unsound(1, 10, 0, 64) + unsound(1, 7, 0)
+    return lines + refused(10) + unsound(1, 10, 3) + unsound(1, 10, 0) + unsound(1, 7, 0)
 
 
 def fed_between():
@@ -430,8 +439,84 @@ def longest_figure():
     return lines + [line for figure in figures for line in stream.close(figure, 54)]
 
 
-print("\n".join(whole_rows() + cut_rows() + closed_rows() + rounds_edges() + opens() + all_lengths() + unsound(14) + other_limits()
-                + altered_levels() + sound_areas() + unsound(3, 7, 0) + short_logs() + told_edges() + told_longest() + most_nodes()
-                + long_stream() + starts() + [pieces(bits) for bits in (1, 3, 9, 19, 171, 513, 1026, 4104)]
-                + logged([(CUT, 0, 4093), (CUT[511:], 5, 5), (CUT[512:], 2, 6)]) + start_edges() + ordered_refusals()
-                + refused_closes() + fed_between() + longest_figure()))
+def bare(lines):
+    """Of a call's lines the number and the count, which are all that stream_test writes of most."""
+    return [" ".join(lines[0].split()[:2])]
+
+
+def begun(stream, bits):
+    return bare(OPENED) + bare(told(stream.limit, 0, bits)) + bare(stream.feed(bits))
+
+
+def shown(limit):
+    """Document 02, M-109: "Showing a level that the area lacks gives the empty part." An unsound or short area shows none."""
+    levels = (0, 1, 2, 3, 4, 26, 27, 28, 29, 65, 66, 2 ** 63)
+    return ["64" if 1 <= level <= area_levels(limit) else "0" for level in levels]
+
+
+def shown_in(words, limit):
+    if words < area_words(limit):
+        return 3 * bare(refused(7)) + shown(-1) + bare(refused(7)) + output("", 3)
+    stream = Stream(KEY, 24, limit, rounds=9)
+    return begun(stream, 16385) + shown(limit) + bare(stream.last_nodes()) + output(stream.digest(), 3)
+
+
+def closed_by_figure(stream):
+    """A preview, and a close with its figure."""
+    return bare(stream.preview(3)) + bare(stream.last_nodes())
+
+
+def shown_part(limit, bits, is_sound, own=None, words=1750, closed=False):
+    """Level 1 of the first words of an area that was changed, and the same after a close of the whole; its own L is another then, if
+    word 4 was changed. The area may have been closed before."""
+    own = limit if own is None else own
+    lines = begun(Stream(KEY, 8, limit), bits)
+    if closed:
+        lines += closed_by_figure(fed(limit, bits))
+    part = ["64" if is_sound and area_words(own) <= words else "0"]
+    if is_sound and not closed:
+        return lines + part + closed_by_figure(fed(own, bits)) + part
+    return lines + part + 2 * bare(refused(10 if is_sound else 7)) + part
+
+
+def fed(limit, bits):
+    stream = Stream(KEY, 8, limit)
+    stream.feed(bits)
+    return stream
+
+
+def shown_by_limit(limit):
+    words = area_words(limit)
+    lines = told_words(limit)
+    for lent in (words, 1750, words - 1):
+        lines += shown_in(lent, limit)
+    lines += shown_part(limit, 1, True, words=words - 1)
+    return lines + [line for closed in (False, True) for at in (words - 1, words)
+                    for line in shown_part(limit, 1, is_past(limit, at), closed=closed)]
+
+
+def shown_parts():
+    """What was changed in each of the rows is said where rows.c has them: words before the levels, which are unsound, the L, words of
+    levels, words that may be others, and words of closed areas, which are unsound."""
+    rows = [shown_part(64, 1, True, words=80)] + [shown_part(0, 1, True, words=words) for words in range(17)]
+    rows += [shown_part(64, 4097 if i == 12 else 1, False) for i in range(14)]
+    rows += [shown_part(first, bits, is_other(first, bits, limit), limit, words) for words, first, bits, limit in OTHER_LIMITS]
+    rows += [shown_part(limit, bits, is_past(limit, at)) for limit, bits, at in ALTERED_LEVELS]
+    rows += [shown_part(limit, bits, True) for limit, bits in ((64, 1), (64, 4096), (0, 3073), (64, 1), (64, 1), (64, 1))]
+    rows += [shown_part(64, bits, False, closed=True) for bits in (1, 1, 1, 16384)]
+    return [line for row in rows for line in row]
+
+
+def host():
+    return (whole_rows() + cut_rows() + closed_rows() + rounds_edges() + opens() + all_lengths() + unsound(14) + other_limits()
+            + altered_levels() + sound_areas() + unsound(3, 7, 0) + short_logs() + told_edges() + told_longest() + most_nodes()
+            + long_stream() + starts() + [pieces(bits) for bits in (1, 3, 9, 19, 171, 513, 1026, 4104)]
+            + logged([(CUT, 0, 4093), (CUT[511:], 5, 5), (CUT[512:], 2, 6)]) + start_edges() + ordered_refusals()
+            + refused_closes() + fed_between() + longest_figure())
+
+
+def rattle():
+    return [line for limit in LIMITS for line in shown_by_limit(limit)] + shown_parts()
+
+
+print("\n".join(rattle() if sys.argv[1] == "--rattle" else host()))

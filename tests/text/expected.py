@@ -1,5 +1,5 @@
 #!/usr/bin/env python3
-"""expected.py: the lines that the program text_test must write, by documents 01 and 02 alone.
+"""expected.py [--rattle]: the lines that the host rows.c must write, or the program text_test, by documents 01 and 02 alone.
 
 The streams are of ones (or zeros) with r = 0, so that the output of a full block is ones (or zeros) again: "Reels by hand"; a
 stream with another r has made no node. In line 1 r has two bytes as of M-108, and had one before: the width of its field.
@@ -7,6 +7,7 @@ A text is read exactly if `sound` says at one of the two that it is what writing
 the words that document 02, M-109, gives for its L: "16 words plus 64 times the smaller of L + 1 and 27".
 """
 import re
+import sys
 
 KEY = b"key"
 LEVELS = 27
@@ -127,17 +128,19 @@ def too_few(words, limit):
     read_into(words, "read-damaged", b" " + text[1:])
 
 
-suspended("empty", 0, 64)
-suspended("one", 1, 64)
-suspended("zero", 1, 64, "0")
-suspended("full", 4096, 64)
-suspended("later", 4097, 64)
-suspended("sequential", 3073, 0)
-suspended("joined", 4097, 1)
-suspended("ended", 4097, 64, ended=True)
-suspended("longest", 2 ** 64 - 1, 64, "0")
-for r in (255, 256, 4095):
-    suspended(f"rounds-{r}", 1, 64, r=r)
+def suspensions():
+    suspended("empty", 0, 64)
+    suspended("one", 1, 64)
+    suspended("zero", 1, 64, "0")
+    suspended("full", 4096, 64)
+    suspended("later", 4097, 64)
+    suspended("sequential", 3073, 0)
+    suspended("joined", 4097, 1)
+    suspended("ended", 4097, 64, ended=True)
+    suspended("longest", 2 ** 64 - 1, 64, "0")
+    for r in (255, 256, 4095):
+        suspended(f"rounds-{r}", 1, 64, r=r)
+
 
 BASE = text_of(NEW, 4097, 64)
 HEAD, LEVEL_1, LEVEL_2 = BASE[:176], BASE[176:1203], BASE[1203:]
@@ -153,54 +156,87 @@ def changed(at, new):
     return BASE[:at] + new + BASE[at + len(new):]
 
 
-read("nothing", b"")
-read("undamaged", BASE)
-read("last-byte-missing", BASE[:-1])
-read("trailing-line-feed", BASE + b"\n")
-read("trailing-digit", BASE + b"0")
-read("carriage-return", BASE[:-1] + b"\r")
-read("capital", changed(47, b"6B"))
-read("space", changed(4, b"0 "))
-for phase in (0, 2, 3):
-    read(f"phase-{phase}", head(phase=phase))
-read("limit-65", head(limit=65))
-for key_bytes in (65, 2):
-    read(f"key-bytes-{key_bytes}", head(key_bytes=key_bytes))
-for d in (0, 513):
-    read(f"d-{d}", head(d=d))
-for r in (255, 256, 4095, 4096, 65535):
-    read(f"r-{r}", head(r=r))
-read("r-space", changed(2, b" "))
-read("r-capital", changed(4, b"F"))
-# a bit more is a bit that is held: 4,098 bits, the last one zero
-for total in (4096, 4098):
-    read(f"total-{total}", head(total=total))
-for made in (0, 2):
-    read(f"compressions-{made}", head(made=made))
-read("unused-key-byte", changed(53, b"01"))
-read("unheld-bit", changed(176 + 2, b"c"))
-read("unheld-word", changed(1203 + 2 + 256, b"1"))
-read("level-1-left-out", HEAD + LEVEL_2)
-read("level-2-left-out", HEAD + LEVEL_1)
-read("level-2-twice", BASE + LEVEL_2)
-read("levels-falling", HEAD + b"02" + LEVEL_1[2:] + b"01" + LEVEL_2[2:])
-read("level-0", HEAD + LEVEL_1 + b"00" + LEVEL_2[2:])
-read("level-28", HEAD + LEVEL_1 + b"1c" + LEVEL_2[2:])
-read("zeros", text_of(NEW, 1, 64) + b"02" + b"0" * 1024 + b"\n")
-for at in (0, 2, 6, 8, 10, 14, 30, 44, 47, 173, 176, 1203, 2227):
-    print("at", at)
-    read("one-left-out", BASE[:at] + BASE[at + 1:])
-    read("two-left-out", BASE[:at] + BASE[at + 2:])
-    read("one-twice", BASE[:at + 1] + BASE[at:])
-    read("two-twice", BASE[:at + 2] + BASE[at:])
-for limit in (0, 1, 2, 25, 26, 27, 64):
-    suspended("limit", 12289, limit)
-    too_few(area_words(limit) - 1, limit)
-too_few(80, 64)
-for words in range(17):
-    too_few(words, 0)
-# word 4, r or word 15 is out of range
-for _ in range(8):
-    print("write 7 0 a5")
-print("output-short 9 0", "a5" * 175)
-print("output-long 0 176", text_of(NEW, 0, 64).hex() + "a5" * 2)
+def damages():
+    read("nothing", b"")
+    read("undamaged", BASE)
+    read("last-byte-missing", BASE[:-1])
+    read("trailing-line-feed", BASE + b"\n")
+    read("trailing-digit", BASE + b"0")
+    read("carriage-return", BASE[:-1] + b"\r")
+    read("capital", changed(47, b"6B"))
+    read("space", changed(4, b"0 "))
+    for phase in (0, 2, 3):
+        read(f"phase-{phase}", head(phase=phase))
+    read("limit-65", head(limit=65))
+    for key_bytes in (65, 2):
+        read(f"key-bytes-{key_bytes}", head(key_bytes=key_bytes))
+    for d in (0, 513):
+        read(f"d-{d}", head(d=d))
+    for r in (255, 256, 4095, 4096, 65535):
+        read(f"r-{r}", head(r=r))
+    read("r-space", changed(2, b" "))
+    read("r-capital", changed(4, b"F"))
+    # a bit more is a bit that is held: 4,098 bits, the last one zero
+    for total in (4096, 4098):
+        read(f"total-{total}", head(total=total))
+    for made in (0, 2):
+        read(f"compressions-{made}", head(made=made))
+    read("unused-key-byte", changed(53, b"01"))
+    read("unheld-bit", changed(176 + 2, b"c"))
+    read("unheld-word", changed(1203 + 2 + 256, b"1"))
+    read("level-1-left-out", HEAD + LEVEL_2)
+    read("level-2-left-out", HEAD + LEVEL_1)
+    read("level-2-twice", BASE + LEVEL_2)
+    read("levels-falling", HEAD + b"02" + LEVEL_1[2:] + b"01" + LEVEL_2[2:])
+    read("level-0", HEAD + LEVEL_1 + b"00" + LEVEL_2[2:])
+    read("level-28", HEAD + LEVEL_1 + b"1c" + LEVEL_2[2:])
+    read("zeros", text_of(NEW, 1, 64) + b"02" + b"0" * 1024 + b"\n")
+
+
+def shifts():
+    for at in (0, 2, 6, 8, 10, 14, 30, 44, 47, 173, 176, 1203, 2227):
+        print("at", at)
+        read("one-left-out", BASE[:at] + BASE[at + 1:])
+        read("two-left-out", BASE[:at] + BASE[at + 2:])
+        read("one-twice", BASE[:at + 1] + BASE[at:])
+        read("two-twice", BASE[:at + 2] + BASE[at:])
+
+
+def lengths():
+    for limit in (0, 1, 2, 25, 26, 27, 64):
+        suspended("limit", 12289, limit)
+        too_few(area_words(limit) - 1, limit)
+    too_few(80, 64)
+    for words in range(17):
+        too_few(words, 0)
+    # word 4, r or word 15 is out of range
+    for _ in range(8):
+        print("write 7 0 a5")
+    print("output-short 9 0", "a5" * 175)
+    print("output-long 0 176", text_of(NEW, 0, 64).hex() + "a5" * 2)
+
+
+def passed(text, words, room):
+    """A text is read into so many words of junk, and what is there then written to so many bytes."""
+    number = read_number(text, words)
+    print(number, 0, "same" if number else "changed", "same", end=" ")
+    written = text_of(NEW, 0, 0)
+    if number or room < len(written):
+        print(7 if number else 9, 0, "a5" * room)
+    else:
+        print(0, len(written), written.hex() + "a5" * (room - len(written)))
+
+
+def rattle():
+    text, old = text_of(NEW, 0, 0), text_of(OLD, 0, 0)
+    for row in ((text, 82, 178), (old, 82, 178), (text, 80, 176), (text, 80, 175), (text, 79, 178), (old, 79, 178), (b"0", 82, 178)):
+        passed(*row)
+
+
+if sys.argv[1:] == ["--rattle"]:
+    rattle()
+else:
+    suspensions()
+    damages()
+    shifts()
+    lengths()

@@ -15,14 +15,10 @@ use Rattle.lists.specs.SameLaws.{or-zero}
 use Rattle.bits.specs.Bits.{bits, bitsOf, spell}
 use Rattle.bits.specs.BitsLaws.{length-bits, length-bitsOf, bitsOf-drop, spell-from, spell-bits, spell-drop}
 use Rattle.calls.specs.Area.{allFalse}
-use Rattle.area.specs.LevelTests.{emptyFrom}
+use Rattle.calls.specs.AreaLaws.{allFalse-append}
+use Rattle.calls.specs.SoundParts.{emptyFrom}
 
 -- ---- bits that are all false
-
-pub allFalse-append : (xs ys : List Bool) → allFalse (xs ++ ys) ≡ (allFalse xs && allFalse ys)
-allFalse-append [] ys = refl
-allFalse-append (true ∷ xs) ys = refl
-allFalse-append (false ∷ xs) ys = allFalse-append xs ys
 
 allFalse-spell : (bs : List Bool) → allFalse bs ≡ eqb (spell 0 bs) 0
 allFalse-spell [] = refl

@@ -10,14 +10,7 @@ use lib.ListN.{take, drop, replicate}
 use Rattle.bits.specs.Bits.{bitsOf}
 use Rattle.tree.specs.Tree.{blockBits, sequentialBits, outputBits}
 use Rattle.calls.specs.Area.{allFalse, doneBlocks, heldBits, heldParallel, heldSequential, parallelHold, sequentialHold, holdsAbove, openHolds, holdsFor, clean, cleanAll, levelsFrom}
-
--- no bit of a level's words is set from its bit n on
-abbrev pub emptyFrom : ℕ → List ℕ → Bool
-emptyFrom n ws = allFalse (drop n (bitsOf 64 ws))
-
-abbrev pub allEmpty : List (List ℕ) → Bool
-allEmpty [] = true
-allEmpty (ws ∷ up) = emptyFrom 0 ws && allEmpty up
+use Rattle.calls.specs.SoundParts.{emptyFrom, allEmpty, clean-empty}
 
 -- a sequential level after c compressions of it, with some bits held
 abbrev pub soundSequential : ℕ → ℕ → List ℕ → Bool
@@ -46,11 +39,6 @@ some (suc c) = leb·suc-suc 0 c ∙ leb·zero c ∙ sym (ap not (eqb·suc-zero c
 
 clean-sequential : (c n : ℕ) (ws : List ℕ) → clean (sequentialHold c n) ws ≡ soundSequential c n ws
 clean-sequential c n ws = ap (λ (b : Bool). ((b || allFalse (take outputBits (bitsOf 64 ws))) && emptyFrom (outputBits + n) ws)) (some c)
-
--- as many levels as holds, none of which holds anything
-pub clean-empty : (area : List ℕ) (n k : ℕ) → cleanAll (replicate n (parallelHold 0)) (levelsFrom area n k) ≡ allEmpty (levelsFrom area n k)
-clean-empty area zero k = refl
-clean-empty area (suc n) k = rw (clean-empty area n (suc k)) refl
 
 clean-above : (area : List ℕ) (m n i k : ℕ) → cleanAll (holdsAbove m n i) (levelsFrom area m k) ≡ soundAbove n i (levelsFrom area m k)
 clean-above area zero n i k = refl

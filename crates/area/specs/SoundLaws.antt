@@ -1,24 +1,23 @@
 -- Laws: of soundness in Area, as the code tests it: level by level, and then the words before the levels.
 use mathlib.Core.Path.{_≡_, refl, sym, ap, _∙_}
-use mathlib.Core.Bool.{Bool, true, false, _||_, _&&_, and-assoc}
+use mathlib.Core.Bool.{Bool, true, false, _||_, _&&_}
 use mathlib.Core.List.{List}
 use Prim.Native.Nat.{ℕ, zero, suc, _+_, _-_, _*_, _/_, _%_, _≤_, _<_}
 use native.Mathlib.Omega.{arith}
 use lib.Dec.{eqb, ltb}
 use lib.ListN.{length, take, drop, getD}
-use lib.Seq.{drop-drop, take-add}
 use borrow.Author.Tests.{ltb-false, eq-eqb, ne-eqb}
 use Rattle.lists.specs.And.{and-first, and-second}
 use Rattle.bits.specs.Bits.{bitsOf}
-use Rattle.bits.specs.BitsLaws.{bitsOf-append, bitsOf-take}
+use Rattle.bits.specs.BitsLaws.{bitsOf-take}
 use Rattle.tree.specs.Tree.{blockBits, sequentialBits, outputBits}
 use Rattle.refusals.specs.Refusals.{firstRefusal, rangeTests, paramTests}
 use Rattle.calls.specs.Moved.{length-key}
-use Rattle.calls.specs.Area.{Hold, headWords, cleanAll, allFalse, levelWords, levelsFrom, levelsOf, doneBlocks, heldBits, paramsOf, countFor, openCount, soundPhase, soundParams, soundKey, soundCount, soundLast, soundLevels, sound, ownLevels, ownWords, Long, blockWords, outputWords, levelStart, levelsUp}
-use Rattle.area.specs.LevelTests.{clean-empty, clean-open, holds-ended, holds-open, emptyFrom, allEmpty, soundSequential, soundAbove, soundOpen}
+use Rattle.calls.specs.Area.{Hold, headWords, cleanAll, allFalse, levelWords, levelsOf, doneBlocks, heldBits, paramsOf, countFor, openCount, soundPhase, soundParams, soundKey, soundCount, soundLast, soundLevels, ownLevels, ownWords, Long, blockWords, outputWords, levelStart, levelsUp}
+use Rattle.calls.specs.SoundParts.{emptyFrom, allEmpty, clean-empty, empty-levels, soundHead}
+use Rattle.area.specs.LevelTests.{clean-open, holds-ended, holds-open, soundSequential, soundAbove, soundOpen}
 use Rattle.tree.specs.Sizes.{treeNodes}
 use Rattle.calls.specs.AreaLaws.{levels-split, levelsUp-cons, levelsUp-none}
-use Rattle.area.specs.EmptyLaws.{allFalse-append}
 
 -- an area that the code finds not short
 pub not-short : (area : List ℕ) {b : Bool} → b ≡ ltb (length area) (ownWords area) → b ≡ false → Long area
@@ -34,14 +33,6 @@ pub record LevelPart (area : List ℕ) (k : ℕ) (part : List ℕ) : Type 0 wher
 -- the part that the code lends is the level's
 pub lent-level : (area : List ℕ) (k : ℕ) → take ((levelStart k + blockWords) - levelStart k) (drop (levelStart k) area) ≡ levelWords area k
 lent-level area k = let e : (levelStart k + blockWords) - levelStart k ≡ blockWords = omega arith in rw e
-
-pub empty-levels : (area : List ℕ) (m k : ℕ) → 1 ≤ k → allEmpty (levelsFrom area m k) ≡ emptyFrom 0 (take (blockWords * m) (drop (levelStart k) area))
-empty-levels area zero k h = refl
-empty-levels area (suc m) k h =
-    let D : List ℕ = drop (levelStart k) area in
-    let e : blockWords * suc m ≡ blockWords + blockWords * m = omega arith in
-    let f : levelStart k + blockWords ≡ levelStart (suc k) = omega arith in
-    rw (e, take-add blockWords (blockWords * m) D, bitsOf-append, allFalse-append, drop-drop blockWords (levelStart k) area, f, empty-levels area m (suc k) (omega arith))
 
 pub empty-all : (area : List ℕ) → allEmpty (levelsOf area) ≡ emptyFrom 0 (take (blockWords * ownLevels area) (drop headWords area))
 unfolding levelsOf
@@ -96,10 +87,6 @@ pub refused-words : (area : List ℕ)
 unfolding paramsOf
 refused-words area = rw (length-key area)
 
--- all that soundness asks of the words before the levels
-unfoldable pub soundHead : List ℕ → Bool
-soundHead area = soundPhase area && (soundParams area && (soundKey area && (soundCount area && soundLast area)))
-
 pub head-phase : (area : List ℕ) → soundPhase area ≡ false → soundHead area ≡ false
 unfolding soundHead
 head-phase area p = and-first (soundPhase area) (soundParams area && (soundKey area && (soundCount area && soundLast area))) p
@@ -113,24 +100,6 @@ head-params area p q = head-rest area p ∙ and-first (soundParams area) (soundK
 
 pub head-more : (area : List ℕ) → soundPhase area ≡ true → soundParams area ≡ true → soundHead area ≡ (soundKey area && (soundCount area && soundLast area))
 head-more area p q = head-rest area p ∙ and-second (soundParams area) (soundKey area && (soundCount area && soundLast area)) q
-
--- the tests of the head, and one more
-pub parts-joined : (area : List ℕ) (levels : Bool)
-    → (soundPhase area && (soundParams area && (soundKey area && (soundCount area && (soundLast area && levels))))) ≡ (soundHead area && levels)
-unfolding soundHead
-parts-joined area f =
-    let a = soundPhase area in
-    let b = soundParams area in
-    let c = soundKey area in
-    let d = soundCount area in
-    let e = soundLast area in
-    sym
-    (and-assoc a (b && (c && (d && e))) f
-    ∙ ap (_&&_ a) (and-assoc b (c && (d && e)) f ∙ ap (_&&_ b) (and-assoc c (d && e) f ∙ ap (_&&_ c) (and-assoc d e f))))
-
-pub sound-parts : (area : List ℕ) → sound area ≡ (soundHead area && soundLevels area)
-unfolding sound
-sound-parts area = parts-joined area (soundLevels area)
 
 pub levels-ended : (area : List ℕ) → getD area 0 0 ≡ 2 → soundLevels area ≡ allEmpty (levelsOf area)
 unfolding levelsOf

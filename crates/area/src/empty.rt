@@ -2,7 +2,7 @@
 ghost use mathlib.Core.Path.{_≡_};
 ghost use lib.Dec.{eqb};
 ghost use lib.ListN.{drop};
-ghost use Rattle.area.specs.LevelTests.{emptyFrom};
+ghost use Rattle.calls.specs.SoundParts.{emptyFrom};
 
 // The bits of a word.
 const WORD: usize = 64;

@@ -7,7 +7,8 @@ ghost use lib.Dec.{eqb, ltb};
 ghost use lib.ListN.{length, getD};
 ghost use Rattle.tree.specs.Tree.{mostKeyBytes, mostLimit};
 ghost use Rattle.calls.specs.Area.{areaLevels, areaWords, ownLevels, ownWords, levelStart, countFor, soundKey, soundCount, soundLast, sound, Long};
-ghost use Rattle.area.specs.SoundLaws.{LevelPart, soundHead};
+ghost use Rattle.calls.specs.SoundParts.{soundHead};
+ghost use Rattle.area.specs.SoundLaws.{LevelPart};
 use node::Block;
 use refusals::Params;
 
@@ -135,7 +136,7 @@ fn count_for(phase: u64, limit: u64, total: u64) -> u64
     ensures { λ r. ⌜ r ≡ countFor phase limit total ⌝ }
 {
     if phase == 2 {
-        return node::count::tree_nodes(limit, total);
+        return shape::tree_nodes(limit, total);
     }
     count::open_count(limit, total)
 }

@@ -1,8 +1,5 @@
-// Bits, bytes and words: which bits of lent bytes a piece has, the copier that fills a block of words with message bits, and
-// hexadecimal digits (hex).
+// Bits, bytes and words: which bits of lent bytes a piece has, and the copier that fills a block of words with message bits.
 // Bytes go into words high byte first and bits into bytes high bit first.
-pub mod hex;
-
 ghost use mathlib.Core.Path.{_≡_};
 ghost use Prim.Native.Nat.{_+_, _-_, _*_, _/_, _%_, _^_, _≤_, _<_};
 ghost use lib.ListN.{length, getD};

@@ -2,7 +2,7 @@
 // expected lines, bit by bit.
 ghost use Prim.Native.Nat.{_<_, _≤_};
 ghost use lib.ListN.{length};
-use bits::hex::Digit;
+use digits::Digit;
 use libc::STDOUT_FILENO;
 
 // Writes the words on one line.
@@ -65,7 +65,7 @@ fn fills() {
 fn digits() {
     let mut n = 0;
     while n < 16 {
-        let digit = [bits::hex::value_digit(n)];
+        let digit = [digits::value_digit(n)];
         io::write_all(STDOUT_FILENO, &digit);
         n += 1;
     }
@@ -74,7 +74,7 @@ fn digits() {
 
 // The value of a byte that is a digit.
 fn value(b: u8) {
-    if let Digit::Value(v) = bits::hex::digit_value(b) {
+    if let Digit::Value(v) = digits::digit_value(b) {
         let digit = [b];
         io::write_all(STDOUT_FILENO, &digit);
         io::write_all(STDOUT_FILENO, b"=");

@@ -1,6 +1,6 @@
 -- Laws: the words of an area and what they stand for: head, levels and tail are read back as they were written.
 use mathlib.Core.Path.{_≡_, refl, sym, ap, _∙_}
-use mathlib.Core.Bool.{Bool, true, false}
+use mathlib.Core.Bool.{Bool, true, false, _&&_}
 use mathlib.Core.List.{List, [], _∷_, _++_, append-assoc, append-nil, flatten}
 use Prim.Native.Nat.{ℕ, zero, suc, _+_, _-_, _*_, _^_, _≤_, _<_}
 use native.Mathlib.Omega.{arith}
@@ -168,6 +168,11 @@ module _ (area : List ℕ) (st : List (List ℕ)) (long : Long area) (a : AllLen
   levelsOf-withLevels = levels-back params-withLevels
 
 -- ---- no bit set
+
+pub allFalse-append : (xs ys : List Bool) → allFalse (xs ++ ys) ≡ (allFalse xs && allFalse ys)
+allFalse-append [] ys = refl
+allFalse-append (true ∷ xs) ys = refl
+allFalse-append (false ∷ xs) ys = allFalse-append xs ys
 
 pub allFalse-replicate : (n : ℕ) → allFalse (replicate n false) ≡ true
 allFalse-replicate zero = refl

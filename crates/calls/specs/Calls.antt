@@ -295,7 +295,7 @@ shown area level = leb (ownWords area) (length area) && (sound area && (leb 1 le
 unfoldable pub levelOf : List ℕ → ℕ → List ℕ
 levelOf area level = elim (shown area level) [ true ↦ levelWords area level | false ↦ [] ]
 
--- ---- log words (bit count)
+-- ---- log words (area, bit count)
 
 -- document 02, M-103: "It refuses 7, 10 and 6 in that order."
 unfoldable pub logWordsNumber : List ℕ → ℕ → ℕ

@@ -24,6 +24,7 @@ pub mod Receive
 pub mod Rows
 pub mod Sound
 pub mod SoundExamples
+pub mod SoundParts
 pub mod Stands
 pub mod StreamExamples
 pub mod Tails

@@ -39,14 +39,20 @@ abbrev pub restOf : List (List ℕ) → List (List ℕ)
 restOf [] = []
 restOf (ws ∷ up) = up
 
--- a full parallel level 1 is flushed, the next block fills it, a later bit comes, and it is flushed again
+-- a parallel level 1 that held a full block is flushed; then it holds the next block, which is full, too, a later bit comes, and it is
+-- flushed again
 abbrev pub flushedTwo : Params → ℕ → ℕ → List ℕ → List (List ℕ) → Made
-flushedTwo P limit T next L =
-    let one : Made = flushed P limit T L in
-    let two : Made = flushed P limit (T + blockBits) (next ∷ restOf (one .levels)) in
+flushedTwo P limit T held [] = made [] []
+flushedTwo P limit T held (ws ∷ up) =
+    let one : Made = flushed P limit T (held ∷ up) in
+    let two : Made = flushed P limit (T + blockBits) (ws ∷ restOf (one .levels)) in
     made (two .levels) (one .nodes ++ two .nodes)
 
 -- the levels stay as many, of 64 words each
+pub wide-next : {own : ℕ} (next : List ℕ) (L : List (List ℕ)) → length next ≡ blockWords → Wide own L → Wide own (next ∷ restOf L)
+wide-next next [] h w = absurd (omega (arith, w .size))
+wide-next next (ws ∷ up) h w = record { widths = (h, w .widths .1); size = w .size }
+
 module _ (P : Params) where
   pub wide-flushed : {own : ℕ} (limit T : ℕ) (L : List (List ℕ)) → Wide own L → Wide own (flushed P limit T L .levels)
   wide-flushed limit T [] w = w
@@ -58,15 +64,12 @@ module _ (P : Params) where
         size = ap suc (Machine.receive-size P n 2 (doneBlocks blockBits T) (outWords P m) up) ∙ w .size;
       }
 
-  wide-next : {own : ℕ} (next : List ℕ) (L : List (List ℕ)) → length next ≡ blockWords → Wide own L → Wide own (next ∷ restOf L)
-  wide-next next [] h w = absurd (omega (arith, w .size))
-  wide-next next (ws ∷ up) h w = record { widths = (h, w .widths .1); size = w .size }
-
-  pub wide-two : {own : ℕ} (limit T : ℕ) (next : List ℕ) (L : List (List ℕ)) → length next ≡ blockWords → Wide own L
-      → Wide own (flushedTwo P limit T next L .levels)
-  wide-two limit T next L h w =
-      let one : List (List ℕ) = flushed P limit T L .levels in
-      wide-flushed limit (T + blockBits) (next ∷ restOf one) (wide-next next one h (wide-flushed limit T L w))
+  pub wide-two : {own : ℕ} (limit T : ℕ) (held : List ℕ) (L : List (List ℕ)) → length held ≡ blockWords → Wide own L
+      → Wide own (flushedTwo P limit T held L .levels)
+  wide-two limit T held [] h w = w
+  wide-two limit T held (ws ∷ up) h w =
+      let one : List (List ℕ) = flushed P limit T (held ∷ up) .levels in
+      wide-flushed limit (T + blockBits) (ws ∷ restOf one) (wide-next ws one (w .widths .0) (wide-flushed limit T (held ∷ up) (wide-next held (ws ∷ up) h w)))
 
 -- ---- a bound on a number that the code has worked out
 
@@ -164,36 +167,46 @@ module _ {key : List ℕ} {params : declared.Params} {constants : List ℕ} {T :
 
 -- ---- two nodes of level 1
 
--- what the code needs to flush a full level 1 and then the block that comes next
-pub record FlushingTwo (key : List ℕ) (params : declared.Params) (constants : List ℕ) (T : ℕ) (next area log : List ℕ) (at : ℕ) : Type 0 where
+-- what the code needs to flush the full block that level 1 held, and then the one that it holds
+pub record FlushingTwo (key : List ℕ) (params : declared.Params) (constants : List ℕ) (T : ℕ) (held area log : List ℕ) (at : ℕ) : Type 0 where
   pub parallel : Parallel key params constants area
   pub full : heldBits blockBits T ≡ blockBits
-  pub words : length next ≡ blockWords
-  pub room : at + 2 * length (flushedTwo (paramsFrom key params) (params .limit) T next (levelsOf area) .nodes) ≤ length log
+  pub words : length held ≡ blockWords
+  pub room : at + 2 * length (flushedTwo (paramsFrom key params) (params .limit) T held (levelsOf area) .nodes) ≤ length log
 
-module _ {key : List ℕ} {params : declared.Params} {constants : List ℕ} {T : ℕ} {next area log : List ℕ} {at : ℕ} (f : FlushingTwo key params constants T next area log at) where
+module _ {key : List ℕ} {params : declared.Params} {constants : List ℕ} {T : ℕ} {held area log : List ℕ} {at : ℕ} (f : FlushingTwo key params constants T held area log at) where
   abbrev Q : Params
   Q = paramsFrom key params
 
   abbrev one : Made
-  one = flushed Q (params .limit) T (levelsOf area)
+  one = flushed Q (params .limit) T (held ∷ levelsUp area 2)
 
   abbrev two : Made
-  two = flushed Q (params .limit) (T + blockBits) (next ∷ restOf (one .levels))
+  two = flushed Q (params .limit) (T + blockBits) (levelWords area 1 ∷ restOf (one .levels))
 
-  counted : length (one .nodes ++ two .nodes) ≡ length (one .nodes) + length (two .nodes)
-  counted = length-append (one .nodes) (two .nodes)
+  both : flushedTwo Q (params .limit) T held (levelsOf area) ≡ made (two .levels) (one .nodes ++ two .nodes)
+  both = ap (flushedTwo Q (params .limit) T held) (levels-split area)
+
+  counted : length (flushedTwo Q (params .limit) T held (levelsOf area) .nodes) ≡ length (one .nodes) + length (two .nodes)
+  counted = ap (λ (x : Made). length (x .nodes)) both ∙ length-append (one .nodes) (two .nodes)
 
   -- the first
-  pub two-first : Flushing key params constants T area log at
-  two-first = record { ready = f .parallel .ready; long = f .parallel .long; own = f .parallel .own; room = omega (arith, f .room, counted) }
+  module _ {index : ℕ} {out : List ℕ} (d : index ≡ doneBlocks blockBits T) (o : out ≡ nodeWords Q 1 index 0 0 held) where
+    pub first-passing : index < 2 ^ 56 → Passing key params constants index out area log at
+    first-passing small = passing (f .parallel) T held d o small (omega (arith, f .room, counted))
+
+    pub first-passed : {area₁ log₁ : List ℕ} {at₁ : ℕ} → Left (passedWords Q (params .limit) index out area) area log at area₁ log₁ at₁
+        → Left one area log at area₁ log₁ at₁
+    first-passed l = was-passed (f .parallel) T held d o l
 
   wide : Wide (paramsOf area .limit) (one .levels)
-  wide = wide-flushed Q (params .limit) T (levelsOf area) (wide-levels area (f .parallel .long))
+  wide =
+      wide-flushed Q (params .limit) T (held ∷ levelsUp area 2)
+      (rw (levels-split area) at (wide-next held (levelsOf area) (f .words) (wide-levels area (f .parallel .long))))
 
   -- the second, of the index after it
   module _ {area₁ log₁ : List ℕ} {at₁ : ℕ} (l : Left one area log at area₁ log₁ at₁) {index : ℕ} {out : List ℕ}
-      (d : index ≡ doneBlocks blockBits T + 1) (o : out ≡ nodeWords Q 1 index 0 0 next) where
+      (d : index ≡ doneBlocks blockBits T + 1) (o : out ≡ nodeWords Q 1 index 0 0 (levelWords area 1)) where
     second : index ≡ doneBlocks blockBits (T + blockBits)
     second = omega (arith, f .full)
 
@@ -208,11 +221,11 @@ module _ {key : List ℕ} {params : declared.Params} {constants : List ℕ} {T :
     above : levelsUp area₁ 2 ≡ restOf (one .levels)
     above = ap restOf (sym (levels-split area₁) ∙ left-levels (f .parallel .long) wide l)
 
-    pub two-passing : index < 2 ^ 56 → Passing key params constants index out area₁ log₁ at₁
-    two-passing small =
-        passing parallel₁ (T + blockBits) next second o small
+    pub second-passing : index < 2 ^ 56 → Passing key params constants index out area₁ log₁ at₁
+    second-passing small =
+        passing parallel₁ (T + blockBits) (levelWords area 1) second o small
         (rw above (omega (arith, f .room, counted, l .next, ap length (l .logged) ∙ length-sets log at (nodeLog (one .nodes)))))
 
-    pub two-passed : {area₂ log₂ : List ℕ} {at₂ : ℕ} → Left (passedWords Q (params .limit) index out area₁) area₁ log₁ at₁ area₂ log₂ at₂
-        → Left (flushedTwo Q (params .limit) T next (levelsOf area)) area log at area₂ log₂ at₂
-    two-passed m = left-then (f .parallel .long) wide l (rw above at (was-passed parallel₁ (T + blockBits) next second o m))
+    pub second-passed : {area₂ log₂ : List ℕ} {at₂ : ℕ} → Left (passedWords Q (params .limit) index out area₁) area₁ log₁ at₁ area₂ log₂ at₂
+        → Left (flushedTwo Q (params .limit) T held (levelsOf area)) area log at area₂ log₂ at₂
+    second-passed m = rw both (left-then (f .parallel .long) wide l (rw above at (was-passed parallel₁ (T + blockBits) (levelWords area 1) second o m)))

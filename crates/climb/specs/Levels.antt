@@ -1,6 +1,6 @@
 -- Laws: an area as its levels: one level replaced, and all levels from one on. The contracts of the code's own steps cite these.
 use mathlib.Core.Path.{_≡_, refl, sym, ap, _∙_}
-use mathlib.Core.List.{List, _∷_, _++_, append-assoc, flatten}
+use mathlib.Core.List.{List, _∷_, _++_, append-assoc, append-nil, flatten}
 use Prim.Native.Nat.{ℕ, zero, suc, _+_, _-_, _*_, _≤_, _<_}
 use native.Mathlib.Omega.{arith}
 use lib.ListN.{length, take, drop, replicate, take-append-drop}
@@ -15,6 +15,7 @@ use Rattle.calls.specs.FeedLaws.{flatten-from}
 pub use Rattle.tree.specs.Tree.{Params}
 use Rattle.calls.specs.Area.{areaWords, levelStart}
 pub use Rattle.calls.specs.Widths.{length-joined, length-empty}
+use Rattle.area.specs.SoundLaws.{LevelPart}
 
 -- an area with other words in a level
 abbrev pub withLevel : List ℕ → ℕ → List ℕ → List ℕ
@@ -56,6 +57,10 @@ paste-put d at n s h =
     let t : take (length s) s ≡ s = take-all (length s) s (omega arith) in
     let e : at + length s ≡ at + n = omega arith in
     rw (t, e) (append-assoc (take at d) s (drop (at + n) d) ∙ ap (λ (x : List ℕ). take at d ++ (s ++ x)) (sym (drop-drop n at d)))
+
+-- a level's part, copied whole
+pub level-copied : {area part copy : List ℕ} {k : ℕ} → LevelPart area k part → copy ≡ paste (replicate blockWords 0) 0 part (length part) → copy ≡ levelWords area k
+level-copied {part = part} l e = e ∙ paste-put (replicate blockWords 0) 0 blockWords part (l .size) ∙ append-nil part ∙ l .words
 
 -- ---- one level replaced
 

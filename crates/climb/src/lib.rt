@@ -122,20 +122,20 @@ pub fn flush(
     pass_on(area, params, key, constants, done, made, log, at)
 }
 
-// Makes two nodes of a parallel level 1, leaves, at once: of its own block, which is full, and of the next, which comes whole. Answers
-// where the log goes on. What the first makes above it goes to the log before the second.
+// Makes two nodes of a parallel level 1, leaves, at once: of a full block that it held before, and of the next, which it holds and which
+// is full, too. Answers where the log goes on. What the first makes above it goes to the log before the second.
 pub fn flush_two(
     area: &mut [u64],
     params: Params,
     key: &[u64],
     constants: &[u64],
     total: u64,
-    next: &[u64],
+    held: &[u64],
     log: &mut [u64],
     at: usize,
 ) -> usize
-    requires { ⌜ FlushingTwo (now key) params (now constants) total (now next) (now area) (now log) at ⌝ }
-    ensures { λ r. ⌜ Left (flushedTwo (paramsFrom (now (key .entry)) params) (params .limit) total (now (next .entry)) (levelsOf (now (area .entry)))) (now (area .entry)) (now (log .entry)) at (now (area .exit)) (now (log .exit)) r ⌝ }
+    requires { ⌜ FlushingTwo (now key) params (now constants) total (now held) (now area) (now log) at ⌝ }
+    ensures { λ r. ⌜ Left (flushedTwo (paramsFrom (now (key .entry)) params) (params .limit) total (now (held .entry)) (levelsOf (now (area .entry)))) (now (area .entry)) (now (log .entry)) at (now (area .exit)) (now (log .exit)) r ⌝ }
 {
     let done = count::done_blocks(Block::BITS, total);
     let two = node::compress_two(
@@ -143,9 +143,9 @@ pub fn flush_two(
         key,
         constants,
         full_place(1, done),
-        Area::level(area, 1),
+        held,
         full_place(1, done + 1),
-        next,
+        Area::level(area, 1),
     );
     let first = two.first;
     let second = two.second;

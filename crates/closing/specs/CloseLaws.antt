@@ -2,7 +2,7 @@
 -- over the levels.
 use mathlib.Core.Path.{_≡_, refl, sym, ap, _∙_}
 use mathlib.Core.Bool.{Bool, true, false}
-use mathlib.Core.List.{List, [], _∷_, append-nil}
+use mathlib.Core.List.{List, [], _∷_}
 use Prim.Native.Nat.{ℕ, zero, suc, _+_, _-_, _*_, _/_, _%_, _^_, _≤_, _<_}
 use native.Mathlib.Nat.{pow-succ'}
 use native.Mathlib.Omega.{arith}
@@ -19,7 +19,7 @@ use Rattle.calls.specs.Machine
 use Rattle.calls.specs.Close
 use Rattle.area.specs.SoundLaws.{LevelPart}
 use Rattle.refusals.specs.declared.Params as declared
-use Rattle.climb.specs.Levels.{paste-put, levels-split}
+use Rattle.climb.specs.Levels.{paste-put, level-copied, levels-split}
 use Rattle.node.specs.Words.{paramsFrom, Ready}
 use Rattle.climb.specs.MakeLaws.{Logged}
 use Rattle.climb.specs.ReceiveLaws.{length-outWords, log-more}
@@ -94,9 +94,7 @@ module _ (P : Params) (n k i : ℕ) (out area : List ℕ) (high : k ≤ ownLevel
 -- a level's words copied, and the output put into its place among them
 pub block-made : {area : List ℕ} {k : ℕ} {part : List ℕ} (l : LevelPart area k part) (place : ℕ) (out : List ℕ) → length out ≡ outputWords
     → paste (paste (replicate blockWords 0) 0 part (length part)) place out (length out) ≡ put place outputWords (levelWords area k) out
-block-made {area} {k} {part} l place out h =
-    let e : paste (replicate blockWords 0) 0 part (length part) ≡ levelWords area k = paste-put (replicate blockWords 0) 0 blockWords part (l .size) ∙ append-nil part ∙ l .words in
-    rw e (paste-put (levelWords area k) place outputWords out h)
+block-made {area} {k} l place out h = rw (level-copied l refl) (paste-put (levelWords area k) place outputWords out h)
 
 -- ---- the loop over the levels
 

@@ -10,10 +10,10 @@ use lib.ListN.{length, take, drop, getD, length-append, length-take, take-append
 use lib.Seq.{take-at, drop-at, drop-cons}
 use Rattle.lists.specs.Append.{cons-eq}
 use Rattle.lists.specs.Below.{Below}
-use Rattle.bits.specs.Hex.{digitOf}
-use Rattle.bits.specs.HexLaws.{digit-of-hex, hex-of-digit}
-use Rattle.bits.specs.declared.hex.Digit.{Digit}
-use Rattle.bits.specs.declared.hex.Digit.the-variants.{Value, Refused}
+use Rattle.digits.specs.Hex.{digitOf}
+use Rattle.digits.specs.HexLaws.{digit-of-hex, hex-of-digit}
+use Rattle.digits.specs.declared.Digit.{Digit}
+use Rattle.digits.specs.declared.Digit.the-variants.{Value, Refused}
 use Rattle.digits.specs.Digits.{hexDigits, wordDigits, withDigit, spelt, speltWords, withWord, allSpelt, bytesOf}
 
 -- a digit is four bits

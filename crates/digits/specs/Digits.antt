@@ -4,9 +4,9 @@ use mathlib.Core.List.{List, [], _∷_, _++_, map, flatten}
 use mathlib.Core.Option.{Option, none, some}
 use Prim.Native.Nat.{ℕ, zero, suc, _+_, _*_, _/_, _%_, _^_}
 use lib.ListN.{take, drop}
-use Rattle.bits.specs.Hex.{digitOf, hexDigit}
-use Rattle.bits.specs.declared.hex.Digit.{Digit}
-use Rattle.bits.specs.declared.hex.Digit.the-variants.{Value, Refused}
+use Rattle.digits.specs.Hex.{digitOf, hexDigit}
+use Rattle.digits.specs.declared.Digit.{Digit}
+use Rattle.digits.specs.declared.Digit.the-variants.{Value, Refused}
 use Rattle.digits.specs.declared.Reading.{Reading}
 use Rattle.digits.specs.declared.Reading.the-variants.{Number, NoDigit}
 

@@ -1,3 +1,5 @@
+pub mod Hex
+pub mod HexLaws
 pub mod Digits
 pub mod DigitLaws
 pub mod Loops

@@ -11,9 +11,9 @@ use borrow.Rule.Slice.PartMut.{midOf, putMid, mid-len}
 use Rattle.lists.specs.Flatten.{flatten-append, map-append}
 use Rattle.lists.specs.Part.{put}
 use Rattle.lists.specs.PartLaws.{next-part}
-use Rattle.bits.specs.Hex.{digitOf, hexDigit}
-use Rattle.bits.specs.declared.hex.Digit.{Digit}
-use Rattle.bits.specs.declared.hex.Digit.the-variants.{Value, Refused}
+use Rattle.digits.specs.Hex.{digitOf, hexDigit}
+use Rattle.digits.specs.declared.Digit.{Digit}
+use Rattle.digits.specs.declared.Digit.the-variants.{Value, Refused}
 use Rattle.digits.specs.Digits.{hexDigits, wordDigits, withDigit, spelt, speltWords, allSpelt}
 use Rattle.digits.specs.DigitLaws.{pow-16, length-digits, length-wordDigits, spelt-lt, all-known}
 

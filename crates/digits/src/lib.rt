@@ -1,12 +1,38 @@
-// Numbers and words as hexadecimal digits, and back.
+// Numbers and words as hexadecimal digits, and back; a digit is 0 to 9 or a to f, and a capital is refused.
 ghost use mathlib.Core.Path.{_≡_};
 ghost use mathlib.Core.Bool.{cond};
 ghost use mathlib.Core.Option.{none, some};
 ghost use Prim.Native.Nat.{_*_, _≤_, _<_};
 ghost use lib.ListN.{length};
+ghost use Rattle.digits.specs.Hex.{digitOf, hexDigit};
 ghost use Rattle.digits.specs.Digits.{hexDigits, wordDigits, spelt, speltWords, allSpelt, readingNumber};
-use bits::hex;
-use bits::hex::Digit;
+
+// What a byte is as a hexadecimal digit.
+pub enum Digit {
+    Value(u64),
+    Refused,
+}
+
+pub fn digit_value(b: u8) -> Digit
+    ensures { λ r. ⌜ r ≡ digitOf b ⌝ }
+{
+    match b {
+        b'0'..=b'9' => Digit::Value((b - b'0') as u64),
+        b'a'..=b'f' => Digit::Value((b - b'a' + 10) as u64),
+        _ => Digit::Refused,
+    }
+}
+
+// The digit of a number.
+pub fn value_digit(n: u64) -> u8
+    requires { ⌜ n < 16 ⌝ }
+    ensures { λ r. ⌜ r ≡ hexDigit n ⌝ }
+{
+    match n {
+        0..=9 => b'0' + n as u8,
+        _ => b'a' + (n - 10) as u8,
+    }
+}
 
 // The digits of a number, as many as the part has bytes.
 pub fn put_digits(part: &mut [u8], x: u64)
@@ -17,7 +43,7 @@ pub fn put_digits(part: &mut [u8], x: u64)
     let mut i = 0;
     while i < n {
         let s = 4 * (n - 1 - i);
-        part[i] = hex::value_digit((x >> s) % 16);
+        part[i] = value_digit((x >> s) % 16);
         i += 1;
     }
 }
@@ -49,7 +75,7 @@ pub fn number(part: &[u8]) -> Reading
     let mut x: u64 = 0;
     let mut i = 0;
     while i < part.len() {
-        match hex::digit_value(part[i]) {
+        match digit_value(part[i]) {
             Digit::Value(v) => x = x * 16 + v,
             Digit::Refused => return Reading::NoDigit,
         }

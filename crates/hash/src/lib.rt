@@ -8,7 +8,6 @@ ghost use Rattle.tree.specs.Tree.{digest, digestBytes};
 ghost use Rattle.hash.specs.Hash.{hashNumber, hashOf, roundsByDefault, defaultRoundsOf};
 ghost use Rattle.hash.specs.HashLaws.{withKey, Accepted};
 use bits::Span;
-use node::count;
 use node::digest;
 use refusals::Answer;
 use refusals::Params;
@@ -90,5 +89,5 @@ pub fn hash(
         return Answer::refused(number);
     }
     put_digest(message, span, key, params, digest);
-    Answer::accepted(count::tree_nodes(limit, bits))
+    Answer::accepted(shape::tree_nodes(limit, bits))
 }

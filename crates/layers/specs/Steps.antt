@@ -29,7 +29,7 @@ use Rattle.tree.specs.Count.{levelNodes, levelNodes-one, levelNodes-suc, tree-h
 use Rattle.refusals.specs.declared.Params as declared
 use Rattle.node.specs.Words.{paramsFrom}
 use Rattle.node.specs.WordLaws.{limit-from}
-use Rattle.nodes.specs.Value.{topFrom, topLevel}
+use Rattle.shape.specs.Shape.{topFrom, topLevel}
 use Rattle.calls.specs.Calls.{outWords, nodeLog, logged}
 use Rattle.calls.specs.CallLaws.{length-nodeLog, nodeLog-append}
 use Rattle.calls.specs.Widths.{words-bits}

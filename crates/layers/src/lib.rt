@@ -18,9 +18,7 @@ use level::Level;
 use level::layer;
 use level::log;
 use node::Block;
-use node::count;
 use node::digest;
-use nodes::shape;
 use refusals::Answer;
 use refusals::Params;
 
@@ -36,7 +34,7 @@ fn log_words_used(limit: u64, bits: u64) -> u64
     requires { ⌜ limit ≤ 64 ⌝ }
     ensures { λ r. ⌜ r ≡ 2 * treeNodes limit bits ⌝ }
 {
-    2 * count::tree_nodes(limit, bits)
+    2 * shape::tree_nodes(limit, bits)
 }
 
 // Tells the words for a message of so many bits and a height limit.
@@ -168,5 +166,5 @@ pub fn layers(
         return Answer::refused(number);
     }
     put_layers(message, span, key, params, words, log, digest);
-    Answer::accepted(count::tree_nodes(limit, bits))
+    Answer::accepted(shape::tree_nodes(limit, bits))
 }

@@ -12,7 +12,7 @@ use Rattle.bits.specs.PieceLaws.{Fits}
 use Rattle.tree.specs.Tree.{Params, Node, blockBits, sequentialBits, blocks, parallel, sequential}
 use Rattle.tree.specs.TreeLaws.{lastOnly}
 use Rattle.node.specs.declared.Place.{Place}
-use Rattle.nodes.specs.Value.{held}
+use Rattle.shape.specs.Shape.{held}
 use Rattle.level.specs.declared.Level.{Level}
 
 -- the bits that each node of a level takes

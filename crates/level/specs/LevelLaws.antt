@@ -21,7 +21,8 @@ use Rattle.bits.specs.PieceLaws.{length-pieceBits}
 use Rattle.tree.specs.Tree.{words, blockBits, sequentialBits, blocks, padding}
 use Rattle.tree.specs.TreeLaws.{lastOnly, lastOnly-le}
 use Rattle.node.specs.NodeLaws.{paste-at}
-use Rattle.nodes.specs.Value.{held, messagePart}
+use Rattle.shape.specs.Shape.{held}
+use Rattle.nodes.specs.Value.{messagePart}
 use Rattle.nodes.specs.BlockLaws.{take-min, filled-part}
 use Rattle.level.specs.declared.Level.{Level}
 use Rattle.level.specs.Level.{sizeOf, flagOf, source, Source, Counted}

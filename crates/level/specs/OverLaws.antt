@@ -26,7 +26,8 @@ use Rattle.calls.specs.Widths.{length-outWords}
 use Rattle.node.specs.Words.{nodeWords, FieldsFit}
 use Rattle.node.specs.declared.Place.{Place}
 use Rattle.node.specs.NodeLaws.{paste-at}
-use Rattle.nodes.specs.Value.{held, messagePart}
+use Rattle.shape.specs.Shape.{held}
+use Rattle.nodes.specs.Value.{messagePart}
 use Rattle.nodes.specs.NodeByNode.{part-words}
 use Rattle.level.specs.declared.Level.{Level}
 use Rattle.level.specs.Level.{flagOf, placeOf, source, Source, Counted, Fitting, levelOver}

@@ -29,10 +29,7 @@ fn chained_block(
 {
     let mut rest = [0u64; 48];
     super::fill(&mut rest, message, span, words, level, index);
-    let mut block = [0u64; 64];
-    words::copy(&mut block, 0, chain);
-    words::copy(&mut block, Block::OUTPUT_WORDS as usize, &rest);
-    block
+    node::chained_block(chain, &rest)
 }
 
 // The nodes of the sequential level, one after the other.

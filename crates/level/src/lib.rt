@@ -10,8 +10,6 @@ ghost use Rattle.level.specs.Level.{sizeOf, flagOf, placeOf, Counted, So
 use bits::Span;
 use node::Block;
 use node::Place;
-use node::count;
-use nodes::shape;
 
 pub mod layer; // layer.rt: the nodes of a level
 pub mod log; // log.rt: U and V of each of them
@@ -63,7 +61,7 @@ pub fn nodes(level: Level) -> u64
     requires { ⌜ 0 < level .size ⌝ }
     ensures { λ r. ⌜ r ≡ blocks (level .size) (level .bits) ⌝ }
 {
-    count::blocks_of(level.size, level.bits)
+    shape::blocks_of(level.size, level.bits)
 }
 
 // Where the node at an index stands.

@@ -3,7 +3,7 @@ ghost use mathlib.Core.Path.{_≡_};
 ghost use Rattle.hash.specs.Hash.{Hashed, hashOf, defaultRoundsOf};
 ghost use Rattle.layers.specs.Layers.{layersOf, layerWordsOf, layerLogWordsOf};
 ghost use Rattle.calls.specs.Calls.{areaWordsOf, openOf, feedOf, endOf, previewOf, closeOf, logWordsOf};
-ghost use Rattle.text.specs.Text.{writeOf, readOf};
+ghost use Rattle.texts.specs.Text.{writeOf, readOf};
 
 // The digest of a whole message, from its start bit on. Answers the number alone.
 #[no_mangle]

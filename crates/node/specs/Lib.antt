@@ -2,4 +2,3 @@ pub mod Words
 pub mod WordLaws
 pub mod NodeLaws
 pub mod DigestLaws
-pub mod CountLaws

@@ -13,6 +13,16 @@ paste-at p s zs n k e f =
     let d : drop (n + k) (p ++ zs) ≡ drop k zs = ap (λ (x : ℕ). drop (x + k) (p ++ zs)) (sym e) ∙ drop-append-add p zs k in
     rw (take-at p zs n e, take-all k s (omega arith), d) (append-assoc p s (drop k zs))
 
+-- the chain, and then 48 words, are written to a block
+pub block-made : (before rest : List ℕ) → length before ≡ 16 → length rest ≡ 48
+    → paste (paste (replicate 64 0) 0 before (length before)) 16 rest (length rest) ≡ before ++ rest
+block-made before rest lb lr =
+    let a : paste (replicate 64 0) 0 before (length before) ≡ before ++ replicate 48 0 =
+    paste-at [] before (replicate 64 0) 0 (length before) refl refl ∙ rw lb refl in
+    let b : paste (before ++ replicate 48 0) 16 rest (length rest) ≡ before ++ (rest ++ []) =
+    paste-at before rest (replicate 48 0) 16 (length rest) lb refl ∙ rw lr refl in
+    ap (λ (w : List ℕ). paste w 16 rest (length rest)) a ∙ b ∙ ap (λ (w : List ℕ). before ++ w) (append-nil rest)
+
 -- Q, K, U, V and the block are written one after the other
 pub window-made : (k block : List ℕ) (u v : ℕ) → length k ≡ 8 → length block ≡ 64
     → paste (set (set (paste (paste (replicate 89 0) 0 Q (length Q)) 15 k (length k)) 23 u) 24 v) 25 block (length block) ≡ windowOf k u v block

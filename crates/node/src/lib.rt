@@ -1,5 +1,6 @@
-// One node, and what the whole-message call, the stream and the call by layers share: blocks, K and the digest, how many nodes a tree has.
+// One node, and what the whole-message call, the stream and the call by layers share: blocks, K and the digest.
 ghost use mathlib.Core.Path.{_≡_};
+ghost use mathlib.Core.List.{_++_};
 ghost use Prim.Native.Nat.{_<_, _^_};
 ghost use lib.ListN.{length, replicate};
 ghost use Rattle.compress.specs.Compress.{windowOf};
@@ -9,7 +10,6 @@ ghost use Rattle.node.specs.Words.{sized, nodeWords, FieldsFit, paramsFr
 use compress::Two;
 use refusals::Params;
 
-pub mod count; // count.rt: how many blocks something fills, and how many nodes a tree has
 pub mod digest; // digest.rt: K from the key, and the digest from the root
 
 // Where a node stands in its tree, z, which is 1 at the root and 0 elsewhere, and the padding bits in its block.
@@ -78,6 +78,17 @@ pub fn node_v(params: Params, z: u64, p: u64) -> u64
 {
     let high = (params.rounds * 256 + params.limit) * 16 + z;
     ((high * 65536 + p) * 256 + params.keylen) * 4096 + params.d
+}
+
+// The block of a node at the sequential level: the output of the node before it, and then its own words.
+pub fn chained_block(chain: &[u64], rest: &[u64]) -> [u64; 64]
+    requires { ⌜ (length (now chain) ≡ 16) × (length (now rest) ≡ 48) ⌝ }
+    ensures { λ r. ⌜ r ≡ now (chain .entry) ++ now (rest .entry) ⌝ }
+{
+    let mut block = [0u64; 64];
+    words::copy(&mut block, 0, chain);
+    words::copy(&mut block, Block::OUTPUT_WORDS as usize, rest);
+    block
 }
 
 // Fills the window of the node with this place and block, which holds nothing: Q, K, U, V and the block. The caller lends it, as a

@@ -1,21 +1,23 @@
--- Laws: for the code that fills a block: with message bits, and with the values of children; and for the padding bits in it.
+-- Laws: for the code that fills a block: with message bits, and with the values of children.
 use mathlib.Core.Path.{_≡_, refl, sym, ap, _∙_}
 use mathlib.Core.Bool.{Bool, false}
 use mathlib.Core.List.{List, [], _∷_, _++_, append-assoc}
-use Prim.Native.Nat.{ℕ, zero, suc, _+_, _-_, _*_, _^_, _≤_, _<_, min}
+use Prim.Native.Nat.{ℕ, zero, suc, _+_, _-_, _*_, _≤_, _<_, min}
 use native.Mathlib.Omega.{arith}
 use native.Mathlib.Numerals.{add-one}
 use lib.ListN.{length, take, drop, replicate, length-replicate}
 use lib.Seq.{paste, drop-drop, take-append-add}
 use Rattle.bits.specs.Bits.{bitsOf, filled}
 use Rattle.bits.specs.BitsLaws.{bitsOf-zeros}
-use Rattle.tree.specs.Tree.{Params, words, blocks, blockBits, outputBits}
+use Rattle.tree.specs.Tree.{Params, words, blockBits}
 use Rattle.bits.specs.Piece.{Piece, pieceBits}
 use Rattle.node.specs.Words.{nodeWords}
-use Rattle.nodes.specs.Value.{held, messagePart, joinedValues, childWords, blockPadding, blockFrom, nodeBlock, value}
-use Rattle.tree.specs.Count.{levelNodes, levelNodes-one, levelNodes-suc, levelNodes-some}
+use Rattle.shape.specs.Shape.{held, blockPadding}
+use Rattle.nodes.specs.Value.{messagePart, joinedValues, childWords, blockFrom, nodeBlock, value}
+use Rattle.tree.specs.Count.{levelNodes}
 use Rattle.bits.specs.PieceLaws.{Fits, length-pieceBits}
-use Rattle.nodes.specs.ValueLaws.{levelNodes-le, length-value, joined-zero, joined-suc, length-joinedValues}
+use Rattle.shape.specs.ShapeLaws.{leaf-index}
+use Rattle.nodes.specs.ValueLaws.{length-value, joined-zero, joined-suc, length-joinedValues}
 use Rattle.node.specs.NodeLaws.{paste-at}
 use Rattle.lists.specs.Replicate.{take-replicate, drop-replicate}
 use Rattle.lists.specs.Take.{drop-take}
@@ -51,9 +53,6 @@ filled-part m w size index from n e h g ef en =
     rw (l, p, q)
 
 -- ---- a leaf
-
-pub leaf-index : (bits index : ℕ) → index < levelNodes bits 1 → blockBits * index ≤ bits
-leaf-index bits index h = let g : index < blocks blockBits bits = rw (levelNodes-one bits) at h in omega arith
 
 pub leaf-filled : (m : Piece) (index n : ℕ) → Fits m → index < levelNodes (m .count) 1 → n ≡ held blockBits (m .count) index
     → filled (replicate 64 0) 0 (m .bytes) (8 * (512 * index) + m .start) n ≡ words 64 (messagePart blockBits (pieceBits m) index)
@@ -96,31 +95,7 @@ child-fewer f room a n len h =
     ∙ take-append-add J Z (16 * (room - n))
     ∙ ap (λ (w : List ℕ). J ++ w) (take-replicate (16 * (room - n)) (16 * (suc room - n)) 0 (omega arith))
 
-pub child-index : (bits level index : ℕ) → 1 < level → index < levelNodes bits level → 4 * index ≤ levelNodes bits (level - 1)
-child-index bits zero index h i = absurd (omega arith)
-child-index bits (suc zero) index h i = absurd (omega arith)
-child-index bits (suc (suc l)) index h i =
-    let g : index < blocks 4 (levelNodes bits (suc l)) = rw (levelNodes-suc bits l) at i in
-    let e : suc (suc l) - 1 ≡ suc l = omega arith in
-    rw e (omega (arith, levelNodes-some bits l))
-
--- an index of a level is below 2 ^ 56
-pub node-index : (bits level index : ℕ) → bits < 2 ^ 64 → 0 < level → index < levelNodes bits level → index < 2 ^ 56
-node-index bits zero index b h i = absurd (omega arith)
-node-index bits (suc l) index b h i = omega (arith, levelNodes-le bits l b)
-
--- ---- the block of a node, and its padding bits
-
-pub padding-leaf : (bits level index : ℕ) → level ≡ 1 → blockBits - held blockBits bits index ≡ blockPadding bits level index
-unfolding blockPadding
-padding-leaf bits level index e = rw e
-
-pub padding-above : (bits level index : ℕ) → 1 < level
-    → outputBits * (4 - held 4 (levelNodes bits (level - 1)) index) ≡ blockPadding bits level index
-unfolding blockPadding
-padding-above bits zero index h = absurd (omega arith)
-padding-above bits (suc zero) index h = absurd (omega arith)
-padding-above bits (suc (suc l)) index h = let e : suc (suc l) - 1 ≡ suc l = omega arith in rw e
+-- ---- the block of a node
 
 pub block-leaf : (P : Params) (M : List Bool) (level index : ℕ) → level ≡ 1
     → words 64 (messagePart blockBits M index) ≡ nodeBlock P M level index
@@ -153,30 +128,19 @@ pub value-length : (P : Params) (M : List Bool) (level index z : ℕ) → 0 < le
 value-length P M zero index z g = absurd (omega arith)
 value-length P M (suc l) index z g = length-value P M l index z
 
--- one child more, made from its block
-pub child-made : (P : Params) (m : Piece) (level a j : ℕ) (ws block made : List ℕ) → 0 < level → Fits m → j < 4
-    → ws ≡ childWords (λ i. value P (pieceBits m) level i 0) 4 a j
-    → block ≡ nodeBlock P (pieceBits m) level (a + j)
-    → made ≡ nodeWords P level (a + j) 0 (blockPadding (m .count) level (a + j)) block
-    → paste ws (16 * j) made (length made) ≡ childWords (λ i. value P (pieceBits m) level i 0) 4 a (j + 1)
-child-made P m level a j ws block made h g room ew eb em =
-    let f : ℕ → List ℕ = λ i. value P (pieceBits m) level i 0 in
-    let v : made ≡ f (a + j) = em ∙ value-made P m level (a + j) 0 block h g eb in
-    rw (ew, v) (child-more f 4 a j (λ i. value-length P (pieceBits m) level i 0 h) room)
+-- one child more is put behind those that are there
+pub child-put : (f : ℕ → List ℕ) (room a j : ℕ) (ws made : List ℕ) → ((i : ℕ) → length (f i) ≡ 16) → j < room
+    → ws ≡ childWords f room a j → made ≡ f (a + j) → paste ws (16 * j) made (length made) ≡ childWords f room a (j + 1)
+child-put f room a j ws made len h ew em = rw (ew, em) (child-more f room a j len h)
 
--- two children more, made from their blocks, the second written behind the first
-pub pair-made : (P : Params) (m : Piece) (level a j : ℕ) (ws one other first second : List ℕ) → 0 < level → Fits m → j + 1 < 4
-    → ws ≡ childWords (λ i. value P (pieceBits m) level i 0) 4 a j
-    → one ≡ nodeBlock P (pieceBits m) level (a + j)
-    → other ≡ nodeBlock P (pieceBits m) level (a + j + 1)
-    → first ≡ nodeWords P level (a + j) 0 (blockPadding (m .count) level (a + j)) one
-    → second ≡ nodeWords P level (a + j + 1) 0 (blockPadding (m .count) level (a + j + 1)) other
-    → paste (paste ws (16 * j) first (length first)) (16 * j + 16) second (length second)
-    ≡ childWords (λ i. value P (pieceBits m) level i 0) 4 a (j + 2)
-pair-made P m level a j ws one other first second h g room ew eo et ef es =
+-- two children more, the second behind the first
+pub pair-put : (f : ℕ → List ℕ) (room a j : ℕ) (ws first second : List ℕ) → ((i : ℕ) → length (f i) ≡ 16) → j + 1 < room
+    → ws ≡ childWords f room a j → first ≡ f (a + j) → second ≡ f (a + j + 1)
+    → paste (paste ws (16 * j) first (length first)) (16 * j + 16) second (length second) ≡ childWords f room a (j + 2)
+pair-put f room a j ws first second len h ew ef es =
     let w : 16 * j + 16 ≡ 16 * (j + 1) = omega arith in
     let i : a + j + 1 ≡ a + (j + 1) = omega arith in
     let t : j + 2 ≡ j + 1 + 1 = omega arith in
-    let c : paste ws (16 * j) first (length first) ≡ childWords (λ i. value P (pieceBits m) level i 0) 4 a (j + 1) =
-    child-made P m level a j ws one first h g (omega arith) ew eo ef in
-    rw (w, t) (child-made P m level a (j + 1) (paste ws (16 * j) first (length first)) other second h g room c (rw i at et) (rw i at es))
+    rw (w, t)
+    (child-put f room a (j + 1) (paste ws (16 * j) first (length first)) second len h
+    (child-put f room a j ws first len (omega arith) ew ef) (rw i at es))

@@ -18,8 +18,10 @@ use Rattle.tree.specs.TreeLaws.{above, lastOnly, chainAt, chainAt-zero, chainAt
 use Rattle.tree.specs.Places.{no-node, index-below, root-place}
 use Rattle.tree.specs.Count.{levelNodes, levelNodes-one, levelNodes-some}
 use Rattle.node.specs.Words.{nodeWords}
-use Rattle.nodes.specs.Value.{held, messagePart, joinedValues, childWords, value, sequentialNodes, sequentialPadding, sequentialWords, chain, topFrom, valueAt, rootValue}
-use Rattle.nodes.specs.ValueLaws.{pad-part, joined-zero, joined-cons, length-joinedValues, below-joinedValues, joined-part, levelNodes-outputs, value-one, value-suc, length-value, below-value, chain-zero, chain-suc, length-chain, below-chain}
+use Rattle.shape.specs.Shape.{held, sequentialNodes, sequentialPadding, topFrom}
+use Rattle.nodes.specs.Value.{messagePart, joinedValues, childWords, value, sequentialWords, chain, valueAt, rootValue}
+use Rattle.shape.specs.ShapeLaws.{levelNodes-outputs}
+use Rattle.nodes.specs.ValueLaws.{pad-part, joined-zero, joined-cons, length-joinedValues, below-joinedValues, joined-part, value-one, value-suc, length-value, below-value, chain-zero, chain-suc, length-chain, below-chain}
 use Rattle.node.specs.WordLaws.{output-words}
 
 -- ---- the words of a block

@@ -1,50 +1,25 @@
 -- Laws: for the code of the sequential level.
-use mathlib.Core.Path.{_≡_, refl, sym, ap, _∙_}
-use mathlib.Core.Bool.{Bool, true, false, cond}
+use mathlib.Core.Path.{_≡_, refl, sym, _∙_}
+use mathlib.Core.Bool.{Bool}
 use borrow.Author.Tests.{lt-ltb, le-ltb}
 use mathlib.Core.List.{List, [], _++_, append-nil}
-use Prim.Native.Nat.{ℕ, zero, suc, _+_, _-_, _*_, _^_, _≤_, _<_}
+use Prim.Native.Nat.{ℕ, zero, suc, _+_, _*_, _≤_, _<_}
 use native.Mathlib.Omega.{arith}
 use lib.Dec.{eqb}
 use lib.ListN.{length, replicate}
 use lib.Seq.{paste}
 use Rattle.bits.specs.Bits.{digit, filled}
-use Rattle.tree.specs.Tree.{Params, words, sequentialBits, outputBits}
+use Rattle.tree.specs.Tree.{Params, words, sequentialBits}
 use Rattle.bits.specs.Piece.{Piece, pieceBits}
 use Rattle.node.specs.Words.{nodeWords}
-use Rattle.nodes.specs.Value.{held, messagePart, childWords, value, sequentialNodes, sequentialPadding, sequentialWords, chain, rootValue, topFrom, topLevel}
-use Rattle.tree.specs.Count.{levelNodes, levelNodes-some}
-use Rattle.nodes.specs.ValueLaws.{levelNodes-le, chain-suc}
+use Rattle.shape.specs.Shape.{held, sequentialNodes, sequentialPadding, topLevel}
+use Rattle.nodes.specs.Value.{messagePart, childWords, value, sequentialWords, chain, rootValue}
+use Rattle.tree.specs.Count.{levelNodes}
+use Rattle.shape.specs.ShapeLaws.{message-index}
+use Rattle.nodes.specs.ValueLaws.{chain-suc}
 use Rattle.node.specs.NodeLaws.{paste-at}
 use Rattle.bits.specs.PieceLaws.{Fits, length-pieceBits}
 use Rattle.nodes.specs.BlockLaws.{filled-part}
-
--- ---- indices
-
-pub message-index : (bits index : ℕ) → index < sequentialNodes 0 bits → sequentialBits * index ≤ bits
-unfolding sequentialNodes
-message-index bits index h = omega arith
-
-pub third-index : (limit bits index : ℕ) → 0 < limit → index < sequentialNodes limit bits → 3 * index ≤ levelNodes bits limit
-unfolding sequentialNodes
-third-index zero bits index h i = absurd (omega arith)
-third-index (suc l) bits index h i = omega (arith, levelNodes-some bits l)
-
-pub sequential-index : (limit bits index : ℕ) → bits < 2 ^ 64 → index < sequentialNodes limit bits → index < 2 ^ 56
-unfolding sequentialNodes
-sequential-index zero bits index b i = omega arith
-sequential-index (suc l) bits index b i = omega (arith, levelNodes-le bits l b)
-
--- ---- padding bits
-
-pub padding-message : (limit bits index : ℕ) → limit ≡ 0 → sequentialBits - held sequentialBits bits index ≡ sequentialPadding limit bits index
-unfolding sequentialPadding
-padding-message limit bits index e = rw e
-
-pub padding-children : (limit bits index : ℕ) → (limit ≡ 0 → ⊥) → outputBits * (3 - held 3 (levelNodes bits limit) index) ≡ sequentialPadding limit bits index
-unfolding sequentialPadding
-padding-children zero bits index h = absurd (h refl)
-padding-children (suc l) bits index h = refl
 
 -- ---- words
 
@@ -68,16 +43,6 @@ words-children P (suc l) m index n h g en = rw (length-pieceBits m g, en)
 -- 48 words, written to as many
 pub rest-made : (rest : List ℕ) → length rest ≡ 48 → paste (replicate 48 0) 0 rest (length rest) ≡ rest
 rest-made rest l = paste-at [] rest (replicate 48 0) 0 (length rest) refl refl ∙ rw l (append-nil rest)
-
--- the chain, and then 48 words, are written to a block
-pub block-made : (before rest : List ℕ) → length before ≡ 16 → length rest ≡ 48
-    → paste (paste (replicate 64 0) 0 before (length before)) 16 rest (length rest) ≡ before ++ rest
-block-made before rest lb lr =
-    let a : paste (replicate 64 0) 0 before (length before) ≡ before ++ replicate 48 0 =
-    paste-at [] before (replicate 64 0) 0 (length before) refl refl ∙ rw lb refl in
-    let b : paste (before ++ replicate 48 0) 16 rest (length rest) ≡ before ++ (rest ++ []) =
-    paste-at before rest (replicate 48 0) 16 (length rest) lb refl ∙ rw lr refl in
-    ap (λ (w : List ℕ). paste w 16 rest (length rest)) a ∙ b ∙ ap (λ (w : List ℕ). before ++ w) (append-nil rest)
 
 -- ---- the chain
 
@@ -107,17 +72,3 @@ pub root-parallel : (P : Params) (limit : ℕ) (m : Piece) → Fits m → topLev
     → value P (pieceBits m) (topLevel limit (m .count)) 0 1 ≡ rootValue P limit (pieceBits m)
 unfolding rootValue
 root-parallel P limit m g h = rw (length-pieceBits m g, le-ltb limit (topLevel limit (m .count)) h)
-
--- the root's level counts from 1, and has a node
-pub top-some : (m n level : ℕ) → level ≤ topFrom m n level
-unfolding topFrom
-top-some m zero level = omega arith
-top-some m (suc n) level = go (eqb (levelNodes m level) 1) (top-some m n (suc level))
-  where
-    go : (b : Bool) → suc level ≤ topFrom m n (suc level) → level ≤ cond b level (topFrom m n (suc level))
-    go true h = omega arith
-    go false h = omega arith
-
-pub first-node : (bits level : ℕ) → 0 < level → 0 < levelNodes bits level
-first-node bits zero h = absurd (omega arith)
-first-node bits (suc l) h = levelNodes-some bits l

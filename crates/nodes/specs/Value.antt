@@ -3,25 +3,22 @@
 -- place of the levels is a theorem (NodeByNode).
 use mathlib.Core.Bool.{Bool, false, cond}
 use mathlib.Core.List.{List, [], _++_}
-use Prim.Native.Nat.{ℕ, zero, suc, _+_, _-_, _*_, min}
+use Prim.Native.Nat.{ℕ, zero, suc, _+_, _-_, _*_}
 use lib.Dec.{eqb, ltb}
 use lib.ListN.{length, take, drop, replicate}
 use Rattle.bits.specs.Bits.{digit}
 use Rattle.bits.specs.Piece.{Piece}
 use Rattle.bits.specs.PieceLaws.{Fits}
-use Rattle.tree.specs.Tree.{Params, words, blockBits, sequentialBits, outputBits, blocks}
+use Rattle.tree.specs.Tree.{Params, words, blockBits, sequentialBits}
 use Rattle.tree.specs.Count.{levelNodes}
 use Rattle.refusals.specs.declared.Params as declared
+use Rattle.shape.specs.Shape.{held, blockPadding, sequentialNodes, sequentialPadding, topLevel}
 use Rattle.node.specs.Words.{nodeWords, Ready}
 
 -- what the code that works out values is given: what every node needs, and a message that has its bits
 pub record Given (message : Piece) (k : List ℕ) (params : declared.Params) (constants : List ℕ) : Type 0 where
   pub ready : Ready k params constants
   pub enough : Fits message
-
--- how many of m things a node takes that stands at an index and takes so many at most
-abbrev pub held : ℕ → ℕ → ℕ → ℕ
-held size m index = min size (m - size * index)
 
 -- the message bits that a node at an index takes, and zero bits after them
 abbrev pub messagePart : ℕ → List Bool → ℕ → List Bool
@@ -36,13 +33,8 @@ joinedValues f index (suc n) = joinedValues f index n ++ f (index + n)
 abbrev pub childWords : (ℕ → List ℕ) → ℕ → ℕ → ℕ → List ℕ
 childWords f room index n = joinedValues f index n ++ replicate (16 * (room - n)) 0
 
--- the padding bits in the block of the node at a parallel level and an index, for a message of so many bits
-unfoldable pub blockPadding : ℕ → ℕ → ℕ → ℕ
-blockPadding m zero index = 0
-blockPadding m (suc zero) index = blockBits - held blockBits m index
-blockPadding m (suc (suc level)) index = outputBits * (4 - held 4 (levelNodes m (suc level)) index)
-
--- the 64 words of that block: at level 1 from the message, above it from the values f of the nodes one level below
+-- the 64 words of the block of the node at a parallel level and an index: at level 1 from the message, above it from the values f of
+-- the nodes one level below
 unfoldable pub blockFrom : (ℕ → List ℕ) → List Bool → ℕ → ℕ → List ℕ
 blockFrom f M zero index = []
 blockFrom f M (suc zero) index = words 64 (messagePart blockBits M index)
@@ -60,15 +52,7 @@ nodeBlock P M level index = blockFrom (λ j. value P M (level - 1) j 0) M level 
 
 -- ---- the sequential level, above so many parallel ones
 
-unfoldable pub sequentialNodes : ℕ → ℕ → ℕ
-sequentialNodes zero m = blocks sequentialBits m
-sequentialNodes (suc level) m = blocks sequentialBits (outputBits * levelNodes m (suc level))
-
--- the padding bits of the node at an index, and the 48 words that it takes beside the chain
-unfoldable pub sequentialPadding : ℕ → ℕ → ℕ → ℕ
-sequentialPadding zero m index = sequentialBits - held sequentialBits m index
-sequentialPadding (suc level) m index = outputBits * (3 - held 3 (levelNodes m (suc level)) index)
-
+-- the 48 words that the node at an index takes beside the chain
 unfoldable pub sequentialWords : Params → ℕ → List Bool → ℕ → List ℕ
 sequentialWords P zero M index = words 48 (messagePart sequentialBits M index)
 sequentialWords P (suc level) M index =
@@ -82,14 +66,6 @@ chain P limit M (suc index) =
     (chain P limit M index ++ sequentialWords P limit M index)
 
 -- ---- the whole tree
-
--- the root's level: the first of one node, from a level on with n parallel ones left, and otherwise the sequential one
-unfoldable pub topFrom : ℕ → ℕ → ℕ → ℕ
-topFrom m zero level = level
-topFrom m (suc n) level = cond (eqb (levelNodes m level) 1) level (topFrom m n (suc level))
-
-abbrev pub topLevel : ℕ → ℕ → ℕ
-topLevel limit m = topFrom m limit 1
 
 -- the value of the node at a level and an index of the tree
 unfoldable pub valueAt : Params → ℕ → List Bool → ℕ → ℕ → List ℕ

@@ -15,11 +15,12 @@ use Rattle.lists.specs.Below.{Below, none}
 use Rattle.lists.specs.BelowLaws.{below-append, below-zeros}
 use Rattle.bits.specs.Bits.{digit}
 use Rattle.bits.specs.BitsLaws.{length-numbers}
-use Rattle.tree.specs.Tree.{Params, words, blocks, blockBits, sequentialBits, outputBits}
-use Rattle.tree.specs.Count.{levelNodes, fourth, levelNodes-one, levelNodes-suc, levelNodes-some}
+use Rattle.tree.specs.Tree.{Params, words, blockBits, sequentialBits, outputBits}
+use Rattle.tree.specs.Count.{levelNodes}
 use Rattle.node.specs.Words.{nodeWords}
 use Rattle.node.specs.WordLaws.{length-nodeWords, below-nodeWords}
-use Rattle.nodes.specs.Value.{held, messagePart, joinedValues, childWords, blockPadding, blockFrom, value, sequentialNodes, sequentialPadding, sequentialWords, chain}
+use Rattle.shape.specs.Shape.{held, blockPadding, sequentialNodes, sequentialPadding}
+use Rattle.nodes.specs.Value.{messagePart, joinedValues, childWords, blockFrom, value, sequentialWords, chain}
 
 -- so many elements from n on, of a list that zeros follow
 pub pad-part : {A : Type 0} (s n q : ℕ) (M : List A) (z : A) → n ≤ length M → n + s ≤ length M + q
@@ -114,17 +115,6 @@ joined-part f q c i h g =
         go false t =
             let o : k ≡ 0 = e .1 (leb-false q n t) in
             rw (o, joined-zero f (a + n), append-nil) (take-all (16 * q) (joinedValues f a n) (omega (arith, length-joinedValues f a n h)))
-
--- ---- nodes of a level
-
--- the outputs of a level fill the blocks of the one above
-pub levelNodes-outputs : (m h : ℕ) → levelNodes m (suc (suc h)) ≡ blocks blockBits (outputBits * levelNodes m (suc h))
-levelNodes-outputs m h = levelNodes-suc m h ∙ sym (fourth (levelNodes m (suc h)) (levelNodes-some m h))
-
--- an index of a level is below 2 ^ 56
-pub levelNodes-le : (m h : ℕ) → m < 2 ^ 64 → levelNodes m (suc h) ≤ 2 ^ 52
-levelNodes-le m zero l = rw (levelNodes-one m) (omega arith)
-levelNodes-le m (suc h) l = rw (levelNodes-suc m h) (omega (arith, levelNodes-le m h l))
 
 -- ---- the definitions, one step each
 

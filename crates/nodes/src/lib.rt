@@ -2,40 +2,38 @@
 ghost use mathlib.Core.Path.{_≡_};
 ghost use mathlib.Core.List.{_++_};
 ghost use Prim.Native.Nat.{_+_, _-_, _*_, _≤_, _<_};
-ghost use lib.ListN.{length, replicate};
+ghost use lib.ListN.{length};
 ghost use Rattle.tree.specs.Tree.{words, blockBits, sequentialBits};
 ghost use Rattle.bits.specs.Piece.{pieceBits};
 ghost use Rattle.bits.specs.PieceLaws.{spanned, Fits};
 ghost use Rattle.tree.specs.Count.{levelNodes};
 ghost use Rattle.node.specs.Words.{nodeWords, paramsFrom, Ready};
-ghost use Rattle.nodes.specs.Value.{Given, messagePart, childWords, blockPadding, value, sequentialNodes, sequentialPadding, sequentialWords, chain, rootValue};
+ghost use Rattle.shape.specs.Shape.{blockPadding, sequentialNodes, sequentialPadding};
+ghost use Rattle.nodes.specs.Value.{Given, messagePart, childWords, value, sequentialWords, chain, rootValue};
 use bits::Span;
 use compress::Two;
 use node::Block;
 use node::Place;
 use refusals::Params;
 
-pub mod shape; // shape.rt: how many levels a tree has, how many nodes each, and what a node has by its index
-
-// Fills the block of a leaf, a node of level 1, with message bits; it is empty before.
-fn fill_leaf(block: &mut [u64], message: &[u8], span: Span, index: u64)
-    requires { ⌜ Fits (spanned (now message) span) × (index < levelNodes (span .bits) 1) × (now block ≡ replicate 64 0) ⌝ }
-    ensures { λ _. ⌜ now (block .exit) ≡ words 64 (messagePart blockBits (pieceBits (spanned (now (message .entry)) span)) index) ⌝ }
+// The block of the leaf, the node of level 1, at an index: its message bits, and zero bits after them.
+fn leaf_block(message: &[u8], span: Span, index: u64) -> [u64; 64]
+    requires { ⌜ Fits (spanned (now message) span) × (index < levelNodes (span .bits) 1) ⌝ }
+    ensures { λ r. ⌜ r ≡ words 64 (messagePart blockBits (pieceBits (spanned (now (message .entry)) span)) index) ⌝ }
 {
     let n = shape::taken(Block::BITS, span.bits, index);
+    let empty = Block::new();
+    let mut block = empty.words;
     let byte = (Block::BYTES * index) as usize;
-    bits::fill(block, 0, message, byte, span.start as usize, n as usize);
-}
-
-// The padding bits in the block of the node at a parallel level and an index.
-fn padding(bits: u64, level: u64, index: u64) -> u64
-    requires { ⌜ (0 < level) × (index < levelNodes bits level) ⌝ }
-    ensures { λ r. ⌜ (r ≡ blockPadding bits level index) × (r < 65536) ⌝ }
-{
-    if level == 1 {
-        return Block::BITS - shape::taken(Block::BITS, bits, index);
-    }
-    Block::OUTPUT_BITS * (4 - shape::taken(4, shape::nodes_at(bits, level - 1), index))
+    bits::fill(
+        &mut block,
+        0,
+        message,
+        byte,
+        span.start as usize,
+        n as usize,
+    );
+    block
 }
 
 // The value of the node at a parallel level and an index, from its block; z is 1 at the root.
@@ -53,38 +51,39 @@ fn one_value(
     requires { ⌜ (0 < level) × (level < 256) × (index < levelNodes bits level) × (z < 16) ⌝ }
     ensures { λ r. ⌜ r ≡ nodeWords (paramsFrom (now (k .entry)) params) level index z (blockPadding bits level index) (now (block .entry)) ⌝ }
 {
-    let p = padding(bits, level, index);
+    let p = shape::padding(bits, level, index);
     node::compress_node(params, k, constants, Place { level, index, z, p }, block)
 }
 
-// The values of the leaves at an index and at the next, from their blocks, made together; neither is the root.
+// The values of the leaves at an index and at the next, made together; neither is the root.
 fn two_leaves(
-    bits: u64,
+    message: &[u8],
+    span: Span,
     params: Params,
     k: &[u64],
     constants: &[u64],
     index: u64,
-    one: &[u64; 64],
-    other: &[u64; 64],
 ) -> Two
-    requires { ⌜ Ready (now k) params (now constants) ⌝ }
-    requires { ⌜ index + 1 < levelNodes bits 1 ⌝ }
-    ensures { λ r. ⌜ (r .first ≡ nodeWords (paramsFrom (now (k .entry)) params) 1 index 0 (blockPadding bits 1 index) (now (one .entry))) × (r .second ≡ nodeWords (paramsFrom (now (k .entry)) params) 1 (index + 1) 0 (blockPadding bits 1 (index + 1)) (now (other .entry))) ⌝ }
+    requires { ⌜ Given (spanned (now message) span) (now k) params (now constants) ⌝ }
+    requires { ⌜ index + 1 < levelNodes (span .bits) 1 ⌝ }
+    ensures { λ r. ⌜ (r .first ≡ value (paramsFrom (now (k .entry)) params) (pieceBits (spanned (now (message .entry)) span)) 1 index 0) × (r .second ≡ value (paramsFrom (now (k .entry)) params) (pieceBits (spanned (now (message .entry)) span)) 1 (index + 1) 0) ⌝ }
 {
     let next = index + 1;
+    let one = leaf_block(message, span, index);
+    let other = leaf_block(message, span, next);
     let here = Place {
         level: 1,
         index,
         z: 0,
-        p: padding(bits, 1, index),
+        p: shape::padding(span.bits, 1, index),
     };
     let there = Place {
         level: 1,
         index: next,
         z: 0,
-        p: padding(bits, 1, next),
+        p: shape::padding(span.bits, 1, next),
     };
-    node::compress_two(params, k, constants, here, one, there, other)
+    node::compress_two(params, k, constants, here, &one, there, &other)
 }
 
 // The values of up to four leaves, from an index on, two at a time, the last alone if their number is odd; zero words after them.
@@ -102,16 +101,10 @@ fn leaves(
     requires { ⌜ (n ≤ 4) × (index + n ≤ levelNodes (span .bits) 1) ⌝ }
     ensures { λ r. ⌜ r ≡ childWords (λ i. value (paramsFrom (now (k .entry)) params) (pieceBits (spanned (now (message .entry)) span)) 1 i 0) 4 index n ⌝ }
 {
-    let empty = Block::new();
     let mut words = [0u64; 64];
     let mut j: u64 = 0;
     while j + 1 < n {
-        let i = index + j;
-        let mut one = empty.words;
-        fill_leaf(&mut one, message, span, i);
-        let mut other = empty.words;
-        fill_leaf(&mut other, message, span, i + 1);
-        let two = two_leaves(span.bits, params, k, constants, i, &one, &other);
+        let two = two_leaves(message, span, params, k, constants, index + j);
         let first = two.first;
         let second = two.second;
         let at = (Block::OUTPUT_WORDS * j) as usize;
@@ -121,8 +114,7 @@ fn leaves(
     }
     if j < n {
         let i = index + j;
-        let mut block = empty.words;
-        fill_leaf(&mut block, message, span, i);
+        let block = leaf_block(message, span, i);
         let last = one_value(span.bits, params, k, constants, 1, i, 0, &block);
         let at = (Block::OUTPUT_WORDS * j) as usize;
         words::copy(&mut words, at, &last);
@@ -191,9 +183,7 @@ fn value(
     ensures { λ r. ⌜ r ≡ value (paramsFrom (now (k .entry)) params) (pieceBits (spanned (now (message .entry)) span)) level index z ⌝ }
 {
     if level == 1 {
-        let empty = Block::new();
-        let mut block = empty.words;
-        fill_leaf(&mut block, message, span, index);
+        let block = leaf_block(message, span, index);
         return one_value(span.bits, params, k, constants, level, index, z, &block);
     }
     let n = shape::taken(4, shape::nodes_at(span.bits, level - 1), index);
@@ -254,17 +244,6 @@ fn sequential_words(
     child_words(message, span, params, k, constants, index)
 }
 
-// The padding bits of the sequential node at an index: the chained words count for nothing.
-fn sequential_padding(limit: u64, bits: u64, index: u64) -> u64
-    requires { ⌜ index < sequentialNodes limit bits ⌝ }
-    ensures { λ r. ⌜ (r ≡ sequentialPadding limit bits index) × (r < 65536) ⌝ }
-{
-    if limit == 0 {
-        return Block::SEQUENTIAL_BITS - shape::taken(Block::SEQUENTIAL_BITS, bits, index);
-    }
-    Block::OUTPUT_BITS * (3 - shape::taken(3, shape::nodes_at(bits, limit), index))
-}
-
 // The value of the sequential node at an index: the chain, and then its own words.
 fn sequential_value(
     message: &[u8],
@@ -282,10 +261,8 @@ fn sequential_value(
 {
     let limit = params.limit;
     let rest = sequential_words(message, span, params, k, constants, index);
-    let p = sequential_padding(limit, span.bits, index);
-    let mut block = [0u64; 64];
-    words::copy(&mut block, 0, before);
-    words::copy(&mut block, Block::OUTPUT_WORDS as usize, &rest);
+    let p = shape::sequential_padding(limit, span.bits, index);
+    let block = node::chained_block(before, &rest);
     let level = limit + 1;
     node::compress_node(params, k, constants, Place { level, index, z, p }, &block)
 }

@@ -5,7 +5,7 @@ use mathlib.Core.Bool.{Bool}
 use mathlib.Core.List.{List, [], _∷_, _++_}
 use Prim.Native.Nat.{ℕ, _+_, _-_, _*_, _/_, _%_, _^_, _≤_, _<_}
 use native.Mathlib.Omega.{arith}
-use lib.ListN.{length, take, drop, replicate, length-append, take-append-drop}
+use lib.ListN.{length, take, drop, length-append, take-append-drop}
 use lib.Seq.{sets, take-add, drop-drop, take-all, length-sets, length-take-le}
 use Rattle.lists.specs.Below.{Below}
 use Rattle.lists.specs.BelowLaws.{below-take, below-drop}
@@ -16,7 +16,7 @@ use Rattle.bits.specs.Piece.{Piece, pieceBits}
 use Rattle.bits.specs.PieceLaws.{Fits, length-pieceBits}
 use Rattle.tree.specs.Tree.{Params, blockBits}
 use Rattle.refusals.specs.declared.Params as declared
-use Rattle.calls.specs.Area.{blockWords, Long, paramsOf, levelWords, levelsUp, levelsOf, withLevels, emptyLevel, heldBits}
+use Rattle.calls.specs.Area.{headWords, blockWords, Long, paramsOf, levelWords, levelsUp, levelsOf, withLevels, heldBits}
 use Rattle.calls.specs.Calls.{Made, feedBits, nodeLog}
 use Rattle.calls.specs.Machine
 use Rattle.calls.specs.AreaLaws.{length-levelWords}
@@ -27,7 +27,7 @@ use Rattle.node.specs.Words.{paramsFrom, Ready}
 use Rattle.climb.specs.MakeLaws.{limit-from}
 use Rattle.climb.specs.ReceiveLaws.{made}
 use Rattle.climb.specs.Left.{Left, left-length, left-params, left-long, left-levels, left-again, left-then}
-use Rattle.climb.specs.FlushLaws.{flushed, firstOf, restOf, flushedTwo, wide-flushed, wide-two, FlushingTwo}
+use Rattle.climb.specs.FlushLaws.{flushed, firstOf, restOf, flushedTwo, wide-next, wide-flushed, wide-two, FlushingTwo}
 use Rattle.piece.specs.FeedSteps.{sizeOf, baseOf, nextOf, partBits, freeOf, roomOf, free-place, room-full, next-one, next-two, next-some, held-le, chunk, full-chunk, full-two}
 
 -- ---- what the code needs, and what it leaves
@@ -65,10 +65,18 @@ pub record Whole (key : List ℕ) (params : declared.Params) (constants : List �
 
 -- ---- a chunk
 
+-- other words in level 1, and no node
+abbrev firstNow : List ℕ → List ℕ → Made
+firstNow ws area = made (ws ∷ levelsUp area 2) []
+
+first-left : {area area′ ws : List ℕ} (log : List ℕ) (at : ℕ) → Long area → length ws ≡ blockWords → area′ ≡ withLevel area 1 ws
+    → Left (firstNow ws area) area log at area′ log at
+first-left {area} {ws = ws} log at long size e = record { levels = e ∙ sym (with-first area ws long size); logged = refl; next = omega arith }
+
 module _ {area bytes : List ℕ} {byte bit count : ℕ} (part : Part area bytes byte bit count) (below : Below (2 ^ 64) area)
     (key : List ℕ) (params : declared.Params) (T : ℕ) where
   pub chunk-free : {area′ : List ℕ} {free : ℕ} (log : List ℕ) (at : ℕ) → free ≡ freeOf (params .limit) T → count ≤ free
-      → area′ ≡ withLevel area 1 (filled (levelWords area 1) (4096 - free) bytes (8 * byte + bit) count)
+      → area′ ≡ withLevel area 1 (filled (levelWords area 1) (blockBits - free) bytes (8 * byte + bit) count)
       → Left (fedPart key params T bytes byte bit count area) area log at area′ log at
   chunk-free log at f g ea =
       let P : Params = paramsFrom key params in
@@ -77,40 +85,20 @@ module _ {area bytes : List ℕ} {byte bit count : ℕ} (part : Part area bytes 
       let from : ℕ = 8 * byte + bit in
       let ws : List ℕ = levelWords area 1 in
       let place : ℕ = baseOf limit + heldBits (sizeOf limit) T in
-      let size : length ws ≡ 64 = length-levelWords area 1 (part .long) (omega arith) in
+      let size : length ws ≡ blockWords = length-levelWords area 1 (part .long) (omega arith) in
       let fits : heldBits (sizeOf (P .limit)) T + count ≤ sizeOf (P .limit) = rw same (omega (arith, held-le limit T)) in
-      let e = ap (λ (x : ℕ). withLevel area 1 (filled ws (4096 - x) bytes from count)) f
+      let e = ap (λ (x : ℕ). withLevel area 1 (filled ws (blockBits - x) bytes from count)) f
       ∙ ap (λ (x : ℕ). withLevel area 1 (filled ws x bytes from count)) (free-place limit T) in
-      let c : fedPart key params T bytes byte bit count area ≡ made (filled ws place bytes from count ∷ levelsUp area 2) [] =
+      let c : fedPart key params T bytes byte bit count area ≡ firstNow (filled ws place bytes from count) area =
       ap (feedBits P T (partBits bytes from count)) (levels-split area)
-      ∙ chunk P count T from ws bytes (levelsUp area 2) (below-take 64 (below-drop 16 below)) size fits (part .inside)
+      ∙ chunk P count T from ws bytes (levelsUp area 2) (below-take blockWords (below-drop headWords below)) size fits (part .inside)
       ∙ rw same in
-      let l : length (filled ws place bytes from count) ≡ 64 = length-filled ws place bytes from count ∙ size in
-      record {
-        levels = ea ∙ e ∙ sym (with-first area (filled ws place bytes from count) (part .long) l) ∙ sym (ap (λ (x : Made). withLevels area (x .levels)) c);
-        logged = sym (ap (λ (x : Made). sets log at (nodeLog (x .nodes))) c);
-        next = omega (arith, ap (λ (x : Made). at + 2 * length (x .nodes)) c);
-      }
+      rw c (first-left log at (part .long) (length-filled ws place bytes from count ∙ size) (ea ∙ e))
 
 -- ---- a chunk that comes to a full level 1
 
 abbrev flushedNow : List ℕ → declared.Params → ℕ → List ℕ → Made
 flushedNow key params T area = flushed (paramsFrom key params) (params .limit) T (levelsOf area)
-
--- the words of the block that comes next
-abbrev nextBlock : List ℕ → ℕ → ℕ → List ℕ
-nextBlock bytes byte bit = filled (replicate blockWords 0) 0 bytes (8 * byte + bit) blockBits
-
-pub next-filled : (bytes : List ℕ) (byte bit : ℕ) {ws next : List ℕ} → ws ≡ replicate blockWords 0 → next ≡ filled ws 0 bytes (8 * byte + bit) blockBits → next ≡ nextBlock bytes byte bit
-next-filled bytes byte bit e f = f ∙ ap (λ (x : List ℕ). filled x 0 bytes (8 * byte + bit) blockBits) e
-
-no-words : emptyLevel ≡ replicate blockWords 0
-unfolding emptyLevel
-no-words = refl
-
--- what comes of level 1 and then of that block
-abbrev flushedBoth : List ℕ → declared.Params → ℕ → List ℕ → List ℕ → Made
-flushedBoth key params T next area = flushedTwo (paramsFrom key params) (params .limit) T next (levelsOf area)
 
 -- bits put into level 1 after what was made of it
 after-filled : {F X : Made} {area log : List ℕ} {at : ℕ} {area₁ log₁ area′ : List ℕ} {at₁ : ℕ} (bytes : List ℕ) (place from count : ℕ) → Long area → Wide (paramsOf area .limit) (F .levels)
@@ -121,7 +109,7 @@ after-filled {F} {area = area} {log} {at} {area₁} bytes place from count long 
     let both : levelWords area₁ 1 ∷ levelsUp area₁ 2 ≡ up = sym (levels-split area₁) ∙ left-levels long wide l in
     let long₁ : Long area₁ = left-long long wide l in
     let new : List ℕ = filled (levelWords area₁ 1) place bytes from count in
-    let size : length new ≡ 64 = length-filled (levelWords area₁ 1) place bytes from count ∙ length-levelWords area₁ 1 long₁ (omega arith) in
+    let size : length new ≡ blockWords = length-filled (levelWords area₁ 1) place bytes from count ∙ length-levelWords area₁ 1 long₁ (omega arith) in
     let L : List (List ℕ) = filled (firstOf up) place bytes from count ∷ restOf up in
     record {
       levels = ea ∙ sym (with-first area₁ new long₁ size) ∙ ap (λ (x : List (List ℕ)). withLevels area₁ (filled (firstOf x) place bytes from count ∷ restOf x)) both
@@ -185,41 +173,72 @@ module _ {key : List ℕ} {params : declared.Params} {constants : List ℕ} {T :
     pub two-most : count - blockBits ≤ blockBits
     two-most = omega (arith, fits, next-some (params .limit) (parallel .0))
 
+    -- the block that level 1 holds, and the one that comes next
+    abbrev first : List ℕ
+    first = levelWords area 1
+
+    abbrev second : List ℕ
+    second = filled first 0 bytes (8 * byte + bit) blockBits
+
+    first-size : length first ≡ blockWords
+    first-size = length-levelWords area 1 (c .part .long) (omega arith)
+
+    second-size : length second ≡ blockWords
+    second-size = length-filled first 0 bytes (8 * byte + bit) blockBits ∙ first-size
+
+    -- what comes of them
+    abbrev both : Made
+    both = flushedTwo Q (params .limit) T first (second ∷ levelsUp area 2)
+
     two-is : fedPart key params T bytes byte bit count area
-        ≡ (let F : Made = flushedBoth key params T (nextBlock bytes byte bit) area in made (filled (firstOf (F .levels)) 0 bytes (8 * byte + bit + blockBits) (count - blockBits) ∷ restOf (F .levels)) (F .nodes))
+        ≡ made (filled (firstOf (both .levels)) 0 bytes (8 * byte + bit + blockBits) (count - blockBits) ∷ restOf (both .levels)) (both .nodes)
     two-is =
         let from : ℕ = 8 * byte + bit in
         let e : count ≡ blockBits + (count - blockBits) = omega arith in
         ap (λ (n : ℕ). feedBits Q T (partBits bytes from n) (levelsOf area)) e
         ∙ ap (feedBits Q T (partBits bytes from (blockBits + (count - blockBits)))) (levels-split area)
-        ∙ full-two Q (count - blockBits) T from (levelWords area 1) bytes (levelsUp area 2) (rw same (parallel .0)) held-two (omega arith) two-most (omega (arith, c .part .inside))
-        ∙ rw (same, levels-split area, no-words)
+        ∙ full-two Q (count - blockBits) T from first bytes (levelsUp area 2) first-size (rw same (parallel .0)) held-two (omega arith) two-most (omega (arith, c .part .inside))
+        ∙ rw same refl
 
-    module _ {next : List ℕ} (filled-next : next ≡ nextBlock bytes byte bit) where
-      next-size : length next ≡ 64
-      next-size = ap length filled-next ∙ length-filled (replicate blockWords 0) 0 bytes (8 * byte + bit) blockBits
+    -- the first is copied, and the second fills level 1
+    module _ {copy area₁ : List ℕ} (h : copy ≡ first) (e : area₁ ≡ withLevel area 1 second) where
+      stood : Left (firstNow second area) area log at area₁ log at
+      stood = first-left log at (c .part .long) second-size e
 
-      pub two-flushing : FlushingTwo key params constants T next area log at
+      wide-stood : Wide (paramsOf area .limit) (second ∷ levelsUp area 2)
+      wide-stood = rw (levels-split area) at (wide-next second (levelsOf area) second-size own-levels)
+
+      stood-long : Long area₁
+      stood-long = left-long (c .part .long) wide-stood stood
+
+      both-now : flushedTwo Q (params .limit) T copy (levelsOf area₁) ≡ both
+      both-now = rw (h, left-levels (c .part .long) wide-stood stood) refl
+
+      pub two-flushing : FlushingTwo key params constants T copy area₁ log at
       two-flushing = record {
-        parallel = record { ready = c .ready; long = c .part .long; own = c .own; some = parallel .0 };
+        parallel = record { ready = c .ready; long = stood-long; own = rw (left-params (c .part .long) wide-stood stood) (c .own); some = parallel .0 };
         full = held-two;
-        words = next-size;
-        room = rw filled-next (omega (arith, c .room, ap (λ (x : Made). at + 2 * length (x .nodes)) two-is));
+        words = ap length h ∙ first-size;
+        room = rw both-now (omega (arith, c .room, ap (λ (x : Made). at + 2 * length (x .nodes)) two-is));
       }
 
-      module _ {area₁ log₁ : List ℕ} {at₁ : ℕ} (l : Left (flushedBoth key params T next area) area log at area₁ log₁ at₁) where
-        wide-both : Wide (paramsOf area .limit) (flushedBoth key params T next area .levels)
-        wide-both = wide-two Q (params .limit) T next (levelsOf area) next-size own-levels
+      module _ {area₂ log₂ : List ℕ} {at₂ : ℕ} (l : Left (flushedTwo Q (params .limit) T copy (levelsOf area₁)) area₁ log at area₂ log₂ at₂) where
+        wide-both : Wide (paramsOf area .limit) (both .levels)
+        wide-both = wide-two Q (params .limit) T first (second ∷ levelsUp area 2) first-size wide-stood
 
-        pub both-long : Long area₁
-        both-long = left-long (c .part .long) wide-both l
+        -- all of it, on the area as it was
+        left-both : Left both area log at area₂ log₂ at₂
+        left-both = left-then (c .part .long) wide-stood stood (rw both-now at l)
+
+        pub both-long : Long area₂
+        both-long = left-long (c .part .long) wide-both left-both
 
         pub chunk-two : {area′ : List ℕ} {from : ℕ} → from ≡ 8 * byte + bit + blockBits
-            → area′ ≡ withLevel area₁ 1 (filled (levelWords area₁ 1) 0 bytes from (count - blockBits))
-            → Left (fedPart key params T bytes byte bit count area) area log at area′ log₁ at₁
-        chunk-two {area′} ep ef =
-            after-filled bytes 0 (8 * byte + bit + blockBits) (count - blockBits) (c .part .long) wide-both l (rw filled-next two-is)
-            (ef ∙ ap (λ (x : ℕ). withLevel area₁ 1 (filled (levelWords area₁ 1) 0 bytes x (count - blockBits))) ep)
+            → area′ ≡ withLevel area₂ 1 (filled (levelWords area₂ 1) 0 bytes from (count - blockBits))
+            → Left (fedPart key params T bytes byte bit count area) area log at area′ log₂ at₂
+        chunk-two ep ef =
+            after-filled bytes 0 (8 * byte + bit + blockBits) (count - blockBits) (c .part .long) wide-both left-both two-is
+            (ef ∙ ap (λ (x : ℕ). withLevel area₂ 1 (filled (levelWords area₂ 1) 0 bytes x (count - blockBits))) ep)
 
 -- ---- one chunk after the other
 

@@ -8,7 +8,7 @@ use native.Mathlib.Omega.{arith}
 use mir.Syntax.{w64}
 use mir.Val.{Fits}
 use lib.Dec.{ltb}
-use lib.ListN.{length, take, drop, getD, length-drop}
+use lib.ListN.{length, take, drop, getD, length-drop, drop-of-length-le}
 use lib.Seq.{drop-cons, drop-drop, take-add, length-take-le}
 use borrow.Author.Tests.{eq-eqb, lt-ltb, le-ltb, ltb-true, ltb-false}
 use Rattle.lists.specs.Below.{Below}
@@ -18,7 +18,7 @@ use Rattle.bits.specs.Bits.{bitsOf, filled}
 use Rattle.bits.specs.BitsLaws.{length-bitsOf, numbers-below}
 use Rattle.bits.specs.FilledLaws.{length-filled, filled-below, filled-more}
 use Rattle.tree.specs.Tree.{Params, Node, node, output, blockBits, sequentialBits}
-use Rattle.calls.specs.Area.{emptyLevel, doneBlocks, heldBits}
+use Rattle.calls.specs.Area.{blockWords, emptyLevel, doneBlocks, heldBits}
 use Rattle.calls.specs.Calls.{Made, withBit, outWords, feedBit, feedBits}
 use Rattle.calls.specs.Blocks.{held-most, held-first}
 use Rattle.calls.specs.FeedLaws.{feedBits-append, withBits-filled, fill-parallel, fill-sequential}
@@ -37,7 +37,7 @@ baseOf limit = blockBits - sizeOf limit
 
 -- ---- numbers
 
-pub size-pos : (limit : ℕ) → (0 < sizeOf limit) × (sizeOf limit ≤ 4096)
+pub size-pos : (limit : ℕ) → (0 < sizeOf limit) × (sizeOf limit ≤ blockBits)
 size-pos zero = (omega arith, omega arith)
 size-pos (suc n) = (omega arith, omega arith)
 
@@ -63,7 +63,7 @@ abbrev pub partBits : List ℕ → ℕ → ℕ → List Bool
 partBits bytes from count = pieceBits (pieceOf bytes from count)
 
 module _ (P : Params) where
-  pub chunk : (count T from : ℕ) (ws bytes : List ℕ) (up : List (List ℕ)) → Below (2 ^ 64) ws → length ws ≡ 64
+  pub chunk : (count T from : ℕ) (ws bytes : List ℕ) (up : List (List ℕ)) → Below (2 ^ 64) ws → length ws ≡ blockWords
       → heldBits (sizeOf (P .limit)) T + count ≤ sizeOf (P .limit) → from + count ≤ 8 * length bytes
       → feedBits P T (partBits bytes from count) (ws ∷ up)
       ≡ made (filled ws (baseOf (P .limit) + heldBits (sizeOf (P .limit)) T) bytes from count ∷ up) []
@@ -88,7 +88,7 @@ bit-filled : (ws : List ℕ) (h : ℕ) (bytes : List ℕ) (from : ℕ) → Below
     → withBit h (getD (bitsOf 8 bytes) from false) ws ≡ filled ws h bytes from 1
 bit-filled ws h bytes from b hw hs = rw (bits-cons bytes from 0 hs) at (withBits-filled ws h bytes from 1 b (omega arith) (omega arith))
 
-first-size : (P : Params) (limit T : ℕ) (ws : List ℕ) (up : List (List ℕ)) → length (firstOf (flushed P limit T (ws ∷ up) .levels)) ≡ 64
+first-size : (P : Params) (limit T : ℕ) (ws : List ℕ) (up : List (List ℕ)) → length (firstOf (flushed P limit T (ws ∷ up) .levels)) ≡ blockWords
 first-size P zero T ws up = length-chained P (node P 1 (doneBlocks sequentialBits T) 0 0 ws)
 first-size P (suc n) T ws up = length-empty
 
@@ -128,7 +128,7 @@ module _ (P : Params) where
       let b : Bool = getD (bitsOf 8 bytes) from false in
       let bs : List Bool = partBits bytes (suc from) c in
       let room : at + S ≡ blockBits = base-size (P .limit) in
-      let lw : length W ≡ 64 = first-size P (P .limit) T ws up in
+      let lw : length W ≡ blockWords = first-size P (P .limit) T ws up in
       let one : withBit at b W ≡ filled W at bytes from 1 = bit-filled W at bytes from (first-below P (P .limit) T ws up) (omega arith) (omega arith) in
       let full : feedBit P (P .limit) T b (ws ∷ up) ≡ made (filled W at bytes from 1 ∷ restOf (F .levels)) (F .nodes) =
       bit-full T b ws up e ∙ ap (λ (x : List ℕ). made (x ∷ restOf (F .levels)) (F .nodes)) one in
@@ -136,7 +136,7 @@ module _ (P : Params) where
       let q : suc from ≡ from + 1 = omega arith in
       let p : at + heldBits S (suc T) ≡ at + 1 = omega arith in
       let t : 1 + c ≡ suc c = omega arith in
-      let lf : length (filled W at bytes from 1) ≡ 64 = length-filled W at bytes from 1 ∙ lw in
+      let lf : length (filled W at bytes from 1) ≡ blockWords = length-filled W at bytes from 1 ∙ lw in
       let rest = chunk P c (suc T) (suc from) (filled W at bytes from 1) bytes (restOf (F .levels)) (filled-below W at bytes from 1) lf (omega arith) (omega arith) in
       let more : filled (filled W at bytes from 1) (at + heldBits S (suc T)) bytes (suc from) c ≡ filled W at bytes from (suc c) =
       rw (p, q) (filled-more W at bytes from 1 c (omega arith) (omega arith)) ∙ ap (filled W at bytes from) t in
@@ -155,26 +155,32 @@ bits-cut bytes from m n =
 length-part : (bytes : List ℕ) (from m : ℕ) → from + m ≤ 8 * length bytes → length (partBits bytes from m) ≡ m
 length-part bytes from m h = length-take-le m (drop from (bitsOf 8 bytes)) (simp (length-drop, length-bitsOf) (omega arith))
 
+-- a block that is filled whole: what it held before does not matter
+filled-whole : (ws vs bytes : List ℕ) (from : ℕ) → length ws ≡ blockWords → length vs ≡ blockWords → filled ws 0 bytes from blockBits ≡ filled vs 0 bytes from blockBits
+unfolding filled
+filled-whole ws vs bytes from h g =
+    rw (h, g, drop-of-length-le (bitsOf 64 ws) {i = blockBits} (rw length-bitsOf (omega arith)), drop-of-length-le (bitsOf 64 vs) {i = blockBits} (rw length-bitsOf (omega arith)))
+
 -- a block is done, and the next is full
 held-block : (T : ℕ) → heldBits blockBits T ≡ blockBits → heldBits blockBits (T + blockBits) ≡ blockBits
 held-block T h = omega arith
 
 module _ (P : Params) where
-  -- the next block, and then bits that fit the one after it
-  pub full-two : (count T from : ℕ) (ws bytes : List ℕ) (up : List (List ℕ)) → 1 ≤ P .limit → heldBits blockBits T ≡ blockBits → 1 ≤ count
-      → count ≤ blockBits → from + (blockBits + count) ≤ 8 * length bytes
+  -- the next block, which is put over the one that is held, and then bits that fit the one after it
+  pub full-two : (count T from : ℕ) (ws bytes : List ℕ) (up : List (List ℕ)) → length ws ≡ blockWords → 1 ≤ P .limit → heldBits blockBits T ≡ blockBits
+      → 1 ≤ count → count ≤ blockBits → from + (blockBits + count) ≤ 8 * length bytes
       → feedBits P T (partBits bytes from (blockBits + count)) (ws ∷ up)
-      ≡ (let F : Made = flushedTwo P (P .limit) T (filled emptyLevel 0 bytes from blockBits) (ws ∷ up) in made (filled (firstOf (F .levels)) 0 bytes (from + blockBits) count ∷ restOf (F .levels)) (F .nodes))
-  full-two count T from ws bytes up some e l h g =
+      ≡ (let F : Made = flushedTwo P (P .limit) T ws (filled ws 0 bytes from blockBits ∷ up) in made (filled (firstOf (F .levels)) 0 bytes (from + blockBits) count ∷ restOf (F .levels)) (F .nodes))
+  full-two count T from ws bytes up wide some e l h g =
       let limit : ℕ = P .limit in
       let size : sizeOf limit ≡ blockBits = size-some limit some in
       let base : baseOf limit ≡ 0 = ap (λ (x : ℕ). blockBits - x) size in
-      let next : List ℕ = filled emptyLevel 0 bytes from blockBits in
+      let next : List ℕ = filled ws 0 bytes from blockBits in
       let one : Made = flushed P limit T (ws ∷ up) in
       let two : Made = flushed P limit (T + blockBits) (next ∷ restOf (one .levels)) in
       let a : feedBits P T (partBits bytes from blockBits) (ws ∷ up) ≡ made (next ∷ restOf (one .levels)) (one .nodes) =
       full-chunk P blockBits T from ws bytes up (rw size e) (omega arith) (rw size (omega arith)) (omega arith)
-      ∙ rw (base, first-empty P limit T ws up some) refl in
+      ∙ rw (base, first-empty P limit T ws up some, filled-whole emptyLevel ws bytes from length-empty wide) refl in
       let b : feedBits P (T + blockBits) (partBits bytes (from + blockBits) count) (next ∷ restOf (one .levels))
       ≡ made (filled (firstOf (two .levels)) 0 bytes (from + blockBits) count ∷ restOf (two .levels)) (two .nodes) =
       full-chunk P count (T + blockBits) (from + blockBits) next bytes (restOf (one .levels)) (rw size (held-block T e)) l (rw size h) (omega arith)
@@ -193,7 +199,7 @@ pub free-place : (limit T : ℕ) → blockBits - freeOf limit T ≡ baseOf limit
 free-place zero T = omega (arith, held-le zero T)
 free-place (suc n) T = omega (arith, held-le (suc n) T)
 
-pub free-le : (limit T : ℕ) → freeOf limit T ≤ 4096
+pub free-le : (limit T : ℕ) → freeOf limit T ≤ blockBits
 free-le zero T = omega arith
 free-le (suc n) T = omega arith
 
@@ -241,7 +247,7 @@ next-two zero h g = absurd (omega arith)
 next-two (suc n) h g = (omega arith, refl)
 
 -- the places of count bits among the last size bits of level 1
-pub base-place : {size count : ℕ} → size ≤ 4096 → count ≤ size → (4096 - size) + count ≤ 4096
+pub base-place : {size count : ℕ} → size ≤ blockBits → count ≤ size → (blockBits - size) + count ≤ blockBits
 base-place h g = omega arith
 
 -- bits of a piece: done of them are fed, count come next, all in all

@@ -57,7 +57,7 @@ fn room_of(limit: u64, total: u64) -> u64
 
 // Copies bits of a piece, from a bit of a byte on, into level 1, through its own part of the area.
 pub fn fill_level(area: &mut [u64], place: u64, piece: &[u8], byte: usize, bit: usize, count: u64)
-    requires { ⌜ Part (now area) (now piece) byte bit count × (place + count ≤ 4096) ⌝ }
+    requires { ⌜ Part (now area) (now piece) byte bit count × (place + count ≤ blockBits) ⌝ }
     ensures { λ _. ⌜ now (area .exit) ≡ withLevel (now (area .entry)) 1 (filled (levelWords (now (area .entry)) 1) place (now (piece .entry)) (8 * byte + bit) count) ⌝ }
 {
     bits::fill(
@@ -71,7 +71,8 @@ pub fn fill_level(area: &mut [u64], place: u64, piece: &[u8], byte: usize, bit: 
 }
 
 // Feeds to a full level 1 more bits of a piece than a block has, and answers where the log goes on. Two nodes are made at once: of the
-// block that level 1 holds, and of the next, which stands whole in the piece; as level 1 never holds it, it does not go through the area.
+// block that level 1 holds, and of the next, which stands whole in the piece and fills level 1 as any other. So that both are there when
+// the nodes are made, the first is copied before.
 fn feed_two(
     area: &mut [u64],
     params: Params,
@@ -89,10 +90,10 @@ fn feed_two(
     requires { ⌜ (freeOf (params .limit) total ≤ 0) × (blockBits < count) ⌝ }
     ensures { λ r. ⌜ Left (fedPart (now (key .entry)) params total (now (piece .entry)) byte bit count (now (area .entry))) (now (area .entry)) (now (log .entry)) at (now (area .exit)) (now (log .exit)) r ⌝ }
 {
-    let empty = Block::new();
-    let mut block = empty.words;
-    bits::fill(&mut block, 0, piece, byte, bit, Block::BITS as usize);
-    let next = climb::flush_two(&mut *area, params, key, constants, total, &block, log, at);
+    let mut held = [0u64; Area::LEVEL];
+    words::copy(&mut held, 0, Area::level(area, 1));
+    fill_level(&mut *area, 0, piece, byte, bit, Block::BITS);
+    let next = climb::flush_two(&mut *area, params, key, constants, total, &held, log, at);
     let after = byte + Block::BYTES as usize;
     fill_level(&mut *area, 0, piece, after, bit, count - Block::BITS);
     next

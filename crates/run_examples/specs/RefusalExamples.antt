@@ -13,7 +13,7 @@ use Rattle.tree.specs.Tree.{Params, mostLimit, keyWords, output, noChain}
 use Rattle.calls.specs.Area.{areaWords, paramsOf, levelsOf, withLevels, emptyLevel, emptyLevels, sound}
 use Rattle.calls.specs.Calls.{withBit, outWords, receive, feedBit, feedBits, closeAbove, closing, openNumber, openedArea, openOf, fedBits, feedNumber, fedArea, feedOf, closedBy, endNumber, endedArea, digestOut, endOf, previewNumber, previewOf, closeNumber, closeOf, logWordsNumber, logWordsOf, areaWordsOf}
 use Rattle.digits.specs.Digits.{hexDigits, speltWords}
-use Rattle.text.specs.Text.{textWith, textOf, oldTextOf, speltHead, speltArea, writeNumber, writeOf, readableWith, readable, readArea, readNumber, readOf}
+use Rattle.texts.specs.Text.{textWith, textOf, oldTextOf, speltHead, speltArea, writeNumber, writeOf, readableWith, readable, readArea, readNumber, readOf}
 use Rattle.lists.specs.Same.{same}
 use Rattle.lists.specs.SameLaws.{same-eq}
 use Rattle.hash.specs.Hash.{hashNumber, hashOf, defaultRoundsOf}

@@ -16,7 +16,7 @@ use Rattle.tree.specs.Tree.{keyWords, output, noChain}
 use Rattle.calls.specs.Area.{areaWords, paramsOf, levelsOf, withLevels, emptyLevel, emptyLevels, sound}
 use Rattle.calls.specs.Calls.{withBit, outWords, receive, feedBit, feedBits, closeAbove, closing, openNumber, openedArea, openOf, fedBits, feedNumber, fedArea, feedOf, closedBy, endNumber, endedArea, digestOut, endOf, shown, levelOf}
 use Rattle.digits.specs.Digits.{hexDigits, line, speltWords}
-use Rattle.text.specs.Text.{textWith, speltHead, speltArea, writeNumber, writeOf, readableWith, readable, readArea, readNumber, readOf}
+use Rattle.texts.specs.Text.{textWith, speltHead, speltArea, writeNumber, writeOf, readableWith, readable, readArea, readNumber, readOf}
 use Rattle.runs.specs.Runs.{Bytes, feed, end, show, write, read, readInto, outcomeOf, roleOf, Run, answered, Share, shareOf, joinedShares, shares}
 use Rattle.runs.specs.Statements.{piecesIn}
 use Rattle.run_examples.specs.RunTest.{lent, goesIf, other, zeros, Example, computed, expected, runOf, Gives, gives}

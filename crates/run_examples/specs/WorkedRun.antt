@@ -13,7 +13,7 @@ use Rattle.tree.specs.Tree.{keyWords, output, noChain}
 use Rattle.calls.specs.Area.{paramsOf, levelsOf, withLevels, emptyLevel, emptyLevels, sound}
 use Rattle.calls.specs.Calls.{withBit, outWords, receive, feedBit, feedBits, closeAbove, closing, openNumber, openedArea, openOf, fedBits, feedNumber, fedArea, feedOf, closedBy, endNumber, endedArea, digestOut, endOf, shown, levelOf, logWordsNumber, logWordsOf}
 use Rattle.digits.specs.Digits.{hexDigits, speltWords}
-use Rattle.text.specs.Text.{textWith, speltHead, speltArea, writeNumber, writeOf, readableWith, readable, readArea, readNumber, readOf}
+use Rattle.texts.specs.Text.{textWith, speltHead, speltArea, writeNumber, writeOf, readableWith, readable, readArea, readNumber, readOf}
 use Rattle.runs.specs.Runs.{Bytes, Share, feed, end, show, logWords, write, read, readInto, reopen, outcomeOf, roleOf, Run, answered, shareOf, joinedShares, shares}
 use Rattle.runs.specs.Statements.{piecesIn, piecesOf, CutFrom, uncut, cut}
 use Rattle.run_examples.specs.RunTest.{lent, goesIf, used, other, zeros, Example, computed, expected, runOf, Gives, gives}

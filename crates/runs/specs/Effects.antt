@@ -17,8 +17,8 @@ use Rattle.calls.specs.Marks.{allNodes, settled}
 use Rattle.calls.specs.CallLaws.{OpenArea, open-number, open-refused, feed-number, feed-refused, feed-passed, end-number, end-refused, end-passed, preview-number, close-number, close-refused, close-passed, logWords-number}
 use Rattle.calls.specs.Stands.{Stands, Closed}
 use Rattle.calls.specs.Meets.{feed-one, end-one, close-one}
-use Rattle.text.specs.Text.{Taken, textOf, writeNumber, readNumber, readOf}
-use Rattle.text.specs.ReadLaws.{read-number, read-refused, write-number, written-text}
+use Rattle.texts.specs.Text.{Taken, textOf, writeNumber, readNumber, readOf}
+use Rattle.texts.specs.ReadLaws.{read-number, read-refused, write-number, written-text}
 use Rattle.runs.specs.Runs.{Bytes, Words, Call, feed, end, preview, close, show, logWords, write, read, readInto, reopen, unless, outcomeOf, acceptedRole, roleOf, suspended, Allowed, Share, nothing, acceptedShare, shareOf, digestIn}
 use Rattle.runs.specs.Suspend.{At, isOpen, hasEnded, at-resumed}
 

@@ -6,7 +6,7 @@ use Prim.Native.Nat.{ℕ, suc, _^_, _<_}
 use Rattle.bits.specs.Piece.{Piece}
 use Rattle.tree.specs.Tree.{Params}
 use Rattle.calls.specs.Calls.{openOf, feedOf, previewOf, logWordsOf}
-use Rattle.text.specs.Text.{readOf}
+use Rattle.texts.specs.Text.{readOf}
 use Rattle.runs.specs.Runs.{Bytes, Words, Call, feed, preview, logWords, read, readInto, reopen, unless, outcomeOf, roleOf, suspended, Goes}
 
 module _ (area : List ℕ) (text : Option (List ℕ)) where

@@ -11,7 +11,7 @@ use Rattle.bits.specs.Piece.{Piece, pieceBits}
 use Rattle.tree.specs.Tree.{Params, digestBytes}
 use Rattle.refusals.specs.Refusals.{Told}
 use Rattle.calls.specs.Calls.{Opened, Fed, Finished, Previewed, ClosedWith, openOf, feedOf, endOf, previewOf, closeOf, levelOf, logWordsOf}
-use Rattle.text.specs.Text.{Written, Taken, writeOf, readOf}
+use Rattle.texts.specs.Text.{Written, Taken, writeOf, readOf}
 
 -- lent bytes and lent words
 abbrev pub Bytes : List ℕ → Type 0

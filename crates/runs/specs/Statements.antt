@@ -13,7 +13,7 @@ use Rattle.refusals.specs.Refusals.{firstRefusal, paramTests, outputTest}
 use Rattle.calls.specs.Area.{areaLevels, areaWords, phaseOf, totalOf, paramsOf, levelWords, sound}
 use Rattle.calls.specs.Calls.{nodeLog, shortTest, totalTest, openOf, feedTests, feedOf, endTests, endOf, previewOf, closeTests, closeOf, levelOf, logWordsOf}
 use Rattle.calls.specs.Marks.{allNodes, settled}
-use Rattle.text.specs.Text.{textOf, writeOf, readable, areaIn, readOf}
+use Rattle.texts.specs.Text.{textOf, writeOf, readable, areaIn, readOf}
 use Rattle.runs.specs.Runs.{Bytes, Words, Call, feed, end, preview, close, show, logWords, write, read, readInto, reopen, unless, Run, Outcome, Answered, shares, answersOf, areaOf, messageOf, logOf, countOf, outputOf, digestIn}
 
 -- ---- demand 3

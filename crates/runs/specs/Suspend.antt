@@ -15,11 +15,11 @@ use Rattle.refusals.specs.Refusals.{firstRefusal}
 use Rattle.calls.specs.Calls.{shortTest}
 use Rattle.calls.specs.Terms.{SameFront}
 use Rattle.calls.specs.Moved.{stands-moved, closed-moved, stands-below, closed-below}
-use Rattle.text.specs.Text.{roundsBytes, textOf, readArea, readNumber, readOf}
-use Rattle.text.specs.LayoutLaws.{sound-front, text-front, own-front}
-use Rattle.text.specs.ReadForms.{ReadAs, writing-read}
-use Rattle.text.specs.Terms.{SoundArea, new-writing}
-use Rattle.text.specs.ReadLaws.{read-number, read-passed, read-accepted}
+use Rattle.texts.specs.Text.{roundsBytes, textOf, readArea, readNumber, readOf}
+use Rattle.texts.specs.LayoutLaws.{sound-front, text-front, own-front}
+use Rattle.texts.specs.ReadForms.{ReadAs, writing-read}
+use Rattle.texts.specs.Terms.{SoundArea, new-writing}
+use Rattle.texts.specs.ReadLaws.{read-number, read-passed, read-accepted}
 
 -- false while the stream is open, true once it has ended
 pub data At (P : Params) (M : List Bool) (area : List ℕ) : Bool → Type 0 where

@@ -17,8 +17,8 @@ use Rattle.calls.specs.CallLaws.{open-number, feed-number, end-number, preview-
 use Rattle.calls.specs.Stands.{Stands}
 use Rattle.calls.specs.Accepts.{feed-tests, end-tests, preview-tests, close-tests, logWords-tests, feed-nodes, end-nodes, feed-ended, end-ended, preview-ended, close-ended, logWords-ended, level-shown, level-none}
 use Rattle.calls.specs.LogWords.{any-bits}
-use Rattle.text.specs.Text.{writeNumber, readNumber}
-use Rattle.text.specs.ReadLaws.{write-number, read-number}
+use Rattle.texts.specs.Text.{writeNumber, readNumber}
+use Rattle.texts.specs.ReadLaws.{write-number, read-number}
 use Rattle.runs.specs.Runs.{Run, shares, answersOf, areaOf, messageOf, outputOf}
 use Rattle.runs.specs.Statements.{endedTest, feedMakes, endMakes, Demand3, Table}
 use Rattle.runs.specs.Suspend.{at-read-back}

@@ -1,4 +1,2 @@
-pub mod EndLaws
 pub mod LevelLaws
-pub mod NumberLaws
 pub mod OpenLaws

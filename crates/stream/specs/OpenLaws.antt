@@ -1,8 +1,10 @@
 -- Laws: of `openOf` in Calls: the area as the code writes it, and its number.
-use mathlib.Core.Path.{_≡_, refl, sym, ap, _∙_}
+use mathlib.Core.Path.{_≡_, refl, ap, _∙_}
+use mathlib.Core.Bool.{Bool}
 use mathlib.Core.List.{List, [], _∷_, _++_}
 use Prim.Native.Nat.{ℕ, _+_, _-_, _*_, _≤_}
 use native.Mathlib.Omega.{arith}
+use lib.Dec.{ltb}
 use lib.ListN.{length, take, drop, replicate, replicate-append-replicate}
 use lib.Seq.{sets}
 use Rattle.lists.specs.Part.{put}
@@ -10,11 +12,11 @@ use Rattle.lists.specs.PartLaws.{next-part, first-stores}
 use Rattle.bits.specs.Bits.{filled}
 use Rattle.tree.specs.Tree.{Params, keyWords}
 use Rattle.refusals.specs.Refusals.{firstRefusal, paramTests}
-use Rattle.refusals.specs.RefusalLaws.{passed, first-part, second-part}
 use Rattle.node.specs.DigestLaws.{key-filled}
 use Rattle.calls.specs.Area.{blockWords, areaLevels, areaWords}
 use Rattle.calls.specs.AreaLaws.{flatten-empty}
 use Rattle.calls.specs.Calls.{shortTest, openNumber, openedArea}
+use Rattle.numbers.specs.NumberLaws.{part-number}
 
 -- the area after the first six words were stored, the rest cleared, and K written
 pub open-written : (area key : List ℕ) (d limit rounds e : ℕ) → e ≡ areaWords limit → e ≤ length area → length key ≤ 64
@@ -38,12 +40,8 @@ open-written area key d limit rounds e q h g =
     ∙ ap (λ (K : List ℕ). vs ++ (K ++ (0 ∷ 0 ∷ (replicate m 0 ++ tail)))) f
     ∙ rw (flatten-empty (areaLevels limit)) refl
 
--- parameters that are refused, before the area's length is looked at
-pub open-params : (area : List ℕ) (P : Params) → (firstRefusal (paramTests P) ≡ 0 → ⊥) → openNumber area P ≡ firstRefusal (paramTests P)
+-- its number, by that of the parameters and whether the area has too few words
+pub open-numbers : {n range : ℕ} {few : Bool} (area : List ℕ) (P : Params) → range ≡ firstRefusal (paramTests P) → few ≡ shortTest area (P .limit) .0
+    → n ≡ firstRefusal ((ltb 0 range, range) ∷ (few, 7) ∷ []) → n ≡ openNumber area P
 unfolding openNumber
-open-params area P h = sym (first-part (paramTests P) (shortTest area (P .limit) ∷ []) h)
-
--- and after them
-pub open-short : (area : List ℕ) (P : Params) → firstRefusal (paramTests P) ≡ 0 → openNumber area P ≡ firstRefusal (shortTest area (P .limit) ∷ [])
-unfolding openNumber
-open-short area P e = second-part (paramTests P) (shortTest area (P .limit) ∷ []) (passed (paramTests P) refl e)
+open-numbers area P r f e = e ∙ rw (r, f) (part-number (paramTests P) (shortTest area (P .limit) ∷ []) refl)

@@ -8,15 +8,11 @@ ghost use Rattle.calls.specs.Area.{areaWords, levelStart};
 ghost use Rattle.calls.specs.Calls.{openedArea, openOf, feedOf, shown, levelOf, areaWordsOf, logWordsOf};
 use area::Area;
 use bits::Span;
-use refusals::Answer;
-use refusals::Params;
-
-mod number; // number.rt: the numbers that refuse calls on an area, and how many nodes these would make
-mod ending; // ending.rt: end, preview and close
-
 pub use ending::close;
 pub use ending::end;
 pub use ending::preview;
+use refusals::Answer;
+use refusals::Params;
 
 // Writes the words of an open area with no bits.
 fn write_open(area: &mut [u64], key: &[u8], d: u64, limit: u64, rounds: u64)
@@ -45,15 +41,11 @@ fn write_open(area: &mut [u64], key: &[u8], d: u64, limit: u64, rounds: u64)
 pub fn open(area: &mut [u64], key: &[u8], d: u64, limit: u64, rounds: u64) -> Answer
     ensures { λ o. ⌜ record { number = o .number; count = o .count; area = now (area .exit) } ≡ openOf (now (area .entry)) (record { key = now (key .entry); d = d; limit = limit; rounds = rounds }) ⌝ }
 {
-    let params = Params::new(key.len() as u64, d, limit, rounds);
-    // what the two tests look at, in the order of document 02
-    let range = refusals::params_number(params);
-    let words = Area::words(limit);
-    if range != 0 {
-        return Answer::refused(range); // 1 to 4
-    }
-    if area.len() < words {
-        return Answer::refused(7);
+    let range = refusals::params_number(Params::new(key.len() as u64, d, limit, rounds));
+    let few = area.len() < Area::words(limit);
+    let number = numbers::opening_number(range, few);
+    if number != 0 {
+        return Answer::refused(number);
     }
     write_open(area, key, d, limit, rounds);
     Answer::accepted(0)
@@ -92,7 +84,7 @@ pub fn feed(area: &mut [u64], piece: &[u8], start: u64, bits: u64, log: &mut [u6
     ensures { λ o. ⌜ record { number = o .number; count = o .count; area = now (area .exit); log = now (log .exit) } ≡ feedOf (now (area .entry)) (record { bytes = now (piece .entry); start = start; count = bits }) (now (log .entry)) ⌝ }
 {
     let span = Span { start, bits };
-    let number = number::feed_number(area, piece, span, log);
+    let number = numbers::feed_number(area, piece, span, log);
     if number != 0 {
         return Answer::refused(number);
     }
@@ -114,10 +106,10 @@ pub fn area_words(limit: u64) -> Answer
 pub fn log_words(area: &[u64], bits: u64) -> Answer
     ensures { λ o. ⌜ record { number = o .number; count = o .count } ≡ logWordsOf (now (area .entry)) bits ⌝ }
 {
-    let number = number::log_words_number(area, bits);
+    let number = numbers::log_words_number(area, bits);
     if number != 0 {
         return Answer::refused(number);
     }
-    let nodes = number::nodes_made(area, bits);
+    let nodes = numbers::nodes_made(area, bits);
     Answer::accepted(2 * nodes)
 }

@@ -57,14 +57,6 @@ pub fn same(words: &[u64], before: &[u64], from: usize) {
     io::write_all(STDOUT_FILENO, b" changed");
 }
 
-// The log words of so many nodes, if they are few.
-pub fn node_words(count: u64) -> usize {
-    if count < 1000 {
-        return 2 * count as usize;
-    }
-    2000
-}
-
 // What follows a word: the last of a row ends the line.
 fn between(i: usize, width: usize)
     requires { ⌜ 0 < width ⌝ }

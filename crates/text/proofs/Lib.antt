@@ -1,6 +1,5 @@
-pub mod HeldAt
-pub mod LineStores
-pub mod PutLevels
+pub mod LinesSpelt
 pub mod SpellLevels
+pub mod Again
 pub mod Readable
 pub mod CallLaws

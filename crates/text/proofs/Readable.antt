@@ -16,12 +16,13 @@ use Rattle.tree.specs.Tree.{mostLevels, mostLimit}
 use Rattle.calls.specs.Area.{headWords, blockWords, areaLevels, areaWords, paramsOf, ownLevels, ownWords, sound, Long}
 use Rattle.calls.specs.AreaLaws.{limit-word}
 use Rattle.digits.specs.Digits.{allSpelt}
-use Rattle.text.specs.Text.{roundsBytes, line1Fields, heldOf, textWith, levelBytes, headBytes, speltHead, speltLevels, speltArea, textIs, readableWith, readable, readArea}
-use Rattle.text.specs.LayoutLaws.{sound-front, text-front}
-use Rattle.text.specs.LengthLaws.{lines, text-length}
-use Rattle.text.specs.Lines.{zeroLevels, linesAbove, Spelt, length-text}
-use Rattle.text.specs.ReadForms.{formOf, one-form}
-use Rattle.text.specs.TextLaws.{limit-front, held-front, length-speltHead, headed, headed-front, length-speltArea}
+use Rattle.texts.specs.Text.{roundsBytes, line1Fields, heldOf, textWith, levelBytes, headBytes, speltHead, speltLevels, speltArea, textIs, readableWith, readable, readArea}
+use Rattle.texts.specs.LayoutLaws.{sound-front, text-front}
+use Rattle.texts.specs.LengthLaws.{lines, text-length}
+use Rattle.writing.specs.Lines.{linesAbove, length-text}
+use Rattle.text.specs.Spelling.{zeroLevels, Spelt}
+use Rattle.texts.specs.ReadForms.{formOf, one-form}
+use Rattle.texts.specs.TextLaws.{limit-front, held-front, length-speltHead, headed, headed-front, length-speltArea}
 
 -- ---- a text that is not read
 

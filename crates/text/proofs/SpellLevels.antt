@@ -13,13 +13,14 @@ use Rattle.lists.specs.Part.{put}
 use Rattle.lists.specs.PartLaws.{put-take, put-drop, put-length}
 use Rattle.calls.specs.Area.{headWords, blockWords, paramsOf, ownLevels, ownWords, emptyLevel, Long}
 use Rattle.digits.specs.Digits.{speltWords, allSpelt}
-use Rattle.text.specs.Text.{heldOf, levelBytes, speltLevels}
+use Rattle.texts.specs.Text.{heldOf, levelBytes, speltLevels}
 use Rattle.digits.specs.DigitLaws.{length-speltWords, all-known, known-all, all-part}
-use Rattle.text.specs.LengthLaws.{length-held}
-use Rattle.text.specs.Lines.{hasLineAt, linesAbove, zeroLevels, values, levelSpelt, LevelSpelt, held-at, above-no, length-yes}
-use Rattle.text.specs.TextLaws.{limit-front, held-front}
+use Rattle.texts.specs.LengthLaws.{length-held}
+use Rattle.writing.specs.Lines.{hasLineAt, linesAbove, held-at, above-no, length-yes}
+use Rattle.text.specs.Spelling.{zeroLevels, values, levelSpelt, LevelSpelt}
+use Rattle.texts.specs.TextLaws.{limit-front, held-front}
 use Rattle.lists.specs.Take.{drop-take}
-use Rattle.text.proofs.LineStores.{words-front}
+use Rattle.text.proofs.LinesSpelt.{words-front}
 
 -- ---- the levels above the first k, from the text that begins at a place
 

@@ -1,14 +1,1 @@
-pub mod AlikeTexts
-pub mod FieldLaws
-pub mod FormLaws
-pub mod HeldLaws
-pub mod LayoutLaws
-pub mod LengthLaws
-pub mod Lines
-pub mod ReadForms
-pub mod ReadLaws
-pub mod ReadLeaves
-pub mod SameTexts
-pub mod Terms
-pub mod Text
-pub mod TextLaws
+pub mod Spelling

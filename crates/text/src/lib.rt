@@ -1,13 +1,15 @@
 // A suspended stream as text. Document 01, "Suspended text"; M-108: line 1 holds r in two bytes, and old lines, which have one, are
 // still read; M-109: how many words an area has goes by its L, which a text tells too.
 ghost use mathlib.Core.Path.{_≡_};
-ghost use Rattle.text.specs.Text.{writeOf, readOf};
+ghost use mathlib.Core.List.{[], _∷_};
+ghost use Rattle.refusals.specs.Refusals.{firstRefusal};
+ghost use Rattle.texts.specs.Text.{writeOf, readOf};
 use area::Area;
 use refusals::Answer;
+use writing::held;
+use writing::lines;
+use writing::put;
 
-mod held; // held.rt: which levels have a line
-mod lines; // lines.rt: the lines of a text
-mod put; // put.rt: an area's text
 mod spell; // spell.rt: the area that a text spells
 
 // Writes the text of an area, in the new form.
@@ -28,19 +30,31 @@ pub fn write(area: &[u64], text: &mut [u8]) -> Answer
     Answer::accepted(bytes as u64)
 }
 
-// Reads a text into an area, whatever it held. Nothing is stored before the text is known to be one that a sound area
-// writes, or wrote before M-108. Whether the area is
-// short goes by the text's L; words past those that this L gives stay.
+// For a read: 11 for a text that is not read, then 7 for an area that is short for it, and otherwise 0.
+fn read_number(unreadable: bool, short: bool) -> u64
+    ensures { λ r. ⌜ r ≡ firstRefusal ((unreadable, 11) ∷ (short, 7) ∷ []) ⌝ }
+{
+    if unreadable {
+        return 11; // the text first
+    }
+    if short {
+        return 7;
+    }
+    0
+}
+
+// Reads a text into an area, whatever it held. Nothing is stored before the text is known to be one that a sound area writes, or wrote
+// before M-108, and the area to be long enough for it, which goes by the text's L. What a text that is not read spells is left open, and so
+// is whether the area is short for it: 11 comes first. Words past those that L gives stay.
 pub fn read(area: &mut [u64], text: &[u8]) -> Answer
     ensures { λ o. ⌜ record { number = o .number; count = o .count; area = now (area .exit) } ≡ readOf (now (area .entry)) (now (text .entry)) ⌝ }
 {
     let mut spelt = [0u64; Area::WORDS];
-    if !spell::is_readable(&mut spelt, text) {
-        return Answer::refused(11);
-    }
+    let readable = spell::is_readable(&mut spelt, text);
     let n = Area::words(spelt[Area::LIMIT]);
-    if area.len() < n {
-        return Answer::refused(7);
+    let number = read_number(!readable, area.len() < n);
+    if number != 0 {
+        return Answer::refused(number);
     }
     words::copy(area, 0, &spelt[0..n]);
     Answer::accepted(0)

@@ -9,13 +9,28 @@ ghost use Rattle.lists.specs.Same.{same};
 ghost use Rattle.tree.specs.Tree.{mostLimit};
 ghost use Rattle.calls.specs.Area.{headWords, areaWords, ownLevels, ownWords, Long};
 ghost use Rattle.digits.specs.Digits.{allSpelt};
-ghost use Rattle.text.specs.Text.{roundsBytes, line1Fields, heldOf, textWith, levelBytes, headBytes, speltHead, speltLevels, readable, readArea};
-ghost use Rattle.text.specs.Lines.{zeroLevels, linesAbove, LevelSpelt, Spelt};
-use super::held;
-use super::lines;
-use super::put;
+ghost use Rattle.texts.specs.Text.{roundsBytes, line1Fields, heldOf, textWith, levelBytes, headBytes, speltHead, speltLevels, readable, readArea};
+ghost use Rattle.texts.specs.ReadForms.{formOf};
+ghost use Rattle.writing.specs.Lines.{linesAbove};
+ghost use Rattle.text.specs.Spelling.{zeroLevels, LevelSpelt, Spelt};
 use area::Area;
 use digits::Reading;
+use writing::held;
+use writing::lines;
+use writing::put;
+
+// The bytes of r in a text's line 1, if it is one that is read: one if the line ends where it did before M-108, otherwise two.
+fn width_of(text: &[u8]) -> usize
+    ensures { λ r. ⌜ r ≡ formOf (now (text .entry)) ⌝ }
+{
+    if text.len() <= lines::OLD_LINE1 {
+        return lines::ROUNDS_BYTES;
+    }
+    if text[lines::OLD_LINE1] == lines::END {
+        return lines::OLD_ROUNDS_BYTES;
+    }
+    lines::ROUNDS_BYTES
+}
 
 // Words 0 to 15 from the first two lines, into words that are zero. Answers false at the first byte that is no digit.
 fn spell_head(head: &mut [u64], text: &[u8], width: usize) -> bool
@@ -112,7 +127,7 @@ pub fn is_readable(area: &mut [u64], text: &[u8]) -> bool
     requires { ⌜ now area ≡ replicate (areaWords mostLimit) 0 ⌝ }
     ensures { λ r. ⌜ (r ≡ readable (now (text .entry))) × (r ≡ true → readArea (now (text .entry)) ≡ some (take (ownWords (now (area .exit))) (now (area .exit)))) ⌝ }
 {
-    let width = lines::width_of(text);
+    let width = width_of(text);
     if !spell_area(area, text, width) {
         return false;
     }

@@ -5,8 +5,6 @@ use mathlib.Core.Bool.{true}
 use mathlib.Core.List.{List, [], _∷_, _++_, map}
 use mathlib.Core.Option.{none}
 use Prim.Native.Nat.{ℕ, _+_, _-_, _*_, _^_}
-use Prim.Native.Char.{code}
-use Prim.Native.String as string
 use lib.ListN.{take, drop, replicate}
 use Rattle.bits.specs.Bits.{numbers}
 use Rattle.bits.specs.Piece.{pieceOf}
@@ -15,13 +13,9 @@ use Rattle.tree.specs.Tree.{Params, keyWords, output, mostLimit}
 use Rattle.calls.specs.Area.{areaWords, paramsOf, levelsOf, withLevels, emptyLevel, emptyLevels, sound}
 use Rattle.calls.specs.Calls.{withBit, outWords, receive, feedBit, feedBits, closeAbove, closing, openNumber, openedArea, openOf, fedBits, feedNumber, fedArea, feedOf, closedBy, endNumber, endedArea, digestOut, endOf}
 use Rattle.digits.specs.Digits.{hexDigits, speltWords}
-use Rattle.text.specs.Text.{roundsBytes, oldRoundsBytes, textWith, textOf, oldTextOf, speltHead, speltArea, readableWith, readable, readArea, writeNumber, writeOf, readNumber, readOf}
-use Rattle.text.specs.Terms.{textBefore, widened}
-
--- the bytes of a text of ASCII characters
-abbrev ascii : string.String → List ℕ
-ascii string.[] = []
-ascii (string._∷_ c s) = code c ∷ ascii s
+use Rattle.texts.specs.Text.{roundsBytes, oldRoundsBytes, textWith, textOf, oldTextOf, speltHead, speltArea, readableWith, readable, readArea, writeNumber, writeOf, readNumber, readOf}
+use Rattle.texts.specs.Terms.{textBefore, widened}
+use Rattle.texts.specs.FieldExamples.{ascii}
 
 abbrev zeros : ℕ → List ℕ
 zeros n = replicate n 48
@@ -45,7 +39,8 @@ opened = openOf used keyed .area
 abbrev openedText : List ℕ
 openedText = ascii "0100684003010000000000000000000000000000000000\n0102ab" ++ (zeros 122 ++ ascii "\n")
 
-opened-written : writeOf opened out ≡ record { number = 0; count = 176; text = openedText ++ drop 176 out }
+-- written: phase 1, r, L, 3 key bytes, d, total and compressions 0; then K; and what the output held past the 176 bytes stays
+pub opened-written : writeOf opened out ≡ record { number = 0; count = 176; text = openedText ++ drop 176 out }
 unfolding keyWords numbers openNumber openedArea openOf paramsOf levelsOf emptyLevels emptyLevel sound hexDigits textWith writeNumber writeOf mathlib.Core.List.flatten
 opened-written = refl
 
@@ -54,11 +49,12 @@ opened-read : readOf used openedText ≡ record { number = 0; count = 0; area = 
 unfolding keyWords numbers openNumber openedArea openOf paramsOf levelsOf emptyLevels emptyLevel sound hexDigits textWith speltWords speltHead speltArea readableWith readable readArea readNumber readOf mathlib.Core.List.flatten
 opened-read = refl
 
--- "Old lines of 44 digits are still read": the text that this area had before M-108, and its new form
+-- "Old lines of 44 digits are still read": the text that this area had before M-108
 abbrev openedOld : List ℕ
 openedOld = ascii "01684003010000000000000000000000000000000000\n0102ab" ++ (zeros 122 ++ ascii "\n")
 
-old-read : (oldTextOf opened ≡ openedOld) × (readOf used openedOld ≡ record { number = 0; count = 0; area = opened }) × (widened openedOld ≡ openedText)
+-- its 44 digits are read back to the same area, and with the two digits of r's high byte it is what is written now
+pub old-read : (oldTextOf opened ≡ openedOld) × (readOf used openedOld ≡ record { number = 0; count = 0; area = opened }) × (widened openedOld ≡ openedText)
 unfolding keyWords numbers openNumber openedArea openOf paramsOf levelsOf emptyLevels emptyLevel sound hexDigits textWith speltWords speltHead speltArea readableWith readable readArea readNumber readOf mathlib.Core.List.flatten
 old-read = (refl, refl, refl)
 
@@ -191,7 +187,8 @@ manyRounds =
     ∷ (ascii "010fff4000000800000000000000000000000000000000\n" ++ noKey)
     ∷ []
 
-undamaged-read : numbersOf (inBoth undamaged ++ manyRounds) ≡ replicate 14 0
+-- each of these 14 is read, the six of `undamaged` in both forms
+pub undamaged-read : numbersOf (inBoth undamaged ++ manyRounds) ≡ replicate 14 0
 unfolding numbers paramsOf levelsOf emptyLevel sound hexDigits textWith speltWords speltHead speltArea readableWith readable readArea readNumber readOf mathlib.Core.List.flatten
 undamaged-read = refl
 
@@ -232,7 +229,8 @@ damaged =
     ∷ (ascii "01004000000800000000000000090000000000000000\n" ++ (noKey ++ (ascii "01ffc" ++ (zeros 1021 ++ ascii "\n"))))
     ∷ []
 
-damaged-refused : numbersOf (inBoth (noDigits ++ damaged)) ≡ replicate 38 11
+-- each of these 19 gets 11, in both forms
+pub damaged-refused : numbersOf (inBoth (noDigits ++ damaged)) ≡ replicate 38 11
 unfolding numbers paramsOf levelsOf emptyLevel sound hexDigits textWith speltWords speltHead speltArea readableWith readable readArea readNumber readOf mathlib.Core.List.flatten
 damaged-refused = refl
 
@@ -251,6 +249,7 @@ mixed =
     ∷ (ascii "01004000000800000000000000090000000000000000\n" ++ (noKey ++ (ascii "01ff8" ++ (zeros 1023 ++ ascii "\n"))))
     ∷ []
 
-mixed-refused : numbersOf mixed ≡ replicate 7 11
+-- each of these 7 gets 11
+pub mixed-refused : numbersOf mixed ≡ replicate 7 11
 unfolding numbers paramsOf levelsOf emptyLevel sound hexDigits textWith speltWords speltHead speltArea readableWith readable readArea readNumber readOf mathlib.Core.List.flatten
 mixed-refused = refl

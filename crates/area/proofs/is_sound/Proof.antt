@@ -4,7 +4,7 @@ use mathlib.Core.Path.{sym, _∙_}
 use borrow.Author.Tests.{not-true, not-false}
 use Rattle.calls.specs.Area.{soundLevels}
 use Rattle.lists.specs.And.{and-first, and-second}
-use Rattle.area.specs.SoundLaws.{soundHead, sound-parts}
+use Rattle.calls.specs.SoundParts.{soundHead, sound-parts}
 use Rattle.area.proofs.is_sound.Statement.{statement}
 use Rattle.area.proofs.is_sound.Tie as tie
 

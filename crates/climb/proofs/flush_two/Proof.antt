@@ -3,34 +3,34 @@ use mathlib.Core.Path.{ap}
 use Prim.Native.Nat.{ℕ, _+_}
 use native.Mathlib.Omega.{arith}
 use Rattle.area.specs.CountLaws.{done-fits}
-use Rattle.climb.specs.FlushLaws.{flush-passing, flush-passed, two-first, two-passing, two-passed}
+use Rattle.climb.specs.FlushLaws.{first-passing, first-passed, second-passing, second-passed}
 use Rattle.climb.proofs.flush_two.Statement.{statement}
 use Rattle.climb.proofs.flush_two.Tie as tie
 
 add-full-place : tie.Need-add-full-place
 add-full-place c =
-    let done = c .before .before .before in
+    let done = c .before in
     let start = done .before .before .before .before .before .before in
     omega (arith, done .done-blocks .ensures, done-fits (start .args .total) (start .fits .total .fits) .0)
 
 compress-two-requires : tie.Need-compress-two-requires
 compress-two-requires c κs =
-    let place = c .before .before .before in
+    let next-place = c .before .before in
+    let place = next-place .before in
     let done = place .before in
     let start = done .before .before .before .before .before .before in
     let small = done-fits (start .args .total) (start .fits .total .fits) .0 in
-    (start .pre .parallel .ready, rw (place .full-place .ensures, c .full-place2 .ensures) (omega (arith, done .done-blocks .ensures, small), omega (arith, done .done-blocks .ensures, small, start .pre .words)))
+    (start .pre .parallel .ready, rw (place .full-place .ensures, next-place .full-place2 .ensures) (omega (arith, done .done-blocks .ensures, small, start .pre .words), omega (arith, done .done-blocks .ensures, small)))
 
 pass-on-requires : tie.Need-pass-on-requires
 pass-on-requires c κs =
     let made = c .before .before .before .before in
-    let level = made .before .before in
-    let place = level .before .before in
+    let place = made .before .before .before .before in
     let done = place .before in
     let start = done .before .before .before .before .before .before in
     let d = done .done-blocks .ensures in
-    let o = rw (place .full-place .ensures, level .level .ensures .0 .words) at (made .compress-two .ensures .0) in
-    flush-passing (two-first (start .pre)) (start .pre .parallel .some) d o (omega (arith, d, done-fits (start .args .total) (start .fits .total .fits) .0))
+    let o = rw (place .full-place .ensures) at (made .compress-two .ensures .0) in
+    first-passing (start .pre) d o (omega (arith, d, done-fits (start .args .total) (start .fits .total .fits) .0))
 
 add-pass-on : tie.Need-add-pass-on
 add-pass-on c =
@@ -42,14 +42,15 @@ pass-on-requires-2 : tie.Need-pass-on-requires-2
 pass-on-requires-2 c κs =
     let one = c .before .before .before .before .before .before in
     let made = one .before .before .before .before .before in
-    let level = made .before .before in
-    let place = level .before .before in
+    let level = made .before in
+    let next-place = level .before .before in
+    let place = next-place .before in
     let done = place .before in
     let start = done .before .before .before .before .before .before in
     let d = done .done-blocks .ensures in
-    let o = rw (place .full-place .ensures, level .level .ensures .0 .words) at (made .compress-two .ensures .0) in
-    let o₂ = rw (made .before .full-place2 .ensures) at (made .compress-two .ensures .1) in
-    two-passing (start .pre) (flush-passed (two-first (start .pre)) (start .pre .parallel .some) d o (one .pass-on .ensures)) (ap (λ (x : ℕ). x + 1) d) o₂
+    let o = rw (place .full-place .ensures) at (made .compress-two .ensures .0) in
+    let o₂ = rw (next-place .full-place2 .ensures, level .level .ensures .0 .words) at (made .compress-two .ensures .1) in
+    second-passing (start .pre) (first-passed (start .pre) d o (one .pass-on .ensures)) (ap (λ (x : ℕ). x + 1) d) o₂
     (omega (arith, d, done-fits (start .args .total) (start .fits .total .fits) .0))
 
 returns : tie.Need-returns
@@ -57,18 +58,19 @@ returns c =
     let two = c .before .before .before .before in
     let one = two .before .before .before .before .before .before .before in
     let made = one .before .before .before .before .before in
-    let level = made .before .before in
-    let place = level .before .before in
+    let level = made .before in
+    let next-place = level .before .before in
+    let place = next-place .before in
     let done = place .before in
     let start = done .before .before .before .before .before .before in
     let d = done .done-blocks .ensures in
-    let o = rw (place .full-place .ensures, level .level .ensures .0 .words) at (made .compress-two .ensures .0) in
-    let o₂ = rw (made .before .full-place2 .ensures) at (made .compress-two .ensures .1) in
-    two-passed (start .pre) (flush-passed (two-first (start .pre)) (start .pre .parallel .some) d o (one .pass-on .ensures)) (ap (λ (x : ℕ). x + 1) d) o₂ (two .pass-on2 .ensures)
+    let o = rw (place .full-place .ensures) at (made .compress-two .ensures .0) in
+    let o₂ = rw (next-place .full-place2 .ensures, level .level .ensures .0 .words) at (made .compress-two .ensures .1) in
+    second-passed (start .pre) (first-passed (start .pre) d o (one .pass-on .ensures)) (ap (λ (x : ℕ). x + 1) d) o₂ (two .pass-on2 .ensures)
 
 pub flush-two-spec : {M : Type 1} → statement M
 flush-two-spec =
     tie.close
     (tie.spec
-    (λ c κs. omega arith) (λ c κs. omega arith) (λ c κs. omega arith) add-full-place (λ c κs. omega arith)
+    (λ c κs. omega arith) (λ c κs. omega arith) add-full-place (λ c κs. omega arith) (λ c κs. omega arith)
     compress-two-requires pass-on-requires add-pass-on pass-on-requires-2 (λ c. omega arith) (λ c. omega arith) returns)

@@ -1,7 +1,9 @@
 -- `nodes::values` meets its contract. The level falls at each call of itself. The loop's invariant: the words hold the values of the first
 -- j nodes.
-use Rattle.nodes.specs.Value.{held, childWords}
-use Rattle.nodes.specs.BlockLaws.{child-none, child-index, node-index, block-above, child-made}
+use Rattle.shape.specs.Shape.{held}
+use Rattle.nodes.specs.Value.{childWords}
+use Rattle.shape.specs.ShapeLaws.{child-index, node-index}
+use Rattle.nodes.specs.BlockLaws.{child-none, block-above, value-made, value-length, child-put}
 use Rattle.node.specs.Words.{paramsFrom}
 use Rattle.node.specs.WordLaws.{length-nodeWords}
 use Rattle.nodes.specs.Value as spec
@@ -20,8 +22,8 @@ use Rattle.nodes.proofs.values.Kinds as values-kinds
 use Rattle.nodes.proofs.+values.Lts-values as values-lts
 use Rattle.nodes.proofs.leaves.Reads as leaves-reads
 use Rattle.nodes.proofs.one_value.Reads as one-value-reads
-use Rattle.nodes.proofs.shape.nodes_at.Reads as nodes-at-reads
-use Rattle.nodes.proofs.shape.taken.Reads as taken-reads
+use Rattle.shape.proofs.nodes_at.Reads as nodes-at-reads
+use Rattle.shape.proofs.taken.Reads as taken-reads
 use Rattle.words.proofs.copy.Reads as copy-reads
 use Rattle.nodes.proofs.+values.{statement}
 use Rattle.nodes.proofs.+values.Tie.{close}
@@ -150,11 +152,15 @@ loop-again t c =
     ∙ block-above (paramsFrom (a .k .now) (a .params)) (spanned (a .message .now) (a .span)) (a .level) (a .index + j) (taken .taken .result)
     (omega (arith, s .pre .1 .1 .0, at .before .before .if1 .left))
     (s .pre .1 .0 .enough)
-    (taken .taken .ensures ∙ ap (λ (m : ℕ). held 4 m (a .index + j)) (at .before .nodes-at .ensures)) in (
+    (taken .taken .ensures ∙ ap (λ (m : ℕ). held 4 m (a .index + j)) (at .before .nodes-at .ensures)) in
+    let f : ℕ → List ℕ = λ i. spec.value (paramsFrom (a .k .now) (a .params)) (pieceBits (spanned (a .message .now) (a .span))) (a .level) i 0 in
+    let value : made .one-value .result ≡ f (a .index + j) = made .one-value .ensures
+    ∙ value-made (paramsFrom (a .k .now) (a .params)) (spanned (a .message .now) (a .span)) (a .level) (a .index + j) 0 (below .values .result) (s .pre .1 .1 .0) (s .pre .1 .0 .enough) block in (
       omega (arith, test .loop-test .taken),
       copied .copy .ensures
-          ∙ child-made (paramsFrom (a .k .now) (a .params)) (spanned (a .message .now) (a .span)) (a .level) (a .index) j (at .loop .words) (below .values .result) (made .one-value .result)
-          (s .pre .1 .1 .0) (s .pre .1 .0 .enough) (omega (arith, s .pre .1 .1 .2, test .loop-test .taken)) (at .loop .inv .1) block (made .one-value .ensures),
+          ∙ child-put f 4 (a .index) j (at .loop .words) (made .one-value .result)
+          (λ i. value-length (paramsFrom (a .k .now) (a .params)) (pieceBits (spanned (a .message .now) (a .span))) (a .level) i 0 (s .pre .1 .1 .0))
+          (omega (arith, s .pre .1 .1 .2, test .loop-test .taken)) (at .loop .inv .1) value,
       copied .copy .kept .0 ∙ at .loop .inv .2,
     )
 

@@ -1,9 +1,10 @@
 -- `nodes::child_words` meets its contract: the first 48 words of those that have room for four children.
-use Rattle.nodes.specs.SequentialLaws.{third-index, sequential-index, words-children, rest-made}
+use Rattle.shape.specs.ShapeLaws.{third-index, sequential-index}
+use Rattle.nodes.specs.SequentialLaws.{words-children, rest-made}
 use Rattle.nodes.specs.BlockLaws.{child-fewer, value-length}
 use Rattle.node.specs.Words.{paramsFrom}
 use Rattle.nodes.specs.Value as spec
-use Rattle.nodes.specs.Value.{held}
+use Rattle.shape.specs.Shape.{held}
 use Rattle.bits.specs.Piece.{pieceBits}
 use Rattle.bits.specs.PieceLaws.{spanned}
 use lib.ListN.{length, take}

@@ -1,6 +1,7 @@
 -- `nodes::message_words` meets its contract.
 use Rattle.bits.specs.PieceLaws.{spanned}
-use Rattle.nodes.specs.SequentialLaws.{message-index, message-filled}
+use Rattle.shape.specs.ShapeLaws.{message-index}
+use Rattle.nodes.specs.SequentialLaws.{message-filled}
 use mathlib.Core.Path.{_∙_}
 use native.Mathlib.Omega.{arith}
 use borrow.Author.Needs.{needs}

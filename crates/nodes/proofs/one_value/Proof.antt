@@ -1,5 +1,5 @@
 -- `nodes::one_value` meets its contract.
-use Rattle.nodes.specs.BlockLaws.{node-index}
+use Rattle.shape.specs.ShapeLaws.{node-index}
 use Rattle.node.specs.Words.{nodeWords, paramsFrom}
 use Prim.Native.Nat.{ℕ}
 use mathlib.Core.Path.{_∙_, ap}

@@ -1,5 +1,6 @@
 -- `nodes::root` meets its contract.
-use Rattle.nodes.specs.SequentialLaws.{root-chain, root-parallel, top-some, first-node}
+use Rattle.shape.specs.ShapeLaws.{top-some, first-node}
+use Rattle.nodes.specs.SequentialLaws.{root-chain, root-parallel}
 use Rattle.node.specs.Words.{paramsFrom}
 use Rattle.nodes.specs.Value as spec
 use Rattle.bits.specs.Piece.{pieceBits}

@@ -2,7 +2,8 @@
 use Rattle.nodes.specs.SequentialLaws.{chain-more}
 use Rattle.node.specs.Words.{paramsFrom}
 use Rattle.nodes.specs.ValueLaws.{chain-zero, length-chain}
-use Rattle.nodes.specs.Value.{sequentialNodes, chain}
+use Rattle.shape.specs.Shape.{sequentialNodes}
+use Rattle.nodes.specs.Value.{chain}
 use Rattle.bits.specs.Piece.{pieceBits}
 use Rattle.bits.specs.PieceLaws.{spanned}
 use Rattle.bits.specs.Bits.{digit}

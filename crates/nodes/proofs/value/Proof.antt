@@ -1,34 +1,30 @@
 -- `nodes::value` meets its contract.
-use Rattle.nodes.specs.Value.{held}
-use Rattle.nodes.specs.BlockLaws.{child-index, node-index, block-leaf, block-above, value-made}
+use Rattle.shape.specs.Shape.{held}
+use Rattle.shape.specs.ShapeLaws.{child-index, node-index}
+use Rattle.nodes.specs.BlockLaws.{block-leaf, block-above, value-made}
 use Rattle.node.specs.Words.{paramsFrom}
 use Rattle.bits.specs.Piece.{pieceBits}
 use Rattle.bits.specs.PieceLaws.{spanned}
 use Prim.Native.Nat.{ℕ}
-use mathlib.Core.Path.{ap, sym, _∙_}
-use lib.ListN.{length}
-use borrow.Author.Needs.{needs}
+use mathlib.Core.Path.{ap, _∙_}
 use native.Mathlib.Omega.{arith}
 use Rattle.nodes.proofs.value.Statement.{statement}
 use Rattle.nodes.proofs.value.Tie as tie
 
-slice-aggregate-fill-leaf : tie.Need-slice-aggregate-fill-leaf
-slice-aggregate-fill-leaf c = sym (ap length (c .before .before .new .ensures))
-
-fill-leaf-requires : tie.Need-fill-leaf-requires
-fill-leaf-requires c κs = let s = c .before .before .before .before .before .before .before in (s .pre .0 .enough, rw (c .before .before .before .if1 .taken) at (s .pre .1 .2), c .before .before .new .ensures)
+leaf-block-requires : tie.Need-leaf-block-requires
+leaf-block-requires c κs = let s = c .before .before .before .before in (s .pre .0 .enough, rw (c .if1 .taken) at (s .pre .1 .2))
 
 one-value-requires : tie.Need-one-value-requires
-one-value-requires c κs = let s = c .before .before .before .before .before .before .before .before .before .before in (s .pre .0 .ready, s .pre .1)
+one-value-requires c κs = let s = c .before .before .before .before .before .before in (s .pre .0 .ready, s .pre .1)
 
 returns : tie.Need-returns
 returns c =
-    let leaf = c .before .before .before .fill-leaf in
-    let s = c .before .before .before .before .before .before .before .before .before .before .before in
+    let made = c .before .before in
+    let s = made .before .before .before .before .before in
     let a = s .args in
     c .one-value .ensures
-    ∙ value-made (paramsFrom (a .k .now) (a .params)) (spanned (a .message .now) (a .span)) (a .level) (a .index) (a .z) (leaf .last .0) (s .pre .1 .0) (s .pre .0 .enough)
-    (leaf .ensures ∙ block-leaf (paramsFrom (a .k .now) (a .params)) (pieceBits (spanned (a .message .now) (a .span))) (a .level) (a .index) (c .before .before .before .before .before .before .before .if1 .taken))
+    ∙ value-made (paramsFrom (a .k .now) (a .params)) (spanned (a .message .now) (a .span)) (a .level) (a .index) (a .z) (made .leaf-block .result) (s .pre .1 .0) (s .pre .0 .enough)
+    (made .leaf-block .ensures ∙ block-leaf (paramsFrom (a .k .now) (a .params)) (pieceBits (spanned (a .message .now) (a .span))) (a .level) (a .index) (made .before .if1 .taken))
 
 nodes-at-requires : tie.Need-nodes-at-requires
 nodes-at-requires c κs = let s = c .before .before .before .before in omega (arith, s .pre .1 .0, c .if1 .left)
@@ -78,5 +74,5 @@ pub value-spec : {M : Type 1} → statement M
 value-spec =
     tie.close
     (tie.spec
-    (λ c κs. search needs) slice-aggregate-fill-leaf fill-leaf-requires one-value-requires returns (λ c. omega arith) nodes-at-requires taken-requires (λ c. omega arith)
-    mul-values values-requires one-value-requires-2 returns-2)
+    leaf-block-requires one-value-requires returns (λ c. omega arith) nodes-at-requires taken-requires (λ c. omega arith) mul-values values-requires
+    one-value-requires-2 returns-2)

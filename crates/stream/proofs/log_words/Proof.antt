@@ -2,7 +2,7 @@
 use native.Mathlib.Omega.{arith}
 use mathlib.Core.Path.{sym, _∙_}
 use Rattle.calls.specs.CallLaws.{logWords-refused, logWords-accepted, logWords-passed}
-use Rattle.stream.specs.NumberLaws.{words-fit}
+use Rattle.numbers.specs.NumberLaws.{words-fit}
 use Rattle.stream.proofs.log_words.Statement.{statement}
 use Rattle.stream.proofs.log_words.Tie as tie
 

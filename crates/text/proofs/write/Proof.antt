@@ -2,8 +2,8 @@
 use mathlib.Core.Path.{sym, _∙_}
 use borrow.Author.Tests.{ltb-false, lt-ltb, not-true, not-false}
 use lib.ListN.{length, length-take}
-use Rattle.text.specs.Text.{textOf, writeNumber}
-use Rattle.text.specs.ReadLaws.{write-refused}
+use Rattle.texts.specs.Text.{textOf, writeNumber}
+use Rattle.texts.specs.ReadLaws.{write-refused}
 use Rattle.text.proofs.CallLaws.{write-done}
 use native.Mathlib.Omega.{arith}
 use borrow.Author.Needs.{needs}

@@ -5,7 +5,7 @@ use mathlib.Core.Path.{_≡_, refl, sym, _∙_}
 use Prim.Native.Nat.{_-_}
 use lib.Dec.{eqb}
 use lib.ListN.{length, drop, drop-of-length-le}
-use Rattle.area.specs.LevelTests.{emptyFrom}
+use Rattle.calls.specs.SoundParts.{emptyFrom}
 use native.Mathlib.Omega.{arith}
 use Rattle.area.proofs.empty.or_from.Statement.{statement}
 use Rattle.area.proofs.empty.or_from.Tie as tie

@@ -3,7 +3,8 @@ use mathlib.Core.Path.{_≡_, refl, sym, ap, _∙_}
 use Prim.Native.Nat.{_+_, _-_, _*_, _/_, _%_, _≤_}
 use borrow.Author.Tests.{not-true, not-false}
 use Rattle.calls.specs.Area.{paramsOf, levelWords, levelsUp}
-use Rattle.area.specs.LevelTests.{emptyFrom, soundSequential, soundAbove}
+use Rattle.calls.specs.SoundParts.{emptyFrom}
+use Rattle.area.specs.LevelTests.{soundSequential, soundAbove}
 use Rattle.lists.specs.And.{and-first, and-second}
 use Rattle.area.specs.SoundLaws.{above-more, above-last, above-none}
 use native.Mathlib.Omega.{arith}

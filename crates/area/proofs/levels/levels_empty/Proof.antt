@@ -5,7 +5,7 @@ use lib.ListN.{take, drop}
 use native.Mathlib.Omega.{arith}
 use Rattle.calls.specs.Area.{headWords, blockWords, ownLevels}
 use Rattle.calls.specs.AreaLaws.{limit-word}
-use Rattle.area.specs.LevelTests.{emptyFrom}
+use Rattle.calls.specs.SoundParts.{emptyFrom}
 use Rattle.area.specs.SoundLaws.{empty-all}
 use Rattle.area.proofs.levels.levels_empty.Statement.{statement}
 use Rattle.area.proofs.levels.levels_empty.Tie as tie

@@ -7,7 +7,8 @@ use borrow.Author.Tests.{not-true, not-false}
 use Rattle.tree.specs.Tree.{blockBits}
 use Rattle.calls.specs.Area.{levelWords, levelsUp, doneBlocks, heldBits}
 use Rattle.calls.specs.AreaLaws.{limit-word}
-use Rattle.area.specs.LevelTests.{emptyFrom, soundAbove}
+use Rattle.calls.specs.SoundParts.{emptyFrom}
+use Rattle.area.specs.LevelTests.{soundAbove}
 use Rattle.lists.specs.And.{and-first, and-second}
 use Rattle.area.specs.SoundLaws.{open-none, open-more}
 use Rattle.area.proofs.levels.open_sound.Statement.{statement}

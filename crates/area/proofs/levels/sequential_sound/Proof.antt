@@ -6,7 +6,7 @@ use lib.ListN.{take}
 use borrow.Author.Tests.{not-true, not-false}
 use Rattle.tree.specs.Tree.{outputBits}
 use Rattle.calls.specs.Area.{outputWords}
-use Rattle.area.specs.LevelTests.{emptyFrom}
+use Rattle.calls.specs.SoundParts.{emptyFrom}
 use Rattle.lists.specs.And.{and-first, and-second}
 use Rattle.area.specs.SoundLaws.{sequential-kept, sequential-none}
 use Rattle.area.proofs.levels.sequential_sound.Statement.{statement}

@@ -4,6 +4,7 @@ use Rattle.piece.specs.ChunkLaws.{chunk-free, chunk-room, flushed-long, 
 use mathlib.Core.Path.{refl, sym, ap, _∙_}
 use Prim.Native.Nat.{ℕ, _-_}
 use Rattle.lists.specs.Slices.{words-below}
+use Rattle.tree.specs.Tree.{blockBits}
 use Rattle.climb.specs.FlushLaws.{lt-at, le-at}
 use native.Mathlib.Omega.{arith}
 use Rattle.piece.proofs.chunk.feed_chunk.Statement.{statement}
@@ -86,7 +87,7 @@ returns-3 c =
     let test = test2 .before in
     let free-of = test .before in
     let start = free-of .before .before .before .before .before .before in
-    chunk-full (start .pre) (le-at (free-of .free-of .ensures) refl (test .if1 .left)) (omega (arith, test2 .if2 .left)) (flush .flush .ensures) (ap (λ (x : ℕ). 4096 - x) (size-of .size-of .ensures)) (fill-level .fill-level2 .ensures)
+    chunk-full (start .pre) (le-at (free-of .free-of .ensures) refl (test .if1 .left)) (omega (arith, test2 .if2 .left)) (flush .flush .ensures) (ap (λ (x : ℕ). blockBits - x) (size-of .size-of .ensures)) (fill-level .fill-level2 .ensures)
 
 pub feed-chunk-spec : {M : Type 1} → statement M
 feed-chunk-spec =

@@ -6,9 +6,9 @@ use Prim.Native.Nat.{ℕ, _≤_}
 use borrow.Author.Tests.{not-true, not-false}
 use lib.Dec.{eqb}
 use lib.ListN.{length, getD}
-use Rattle.text.specs.Text.{roundsBytes, oldRoundsBytes}
-use Rattle.text.specs.FormLaws.{oldEnd}
-use Rattle.text.specs.ReadForms.{formOf}
+use Rattle.texts.specs.Text.{roundsBytes, oldRoundsBytes}
+use Rattle.texts.specs.FormLaws.{oldEnd}
+use Rattle.texts.specs.ReadForms.{formOf}
 use Rattle.text.proofs.Readable.{not-spelt, other-text, decided}
 use native.Mathlib.Omega.{arith}
 use borrow.Author.Needs.{needs}

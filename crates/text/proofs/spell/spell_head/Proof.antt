@@ -5,9 +5,10 @@ use Prim.Native.Nat.{ℕ, _+_, _-_, _≤_, _<_}
 use lib.ListN.{length, take, drop, getD, replicate, length-take, length-set}
 use Rattle.calls.specs.Area.{headWords}
 use Rattle.digits.specs.Digits.{spelt, readingNumber}
-use Rattle.text.specs.Text.{line1Fields, digitsIn, speltFields}
-use Rattle.text.specs.FieldLaws.{fieldSizes, Sized, sized, field-read, field-refused}
-use Rattle.text.proofs.LineStores.{head-none, head-known}
+use Rattle.texts.specs.Text.{line1Fields, digitsIn, speltFields}
+use Rattle.texts.specs.FieldLaws.{fieldSizes}
+use Rattle.writing.specs.FieldAt.{Sized, sized}
+use Rattle.text.proofs.LinesSpelt.{field-read, field-refused, head-none, head-known}
 use borrow.Author.Needs.{needs}
 use native.Mathlib.Omega.{arith}
 use Rattle.text.proofs.spell.spell_head.Statement.{statement}

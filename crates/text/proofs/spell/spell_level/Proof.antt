@@ -1,5 +1,5 @@
 -- `text::spell::spell_level` fills the part of one level.
-use Rattle.text.proofs.LineStores.{level-spelt}
+use Rattle.text.proofs.LinesSpelt.{level-spelt}
 use native.Mathlib.Omega.{arith}
 use borrow.Author.Needs.{needs}
 use Rattle.text.proofs.spell.spell_level.Statement.{statement}

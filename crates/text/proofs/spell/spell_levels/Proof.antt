@@ -4,8 +4,8 @@ use Prim.Native.Nat.{_+_, _-_}
 use borrow.Author.Tests.{not-true, not-false}
 use borrow.Rule.Slice.PartMut.{mid-len}
 use Rattle.calls.specs.Area.{ownLevels}
-use Rattle.text.specs.Text.{levelBytes}
-use Rattle.text.specs.Lines.{above-most}
+use Rattle.texts.specs.Text.{levelBytes}
+use Rattle.writing.specs.Lines.{above-most}
 use Rattle.text.proofs.SpellLevels.{Spelling, spelling-none, spelling-own, spelling-room, spelling-yes, spelling-no, spelling-refused, spelling-all}
 use borrow.Author.Needs.{needs}
 use native.Mathlib.Omega.{arith}

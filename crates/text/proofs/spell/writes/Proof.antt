@@ -5,10 +5,10 @@ use Prim.Native.Nat.{ℕ, _-_, _≤_}
 use borrow.Rule.Slice.PartMut.{midOf, putMid}
 use lib.ListN.{length, replicate}
 use Rattle.lists.specs.Same.{same}
-use Rattle.text.specs.Text.{roundsBytes, textWith}
+use Rattle.texts.specs.Text.{roundsBytes, textWith}
 use Rattle.calls.specs.Area.{Long}
-use Rattle.text.specs.LengthLaws.{mostText}
-use Rattle.text.proofs.PutLevels.{again-room, front-length, front-is, front-room}
+use Rattle.texts.specs.LengthLaws.{mostText}
+use Rattle.text.proofs.Again.{again-room, front-length, front-is, front-room}
 use borrow.Author.Needs.{needs}
 use Rattle.text.proofs.spell.writes.Statement.{statement}
 use Rattle.text.proofs.spell.writes.Tie as tie

@@ -1,0 +1,3 @@
+pub mod Shape
+pub mod CountLaws
+pub mod ShapeLaws

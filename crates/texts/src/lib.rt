@@ -1,0 +1,1 @@
+// A suspended stream as text: definitions and theorems stand in specs/.

@@ -1,0 +1,3 @@
+pub mod HeldAt
+pub mod LineStores
+pub mod PutLevels
