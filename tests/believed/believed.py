@@ -20,30 +20,38 @@ import shutil
 import sys
 import tempfile
 
-# The public calls, a line each: the call, and crate/file of the source that has it, which its own crate's lib passes on if it is
-# another. Their contracts are roots, and none may have a `requires`. First the fifteen, then those of the program.
-CALLS = [
-    ("hash::hash", "hash/lib"),
-    ("hash::default_rounds", "hash/lib"),
-    ("layers::layers", "layers/lib"),
-    ("layers::layer_words", "layers/lib"),
-    ("layers::layer_log_words", "layers/lib"),
-    ("stream::open", "stream/lib"),
-    ("stream::feed", "stream/lib"),
-    ("stream::end", "ending/lib"),
-    ("stream::preview", "ending/lib"),
-    ("stream::close", "ending/lib"),
-    ("stream::level", "stream/lib"),
-    ("stream::log_words", "stream/lib"),
-    ("stream::area_words", "stream/lib"),
-    ("text::write", "text/lib"),
-    ("text::read", "text/lib"),
-    ("program::Program::new", "program/lib"),
-    ("program::take", "program/lib"),
-    ("program::finish", "program/lib"),
+# The public calls, a line each: the call, crate/file of the source that has it, which its own crate's lib passes on if it is
+# another, and the definition that its contract is an equation with. Their contracts are roots, and none may have a `requires`.
+# First the fifteen, then those of the program.
+EQUATIONS = [
+    ("hash::hash", "hash/lib", "hashOf"),
+    ("hash::default_rounds", "hash/lib", "defaultRoundsOf"),
+    ("layers::layers", "layers/lib", "layersOf"),
+    ("layers::layer_words", "layers/lib", "layerWordsOf"),
+    ("layers::layer_log_words", "layers/lib", "layerLogWordsOf"),
+    ("stream::open", "stream/lib", "openOf"),
+    ("stream::feed", "stream/lib", "feedOf"),
+    ("stream::end", "ending/lib", "endOf"),
+    ("stream::preview", "ending/lib", "previewOf"),
+    ("stream::close", "ending/lib", "closeOf"),
+    ("stream::level", "stream/lib", "levelOf"),
+    ("stream::log_words", "stream/lib", "logWordsOf"),
+    ("stream::area_words", "stream/lib", "areaWordsOf"),
+    ("text::write", "text/lib", "writeOf"),
+    ("text::read", "text/lib", "readOf"),
+    ("program::Program::new", "program/lib", "startOf"),
+    ("program::take", "program/lib", "tookOf"),
+    ("program::finish", "program/lib", "tookLastOf"),
 ]
-# The crate whose exports are roots too, all of them.
+CALLS = [(call, key) for call, key, _ in EQUATIONS]
+# A contract is its equation alone, but for this call's, which also says where the part that it gives back stands.
+CLAUSES = {"stream::level": 2}
+# The crate whose exports are roots too, all of them: each has the contract of the call with its name, but for this one, which
+# answers the number alone.
 EXPORTS = "md6_c"
+NUMBER_ALONE = "md6_hash"
+# What else the crates of these calls have that is public: parts of calls that other crates use.
+SHARED = {"hash::hash_number", "hash::rounds_by_default"}
 
 PAGE = "docs/PROOFS.md"
 TABLE = "What has to be believed"
@@ -479,24 +487,41 @@ def matching(text, i):
     raise Unreadable("a bracket is open")
 
 
-CLAUSE = re.compile(r" +(?:requires|ensures|decreases) \{ .* \}")
+CLAUSE = re.compile(r" +(?:requires|ensures|decreases)(?: \w+)? \{ .* \}")
+OPENED = re.compile(r" +(?:requires|ensures|decreases)(?: \w+)? \{ ")
 ITEM = re.compile(r"\b(?:ghost|requires|ensures|decreases|fn|impl|mod|use)\b")
 
 
+def joined(lines):
+    """The lines of a source, with each clause on one line."""
+    lines = iter(lines)
+    for line in lines:
+        opened = OPENED.match(line)
+        while opened and line.count("{") > line.count("}"):
+            more = next(lines, None)
+            if more is None or OPENED.match(more):
+                raise Unreadable("a clause is open: " + line.strip())
+            line += " " + more.strip()
+        yield line
+
+
 class Source:
-    """A source file: its functions with their parameters and contracts. Each item stands as `rt fmt` lays it out: a `ghost use` and
-    a clause on a line of its own, with no comment, and a function at the top of the file or in an `impl` there."""
+    """A source file: its functions with their parameters and contracts. Each item stands as `rt fmt` lays it out: a `ghost use` on a
+    line of its own, a clause on lines of its own, with no comment, and a function at the top of the file or in an `impl` there."""
 
     def __init__(self, text):
         plain(text, "/*", "{-")
         self.imports = Imports()
         self.functions = {}  # name, or Type::name -> (parameters, clauses), of the public ones
+        self.order = {}  # the same name -> the parameters in their order
+        self.changed = {}  # the same name -> those of them that are lent to be changed
         self.exports = []
         self.modules = []
+        self.open = []  # the public ones among them
         self.uses = {}
         brought, declared, found = [], [], []  # found: (the place behind its name, what is written before it, name)
         code, size, depth, within = [], 0, 0, ""
-        for line in text.split("\n"):
+        for line in joined(text.split("\n")):
             if re.fullmatch(r"ghost use [^;]*;", line) and depth == 0 and "--" not in line:
                 self.imports.add(line)
                 line = ""
@@ -519,6 +544,7 @@ class Source:
                     within = impl.group(1)
                 elif mod and depth == 0:
                     self.modules.append(mod.group(1))
+                    self.open += [mod.group(1)] if line.startswith("pub ") else []
                 elif use and depth == 0:
                     brought.append(use.group(1))
                 elif passed and depth == 0:
@@ -552,11 +578,13 @@ class Source:
             i = matching(text, i)
         end = matching(text, i)
         params = set(re.findall(r"(\w+)\s*:", re.sub(r"::", "  ", text[i:end])))
+        self.order[name] = re.findall(r"(\w+): ", text[i:end])
+        self.changed[name] = re.findall(r"(\w+): &mut\b", text[i:end])
         params |= {"«%s»" % p for p in params if "_" in p}  # so a clause spells a name with a low line
         clauses = []
         j = end
         while True:
-            k = re.compile(r"[^{}]*?\b(requires|ensures|decreases)\s*(?=\{)").match(text, j)
+            k = re.compile(r"[^{}]*?\b(requires|ensures|decreases)\b(?: \w+)?\s*(?=\{)").match(text, j)
             if not k:
                 break
             j = matching(text, k.end())
@@ -825,14 +853,87 @@ class Repository:
         for word in sorted(binds.intersection(source.imports.brought)):
             self.fail("%s binds %s, which its file brings in" % (label, word))
 
+    def ensured(self, key, name):
+        """The clauses that a function ensures, as they would stand on one line, with its parameters numbered."""
+        found = [" ".join(text.split()).replace("; }", " }") for kind, text in self.sources[key].functions[name][1] if kind == "ensures"]
+        for i, param in enumerate(self.sources[key].order[name]):
+            found = [re.sub(r"(?<![\w.])(«%s»|%s)(?!\w| =)" % (param, param), "#%d" % i, text) for text in found]
+        return found
+
+    def equation(self, key, name, call, definition):
+        """What a call's equation has on its right, or None if its contract has another form: `λ o. ⌜ LEFT ≡ definition ..⌝`. LEFT is what
+        is answered, or a record each field of which is a part of that or what is left of something lent; all that is lent to be
+        changed is there, and the right has every parameter, and of what is lent what it was on entry."""
+        source = self.sources[key]
+        texts = self.ensured(key, name)
+        if len(texts) != CLAUSES.get(call, 1):
+            self.fail("%s has not as many clauses as it should" % call)
+        whole = re.fullmatch(r"λ (\w+)\. ⌜ (now \1|\1|record \{ (.*?) \}) ≡ (%s\b[^≡⌜⌝]*) ⌝" % definition, texts[0]) if texts else None
+        right = whole and [i for i in groups(whole.group(4)) if isinstance(i, str)]
+        if not whole or not all(re.fullmatch(r"[\w'#]+", w) for w in right) or ".exit" in whole.group(4):
+            self.fail("%s has no equation with %s" % (call, definition))
+            return None
+        out, left = whole.group(1), []
+        for field in whole.group(3).split("; ") if whole.group(3) else []:
+            part = re.fullmatch(r"(\w+) = (?:%s|%s \.\1|now \(#(\d+) \.exit\))" % (out, out), field)
+            if not part:
+                self.fail("the equation of %s has a field that is not what was answered or left: %s" % (call, field))
+                return None
+            left += [source.order[name][int(part.group(2))]] if part.group(2) else []
+        for lent in source.changed[name]:
+            if left.count(lent) != 1:
+                self.fail("the equation of %s does not say what is left of %s" % (call, lent))
+        for i, param in enumerate(source.order[name]):
+            if not re.search(r"#%d\b" % i, whole.group(4)):
+                self.fail("the equation of %s leaves out %s" % (call, param))
+        return whole.group(4)
+
+    def exported(self, rights):
+        """An export's contract is that of the call with its name."""
+        calls = {call.split("::")[-1]: (call, key) for call, key in CALLS}
+        for export, at in self.exports.items():
+            call, key = calls.get(export.split("_", 1)[1], (None, None))
+            if call is None or key not in self.sources:
+                self.fail("no call is exported as %s" % export)
+            elif export == NUMBER_ALONE:
+                form = "λ n. ⌜ (let h : Hashed = %s in (n ≡ h .number) × (now (#7 .exit) ≡ h .digest)) ⌝" % rights.get(call)
+                if self.ensured(at, export) != [form]:
+                    self.fail("%s has not the contract of %s, less the count" % (export, call))
+            elif self.ensured(at, export) != self.ensured(key, call.split("::", 1)[1]):
+                self.fail("%s has not the contract of %s" % (export, call))
+
+    def public(self):
+        """The crates of the calls have nothing else that is public, but for what is listed."""
+        calls = {key + "::" + call.split("::", 1)[1] for call, key in CALLS}
+        passed = {call for call, key in CALLS if key != call.split("::")[0] + "/lib"}
+        found = set()
+        for key in sorted({key for _, key in CALLS}):
+            source, crate = self.sources.get(key), key.split("/")[0]
+            for name in source.functions if source else []:
+                found.add("%s::%s" % (crate, name))
+                if key + "::" + name not in calls and "%s::%s" % (crate, name) not in SHARED:
+                    self.fail("%s of crates/%s.rt is public, and no list has it" % (name, key.replace("/", "/src/")))
+            for name in source.uses if source else []:
+                if "%s::%s" % (crate, name) not in passed:
+                    self.fail("crates/%s.rt passes on %s, and no list has it" % (key.replace("/", "/src/"), name))
+            for name in source.open if source else []:
+                self.fail("the module %s of crates/%s.rt is public" % (name, key.replace("/", "/src/")))
+        for name in sorted(SHARED - found):
+            self.fail("no public function %s, which SHARED has" % name)
+
     def roots(self):
-        for call, key in CALLS:
+        self.public()
+        rights = {}
+        for call, key, definition in EQUATIONS:
             crate, name = call.split("::", 1)
             if key != crate + "/lib" and self.passed(crate, name) != key:
                 self.fail("crates/%s/src/lib.rt does not pass on %s of crates/%s.rt" % (crate, name, key.replace("/", "/src/")))
             self.contract(key, name, call, True)
+            if key in self.sources and name in self.sources[key].functions:
+                rights[call] = self.equation(key, name, call, definition)
         if not self.exports:
             self.fail("no exports in crates/%s" % EXPORTS)
+        self.exported(rights)
         for name, key in self.exports.items():
             self.contract(key, name, "%s::%s" % (EXPORTS, name), True)
         for function in sorted(self.cited_functions - {call for call, _ in CALLS}):
@@ -1212,6 +1313,74 @@ def self_test(root):
             "a comment in a clause that is none to the prover",
             [ensure("ensures { λ o. ⌜ o ≡ o // %s ⌝ }" % word)],
             "a comment or a quotation in a clause",
+        ),
+        (
+            "a comment in the second line of a clause",
+            [ensure("ensures { λ o. ⌜ o .count\n        ≡ o .count // %s ⌝ }" % word)],
+            "a comment or a quotation in a clause",
+        ),
+        ("a clause that another one closes", [ensure("ensures { λ o. ⌜ o\n    ensures { λ o. ⌜ o ≡ o ⌝ } }")], "a clause is open: ensures"),
+        # a call's equation, and calls that no list has
+        (
+            "an equation under a condition",
+            [(source, r"⌜ record \{(?=[^⌝]*≡ hashOf)", "⌜ 0 ≡ 1 → record {")],
+            "%s has no equation with hashOf" % call,
+        ),
+        (
+            "an equation that is one with what is left",
+            [(source, r"\(now \(digest \.entry\)\)(?=[^⌝]*⌝ \}\n\{\n    let span)", "(now (digest .exit))")],
+            "%s has no equation with hashOf" % call,
+        ),
+        (
+            "an equation of something else than what is left",
+            [(source, r"now \(digest \.exit\)(?=[^⌝]*≡ hashOf)", "now (digest .entry)")],
+            "the equation of %s has a field that is not what was answered or left: digest = now (#7 .entry)" % call,
+        ),
+        (
+            "an equation of something else than what is answered",
+            [(source, r"number = o \.number(?=[^⌝]*≡ hashOf)", "number = 0")],
+            "the equation of %s has a field that is not what was answered or left: number = 0" % call,
+        ),
+        (
+            "an equation with a definition of other arguments",
+            [(source, r"start = start;(?=[^⌝]*⌝ \}\n\{\n    let span)", "start = 0;")],
+            "the equation of %s leaves out start" % call,
+        ),
+        (
+            "an equation with another definition",
+            [("crates/stream/src/lib.rt", r"≡ areaWordsOf limit", "≡ logWordsOf (limit ∷ []) limit")],
+            "stream::area_words has no equation with areaWordsOf",
+        ),
+        (
+            "a clause dropped",
+            [("crates/stream/src/lib.rt", r"^    ensures \{ λ r\. ⌜ \(r \.ptr(.|\n)*?⌝ \}\n", "")],
+            "stream::level has not as many clauses as it should",
+        ),
+        (
+            "an export with another contract",
+            [("crates/md6_c/src/lib.rt", r"≡ areaWordsOf limit", "≡ areaWordsOf 0")],
+            "md6_area_words has not the contract of stream::area_words",
+        ),
+        (
+            "an export that answers the number alone, of another call",
+            [("crates/md6_c/src/lib.rt", r"\(n ≡ h \.number\)", "(n ≡ 0)")],
+            "md6_hash has not the contract of hash::hash, less the count",
+        ),
+        (
+            "a function passed on that no list has",
+            [("crates/stream/src/lib.rt", r"^(?=pub use )", "pub use numbers::feed_number;\n")],
+            "crates/stream/src/lib.rt passes on feed_number, and no list has it",
+        ),
+        ("a public module", [("crates/text/src/lib.rt", r"^mod ", "pub mod ")], "of crates/text/src/lib.rt is public"),
+        (
+            "a shared function that is gone",
+            [(source, r"^pub fn rounds_by_default", "fn rounds_by_default")],
+            "no public function hash::rounds_by_default, which SHARED has",
+        ),
+        (
+            "a public function that no list has",
+            [(source, r"\Z", "pub fn decoy() -> u64\n    ensures { λ r. ⌜ r ≡ r ⌝ }\n{\n    0\n}\n")],
+            "decoy of %s is public, and no list has it" % source,
         ),
         # one name, two things
         ("a name brought into a source twice", [bring(".{twisted as %s}" % word)], "%s: `%s` is brought in or declared twice" % (source, word)),

@@ -4,24 +4,33 @@ use mathlib.Core.Bool.{Bool, true, false, _||_, _&&_}
 use mathlib.Core.List.{List}
 use Prim.Native.Nat.{ℕ, zero, suc, _+_, _-_, _*_, _/_, _%_, _≤_, _<_}
 use native.Mathlib.Omega.{arith}
-use lib.Dec.{eqb, ltb}
+use lib.Dec.{eqb}
 use lib.ListN.{length, take, drop, getD}
-use borrow.Author.Tests.{ltb-false, eq-eqb, ne-eqb}
+use borrow.Author.Tests.{ltb-false, eq-eqb, ne-eqb, not-false}
 use Rattle.lists.specs.And.{and-first, and-second}
 use Rattle.bits.specs.Bits.{bitsOf}
 use Rattle.bits.specs.BitsLaws.{bitsOf-take}
-use Rattle.tree.specs.Tree.{blockBits, sequentialBits, outputBits}
+use Rattle.tree.specs.Tree.{blockBits, sequentialBits, outputBits, outputWords}
 use Rattle.refusals.specs.Refusals.{firstRefusal, rangeTests, paramTests}
+use Rattle.refusals.specs.RefusalLaws.{passed}
 use Rattle.calls.specs.Moved.{length-key}
-use Rattle.calls.specs.Area.{Hold, headWords, cleanAll, allFalse, levelWords, levelsOf, doneBlocks, heldBits, paramsOf, countFor, openCount, soundPhase, soundParams, soundKey, soundCount, soundLast, soundLevels, ownLevels, ownWords, Long, blockWords, outputWords, levelStart, levelsUp}
+use Rattle.calls.specs.Area.{Hold, headWords, cleanAll, allFalse, levelWords, levelsOf, doneBlocks, heldBits, paramsOf, countFor, openCount, soundPhase, soundParams, soundKey, soundCount, soundLast, soundLevels, sound, ownLevels, Long, blockWords, levelStart, levelsUp}
+use Rattle.calls.specs.Calls.{areaTests}
 use Rattle.calls.specs.SoundParts.{emptyFrom, allEmpty, clean-empty, empty-levels, soundHead}
 use Rattle.area.specs.LevelTests.{clean-open, holds-ended, holds-open, soundSequential, soundAbove, soundOpen}
 use Rattle.tree.specs.Sizes.{treeNodes}
 use Rattle.calls.specs.AreaLaws.{levels-split, levelsUp-cons, levelsUp-none}
 
--- an area that the code finds not short
-pub not-short : (area : List ℕ) {b : Bool} → b ≡ ltb (length area) (ownWords area) → b ≡ false → Long area
-not-short area e f = ltb-false (length area) (ownWords area) (sym e ∙ f)
+-- an area that is long enough and sound
+pub record LongSound (area : List ℕ) : Type 0 where
+  pub long : Long area
+  pub is-sound : sound area ≡ true
+
+-- it is one that number 7 does not refuse
+pub sound-passed : {n : ℕ} (area : List ℕ) → n ≡ firstRefusal (areaTests area) → n ≡ 0 → LongSound area
+sound-passed area e z =
+    let p = passed (areaTests area) refl (sym e ∙ z) in
+    record { long = ltb-false _ _ (p 0); is-sound = not-false _ (p 1) }
 
 -- ---- levels
 

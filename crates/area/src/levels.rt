@@ -2,8 +2,8 @@
 ghost use mathlib.Core.Path.{_≡_};
 ghost use Prim.Native.Nat.{_+_, _≤_};
 ghost use lib.ListN.{length, getD};
-ghost use Rattle.tree.specs.Tree.{sequentialBits};
-ghost use Rattle.calls.specs.Area.{outputWords, Long, paramsOf, levelsUp, levelsOf, soundLevels};
+ghost use Rattle.tree.specs.Tree.{sequentialBits, outputWords};
+ghost use Rattle.calls.specs.Area.{Long, paramsOf, levelsUp, levelsOf, soundLevels};
 ghost use Rattle.calls.specs.SoundParts.{allEmpty};
 ghost use Rattle.area.specs.LevelTests.{soundSequential, soundAbove, soundOpen};
 use super::Area;

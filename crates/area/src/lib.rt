@@ -5,8 +5,11 @@ ghost use mathlib.Core.Bool.{_||_, _&&_};
 ghost use Prim.Native.Nat.{_+_, _*_, _≤_};
 ghost use lib.Dec.{eqb, ltb};
 ghost use lib.ListN.{length, getD};
-ghost use Rattle.tree.specs.Tree.{mostKeyBytes, mostLimit};
-ghost use Rattle.calls.specs.Area.{areaLevels, areaWords, ownLevels, ownWords, levelStart, countFor, soundKey, soundCount, soundLast, sound, Long};
+ghost use Rattle.tree.specs.Tree.{mostKeyBytes, mostLimit, mostLevels};
+ghost use Rattle.refusals.specs.Refusals.{firstRefusal};
+ghost use Rattle.calls.specs.Area.{areaLevels, areaWords, ownLevels, ownWords, levelStart};
+ghost use Rattle.calls.specs.Area.{countFor, soundKey, soundCount, soundLast, sound, Long};
+ghost use Rattle.calls.specs.Calls.{areaTests};
 ghost use Rattle.calls.specs.SoundParts.{soundHead};
 ghost use Rattle.area.specs.SoundLaws.{LevelPart};
 use node::Block;
@@ -88,7 +91,13 @@ impl Area {
     // The parameters that an area has.
     pub fn params(area: &[u64]) -> Params
         requires { ⌜ Long (now area) ⌝ }
-        ensures { λ r. ⌜ r ≡ record { keylen = getD (now (area .entry)) 2 0; d = getD (now (area .entry)) 3 0; limit = getD (now (area .entry)) 4 0; rounds = getD (now (area .entry)) 5 0 } ⌝ }
+        ensures { λ r. ⌜ r
+            ≡ record {
+              keylen = getD (now (area .entry)) 2 0;
+              d = getD (now (area .entry)) 3 0;
+              limit = getD (now (area .entry)) 4 0;
+              rounds = getD (now (area .entry)) 5 0;
+            } ⌝ }
     {
         Params::new(
             area[Area::KEY_BYTES],
@@ -98,20 +107,28 @@ impl Area {
         )
     }
 
+    // The first word of a level's own part of an area.
+    pub fn level_start(level: usize) -> usize
+        requires { ⌜ (1 ≤ level) × (level ≤ mostLevels) ⌝ }
+        ensures { λ r. ⌜ r ≡ levelStart level ⌝ }
+    {
+        Area::HEAD + Area::LEVEL * (level - 1)
+    }
+
     // A level's own part of an area.
     pub fn level(area: &[u64], level: usize) -> &[u64]
         requires { ⌜ Long (now area) × (1 ≤ level) × (level ≤ ownLevels (now area)) ⌝ }
         ensures { λ r. ⌜ LevelPart (now (area .entry)) level (now r) ⌝ }
         ensures { λ r. ⌜ (r .ptr .0 ≡ area .entry .ptr .0) × (r .ptr .1 ≡ levelStart level * 8 + area .entry .ptr .1) ⌝ }
     {
-        let a = Area::HEAD + Area::LEVEL * (level - 1);
+        let a = Area::level_start(level);
         let e = a + Area::LEVEL;
         &area[a..e]
     }
 }
 
 // Whether an area is short: it has no word 4, or fewer words than the height limit there asks.
-pub fn is_short(area: &[u64]) -> bool
+fn is_short(area: &[u64]) -> bool
     ensures { λ r. ⌜ r ≡ ltb (length (now (area .entry))) (ownWords (now (area .entry))) ⌝ }
 {
     if area.len() <= Area::LIMIT {
@@ -182,4 +199,17 @@ pub fn is_sound(area: &[u64]) -> bool
         return false;
     }
     levels::levels_sound(area)
+}
+
+// 7 for an area that is short or unsound, and otherwise 0.
+pub fn sound_number(area: &[u64]) -> u64
+    ensures { λ r. ⌜ r ≡ firstRefusal (areaTests (now (area .entry))) ⌝ }
+{
+    if is_short(area) {
+        return 7; // short
+    }
+    if !is_sound(area) {
+        return 7; // unsound
+    }
+    0
 }

@@ -19,6 +19,10 @@ use Rattle.bits.specs.declared.Span.{Span}
 abbrev pub spanned : List ℕ → Span → Piece
 spanned bytes span = pieceOf bytes (span .start) (span .bits)
 
+-- and its bits
+abbrev pub spanBits : List ℕ → Span → List Bool
+spanBits bytes span = pieceBits (spanned bytes span)
+
 -- the bits are there: what a piece that number 5 does not refuse says
 pub record Fits (piece : Piece) : Type 0 where
   pub low : piece .start ≤ mostStart

@@ -135,7 +135,8 @@ fn fill_part(
     bit: usize,
     count: usize,
 )
-    requires { ⌜ (bit < 8) × (count < 64) × (offset + count ≤ 64) × (64 * word + offset + count ≤ 64 * length (now block)) × (8 * byte + bit + count ≤ 8 * length (now bytes)) ⌝ }
+    requires { ⌜ (bit < 8) × (count < 64) × (offset + count ≤ 64) × (64 * word + offset + count ≤ 64 * length (now block))
+        × (8 * byte + bit + count ≤ 8 * length (now bytes)) ⌝ }
     ensures { λ _. ⌜ now (block .exit) ≡ filled (now (block .entry)) (64 * word + offset) (now (bytes .entry)) (8 * byte + bit) count ⌝ }
 {
     if count == 0 {

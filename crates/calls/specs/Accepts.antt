@@ -13,7 +13,7 @@ use Rattle.tree.specs.Tree.{Params, order, digestBytes, digest}
 use Rattle.refusals.specs.Refusals.{firstRefusal, outputTest}
 use Rattle.tree.specs.Sizes.{treeNodes}
 use Rattle.calls.specs.Area.{areaLevels, ownLevels, ownWords, totalOf, paramsOf, levelWords, levelsOf, emptyLevels, openCount, sound, Long}
-use Rattle.calls.specs.Calls.{feedBits, fedBits, feedNumber, closedBy, endNumber, nodesDigest, previewNumber, closeTests, closeNumber, logWordsNumber, shown, levelOf, openTests, totalTest, feedTests, endTests}
+use Rattle.calls.specs.Calls.{feedBits, fedBits, feedNumber, lastNodesOf, endNumber, nodesDigest, previewNumber, closeTests, closeNumber, logWordsNumber, shown, levelOf, openTests, totalTest, feedTests, endTests}
 use Rattle.calls.specs.CallLaws.{OpenArea, open-tests}
 use Rattle.calls.specs.Marks.{allNodes, settled}
 use Rattle.calls.specs.Machine
@@ -22,7 +22,7 @@ use Rattle.lists.specs.And.{and-intro}
 use Rattle.bits.specs.Piece.{Piece, pieceBits}
 use Rattle.calls.specs.AreaLaws.{length-levelsOf}
 use Rattle.calls.specs.Sound.{state-size}
-use Rattle.calls.specs.Stands.{state-settled, state-all, Stands, Closed, stands-sound, closed-sound, stands-digest}
+use Rattle.calls.specs.Stands.{state-settled, state-all, Stands, HasEnded, stands-sound, ended-sound, stands-digest}
 
 -- ---- the count of word 14 is a number of nodes
 
@@ -51,19 +51,19 @@ module _ {P : Params} {M : List Bool} {area : List ℕ} (s : Stands P M area) wh
   feed-tests piece log = open-tests opened (feedTests (totalOf area) (length (fedBits area (pieceBits piece) .nodes)) piece log) ∙ rw (s .head .total)
 
   -- an end neither
-  pub end-tests : (out log : List ℕ) → endNumber area out log ≡ firstRefusal (endTests (P .d) (length (closedBy area)) out log)
+  pub end-tests : (out log : List ℕ) → endNumber area out log ≡ firstRefusal (endTests (P .d) (length (lastNodesOf area)) out log)
   unfolding endNumber
-  end-tests out log = open-tests opened (endTests (paramsOf area .d) (length (closedBy area)) out log) ∙ rw (s .head .params)
+  end-tests out log = open-tests opened (endTests (paramsOf area .d) (length (lastNodesOf area)) out log) ∙ rw (s .head .params)
 
   -- nor a preview or a close
   pub preview-tests : (out : List ℕ) → previewNumber area out ≡ firstRefusal (outputTest (digestBytes (P .d)) out ∷ [])
   unfolding previewNumber
   preview-tests out = open-tests opened (outputTest (digestBytes (paramsOf area .d)) out ∷ []) ∙ rw (s .head .params)
 
-  pub close-tests : (figure log : List ℕ) → closeNumber area figure log ≡ firstRefusal (closeTests (length (closedBy area)) (digest P M) figure log)
+  pub close-tests : (figure log : List ℕ) → closeNumber area figure log ≡ firstRefusal (closeTests (length (lastNodesOf area)) (digest P M) figure log)
   unfolding closeNumber
   close-tests figure log =
-      open-tests opened (closeTests (length (closedBy area)) (nodesDigest area (closedBy area)) figure log) ∙ rw (stands-digest s)
+      open-tests opened (closeTests (length (lastNodesOf area)) (nodesDigest area (lastNodesOf area)) figure log) ∙ rw (stands-digest s)
 
   -- nor telling log words
   pub logWords-tests : (n : ℕ) → logWordsNumber area n ≡ firstRefusal (totalTest (length M) n ∷ [])
@@ -79,16 +79,16 @@ module _ {P : Params} {M : List Bool} {area : List ℕ} (s : Stands P M area) wh
       (rw (length-append M Y) h) (Machine.state-fed P M Y (levelsOf area) (settled (order P M)) h (s .state)))
 
   -- and those that an end would make
-  pub end-nodes : allNodes (order P M) ≡ settled (order P M) ++ closedBy area
-  unfolding closedBy
+  pub end-nodes : allNodes (order P M) ≡ settled (order P M) ++ lastNodesOf area
+  unfolding lastNodesOf
   end-nodes = rw (s .head .params, s .head .total) (state-all P M (levelsOf area) (settled (order P M)) (s .head .short) (s .state))
 
 -- ---- an area that ended
 
-module _ {P : Params} {M : List Bool} {area : List ℕ} (s : Closed P M area) where
+module _ {P : Params} {M : List Bool} {area : List ℕ} (s : HasEnded P M area) where
   -- 10, whatever would be tested later
   ended-tests : (later : List (Bool × ℕ)) → firstRefusal (openTests area ++ later) ≡ 10
-  ended-tests later = rw (le-ltb (length area) (ownWords area) (s .head .long), closed-sound s, s .phase) refl
+  ended-tests later = rw (le-ltb (length area) (ownWords area) (s .head .long), ended-sound s, s .phase) refl
 
   pub feed-ended : (piece : Piece) (log : List ℕ) → feedNumber area piece log ≡ 10
   unfolding feedNumber
@@ -96,7 +96,7 @@ module _ {P : Params} {M : List Bool} {area : List ℕ} (s : Closed P M area) wh
 
   pub end-ended : (out log : List ℕ) → endNumber area out log ≡ 10
   unfolding endNumber
-  end-ended out log = ended-tests (endTests (paramsOf area .d) (length (closedBy area)) out log)
+  end-ended out log = ended-tests (endTests (paramsOf area .d) (length (lastNodesOf area)) out log)
 
   pub preview-ended : (out : List ℕ) → previewNumber area out ≡ 10
   unfolding previewNumber
@@ -104,7 +104,7 @@ module _ {P : Params} {M : List Bool} {area : List ℕ} (s : Closed P M area) wh
 
   pub close-ended : (figure log : List ℕ) → closeNumber area figure log ≡ 10
   unfolding closeNumber
-  close-ended figure log = ended-tests (closeTests (length (closedBy area)) (nodesDigest area (closedBy area)) figure log)
+  close-ended figure log = ended-tests (closeTests (length (lastNodesOf area)) (nodesDigest area (lastNodesOf area)) figure log)
 
   pub logWords-ended : (n : ℕ) → logWordsNumber area n ≡ 10
   unfolding logWordsNumber
@@ -146,7 +146,7 @@ pub fed-count : (area : List ℕ) (Y : List Bool) → totalOf area + length Y < 
 unfolding fedBits
 fed-count area Y h = Counts.feedBits-count (paramsOf area) (totalOf area) Y (levelsOf area) (length-levelsOf area) h
 
-pub closed-count : (area : List ℕ) → totalOf area < 2 ^ 64 →
-    length (closedBy area) + openCount (paramsOf area .limit) (totalOf area) ≡ treeNodes (paramsOf area .limit) (totalOf area)
-unfolding closedBy
-closed-count area h = Counts.closing-count (paramsOf area) (paramsOf area .limit) (totalOf area) (levelsOf area) (length-levelsOf area) h
+pub last-count : (area : List ℕ) → totalOf area < 2 ^ 64 →
+    length (lastNodesOf area) + openCount (paramsOf area .limit) (totalOf area) ≡ treeNodes (paramsOf area .limit) (totalOf area)
+unfolding lastNodesOf
+last-count area h = Counts.lastNodes-count (paramsOf area) (paramsOf area .limit) (totalOf area) (levelsOf area) (length-levelsOf area) h

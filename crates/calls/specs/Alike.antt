@@ -17,7 +17,7 @@ use Rattle.tree.specs.Tree.{Params, Node}
 use Rattle.refusals.specs.Refusals.{firstRefusal, paramTests}
 use Rattle.refusals.specs.RefusalLaws.{alike-by}
 use Rattle.calls.specs.Area.{headWords, blockWords, areaWords, ownLevels, ownWords, Long, totalOf, compressionsOf, paramsOf, levelStart, levelWords, levelsOf, withLevels, emptyLevel, emptyLevels, sound}
-use Rattle.calls.specs.Calls.{Made, openTests, feedTests, endTests, totalTest, openNumber, openOf, fedBits, feedNumber, fedArea, feedOf, closedBy, endNumber, endedArea, digestOut, endOf, nodesDigest, previewOf, closeTests, closeNumber, closeOf, shown, levelOf, logWordsNumber, logWordsOf}
+use Rattle.calls.specs.Calls.{Made, openTests, feedTests, endTests, totalTest, openNumber, openOf, fedBits, feedNumber, fedArea, feedOf, lastNodesOf, endNumber, endedArea, digestOut, endOf, nodesDigest, previewOf, closeTests, closeNumber, closeOf, shown, levelOf, logWordsNumber, logWordsOf}
 use Rattle.calls.specs.Rows.{AllLen}
 use Rattle.calls.specs.AreaLaws.{params-set, front-withLevels}
 use Rattle.calls.specs.Sound.{empty-widths}
@@ -26,7 +26,7 @@ use Rattle.calls.specs.Stands.{opened-alike}
 use Rattle.calls.specs.LogWords.{end-enough}
 use Rattle.calls.specs.Previews.{preview-as-end}
 use Rattle.calls.specs.Moved.{SameParts, same-front, same-sound, alike-long, front-long, front-params}
-use Rattle.calls.specs.Terms.{SameFront, OpenedAlike, FedAlike, FinishedAlike, ClosedAlike}
+use Rattle.calls.specs.Vocabulary.{SameFront, OpenedAlike, AreaLogAlike, FinishedAlike}
 
 -- ---- short areas
 
@@ -79,9 +79,9 @@ module _ (x y : List ℕ) (h : Long x) (e : SameFront (paramsOf x .limit) x y) w
   unfolding fedBits
   fed-alike Y = rw (same .params, same .word 1 (omega arith), same .levels) refl
 
-  closed-alike : closedBy x ≡ closedBy y
-  unfolding closedBy
-  closed-alike = rw (same .params, same .word 1 (omega arith), same .levels) refl
+  last-alike : lastNodesOf x ≡ lastNodesOf y
+  unfolding lastNodesOf
+  last-alike = rw (same .params, same .word 1 (omega arith), same .levels) refl
 
   -- the words that a call leaves before the tail
   heads-alike : take headWords x ≡ take headWords y
@@ -148,10 +148,10 @@ module _ (x y : List ℕ) (h : Long x) (e : SameFront (paramsOf x .limit) x y) w
 
 -- ---- feed
 
-feed-long : (piece : Piece) (log x y : List ℕ) → Long x → SameFront (paramsOf x .limit) x y → FedAlike (paramsOf x .limit) (feedOf x piece log) (feedOf y piece log)
+feed-long : (piece : Piece) (log x y : List ℕ) → Long x → SameFront (paramsOf x .limit) x y → AreaLogAlike (paramsOf x .limit) (feedOf x piece log) (feedOf y piece log)
 unfolding feedNumber feedOf fedBits
 feed-long piece log x y h e =
-    alike-by (FedAlike (paramsOf x .limit)) number
+    alike-by (AreaLogAlike (paramsOf x .limit)) number
     (rw (← made) (refl, refl, refl, fed-left x y h e (piece .count) (fedBits x (pieceBits piece)) (wide .widths) (wide .size))) (λ k. (refl, refl, refl, e))
   where
     made : fedBits x (pieceBits piece) ≡ fedBits y (pieceBits piece)
@@ -166,9 +166,9 @@ feed-long piece log x y h e =
     wide = wide-bits (paramsOf x) (paramsOf x .limit) (totalOf x) (pieceBits piece) (levelsOf x) (wide-levels x h)
 
 pub feed-alike : (x y : List ℕ) (piece : Piece) (log : List ℕ) → SameFront (paramsOf x .limit) x y →
-    FedAlike (paramsOf x .limit) (feedOf x piece log) (feedOf y piece log)
+    AreaLogAlike (paramsOf x .limit) (feedOf x piece log) (feedOf y piece log)
 feed-alike x y piece log =
-    by-length (λ (x y : List ℕ). FedAlike (paramsOf x .limit) (feedOf x piece log) (feedOf y piece log)) (λ z. (refl, refl, refl, refl)) (feed-long piece log) x y
+    by-length (λ (x y : List ℕ). AreaLogAlike (paramsOf x .limit) (feedOf x piece log) (feedOf y piece log)) (λ z. (refl, refl, refl, refl)) (feed-long piece log) x y
 
 -- ---- end
 
@@ -176,14 +176,14 @@ end-long : (out log x y : List ℕ) → Long x → SameFront (paramsOf x .limit)
 unfolding endNumber endOf
 end-long out log x y h e =
     alike-by (FinishedAlike (paramsOf x .limit)) number
-    (rw (← made) (refl, refl, digest-alike x y h e (closedBy x) out, refl, ended-left x y h e (closedBy x))) (λ k. (refl, refl, refl, refl, e))
+    (rw (← made) (refl, refl, digest-alike x y h e (lastNodesOf x) out, refl, ended-left x y h e (lastNodesOf x))) (λ k. (refl, refl, refl, refl, e))
   where
-    made : closedBy x ≡ closedBy y
-    made = closed-alike x y h e
+    made : lastNodesOf x ≡ lastNodesOf y
+    made = last-alike x y h e
 
     number : endNumber x out log ≡ endNumber y out log
     number =
-        tests-alike x y h e (endTests (paramsOf x .d) (length (closedBy x)) out log) ∙ rw (made, same x y h e .params) refl
+        tests-alike x y h e (endTests (paramsOf x .d) (length (lastNodesOf x)) out log) ∙ rw (made, same x y h e .params) refl
 
 pub end-alike : (x y out log : List ℕ) → SameFront (paramsOf x .limit) x y → FinishedAlike (paramsOf x .limit) (endOf x out log) (endOf y out log)
 end-alike x y out log =
@@ -200,22 +200,22 @@ preview-alike x y out e =
     λ z. preview-as-end z out log (end-enough z out log (omega arith)) in
     p x ∙ rw (a .0, a .2) (sym (p y))
 
-close-long : (figure log x y : List ℕ) → Long x → SameFront (paramsOf x .limit) x y → ClosedAlike (paramsOf x .limit) (closeOf x figure log) (closeOf y figure log)
+close-long : (figure log x y : List ℕ) → Long x → SameFront (paramsOf x .limit) x y → AreaLogAlike (paramsOf x .limit) (closeOf x figure log) (closeOf y figure log)
 unfolding closeNumber closeOf
 close-long figure log x y h e =
-    alike-by (ClosedAlike (paramsOf x .limit)) number
-    (rw (← made) (refl, refl, refl, ended-left x y h e (closedBy x))) (λ k. (refl, refl, refl, e))
+    alike-by (AreaLogAlike (paramsOf x .limit)) number
+    (rw (← made) (refl, refl, refl, ended-left x y h e (lastNodesOf x))) (λ k. (refl, refl, refl, e))
   where
-    made : closedBy x ≡ closedBy y
-    made = closed-alike x y h e
+    made : lastNodesOf x ≡ lastNodesOf y
+    made = last-alike x y h e
 
     number : closeNumber x figure log ≡ closeNumber y figure log
     number =
-        tests-alike x y h e (closeTests (length (closedBy x)) (nodesDigest x (closedBy x)) figure log) ∙ rw (made, same x y h e .params) refl
+        tests-alike x y h e (closeTests (length (lastNodesOf x)) (nodesDigest x (lastNodesOf x)) figure log) ∙ rw (made, same x y h e .params) refl
 
-pub close-alike : (x y figure log : List ℕ) → SameFront (paramsOf x .limit) x y → ClosedAlike (paramsOf x .limit) (closeOf x figure log) (closeOf y figure log)
+pub close-alike : (x y figure log : List ℕ) → SameFront (paramsOf x .limit) x y → AreaLogAlike (paramsOf x .limit) (closeOf x figure log) (closeOf y figure log)
 close-alike x y figure log =
-    by-length (λ (x y : List ℕ). ClosedAlike (paramsOf x .limit) (closeOf x figure log) (closeOf y figure log)) (λ z. (refl, refl, refl, refl)) (close-long figure log) x y
+    by-length (λ (x y : List ℕ). AreaLogAlike (paramsOf x .limit) (closeOf x figure log) (closeOf y figure log)) (λ z. (refl, refl, refl, refl)) (close-long figure log) x y
 
 -- ---- show a level, and log words
 

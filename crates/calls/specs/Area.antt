@@ -10,15 +10,12 @@ use Rattle.tree.specs.Tree.{Params, blockBits, sequentialBits, outputBits, most
 use Rattle.tree.specs.Sizes.{treeNodes}
 use Rattle.refusals.specs.Refusals.{firstRefusal, paramTests}
 
--- the words before the levels, the words of a level, and the words of an output
+-- the words before the levels, and the words of a level
 abbrev pub headWords : ℕ
 headWords = 16
 
 abbrev pub blockWords : ℕ
 blockWords = 64
-
-abbrev pub outputWords : ℕ
-outputWords = 16
 
 -- M-109: "The area is now 16 words plus 64 times the smaller of L + 1 and 27": the levels of an area, and its words, by L
 abbrev pub areaLevels : ℕ → ℕ

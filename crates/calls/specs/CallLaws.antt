@@ -1,37 +1,19 @@
 -- Laws: what the calls answer, accepted and refused: the laws of their definitions.
-use mathlib.Core.Path.{_≡_, refl, ap}
+use mathlib.Core.Path.{_≡_, refl}
 use mathlib.Core.Bool.{Bool, true, false}
 use mathlib.Core.List.{List, [], _∷_, _++_}
 use Prim.Native.Nat.{ℕ, _+_, _-_, _*_, _^_, _≤_, _<_}
 use native.Mathlib.Omega.{arith}
 use borrow.Author.Tests.{ltb-false, eqb-false, not-false, le-ltb, ne-eqb}
-use lib.ListN.{length, take, drop, replicate, length-append, length-drop}
-use lib.Seq.{take-at}
+use lib.ListN.{length, replicate}
 use Rattle.lists.specs.SameLaws.{same-eq}
 use Rattle.bits.specs.Piece.{Piece, pieceBits}
 use Rattle.bits.specs.PieceLaws.{Fits, bits-there}
-use Rattle.tree.specs.Tree.{Params, Node, digestBytes}
+use Rattle.tree.specs.Tree.{Params, Node, digestBytes, logged}
 use Rattle.refusals.specs.Refusals.{Told, firstRefusal, paramTests, outputTest}
 use Rattle.refusals.specs.RefusalLaws.{testAt, passed-by, passed, second-part, answer-number, answer-refused}
 use Rattle.calls.specs.Area.{areaWords, ownWords, Long, phaseOf, totalOf, paramsOf, sound}
-use Rattle.calls.specs.Calls.{Made, nodeLog, logged, openNumber, openedArea, openOf, fedBits, feedNumber, fedArea, feedOf, closedBy, endNumber, endedArea, digestOut, endOf, shortTest, openTests, Opened, Fed, totalTest, feedTests, Finished, endTests, Previewed, previewNumber, previewOf, ClosedWith, closeTests, closeNumber, closeOf, nodesDigest, logWordsNumber, logWordsOf}
-
--- ---- the log
-
-pub length-nodeLog : (nodes : List Node) → length (nodeLog nodes) ≡ 2 * length nodes
-length-nodeLog [] = refl
-length-nodeLog (m ∷ nodes) = omega (arith, length-nodeLog nodes)
-
-pub nodeLog-append : (xs ys : List Node) → nodeLog (xs ++ ys) ≡ nodeLog xs ++ nodeLog ys
-nodeLog-append [] ys = refl
-nodeLog-append (x ∷ xs) ys = ap (λ (l : List ℕ). x .u ∷ x .v ∷ l) (nodeLog-append xs ys)
-
--- the words of the log that a call wrote
-pub logged-front : (nodes : List Node) (log : List ℕ) → take (2 * length nodes) (logged nodes log) ≡ nodeLog nodes
-logged-front nodes log = take-at (nodeLog nodes) (drop (2 * length nodes) log) (2 * length nodes) (length-nodeLog nodes)
-
-pub length-logged : (nodes : List Node) (log : List ℕ) → 2 * length nodes ≤ length log → length (logged nodes log) ≡ length log
-length-logged nodes log h = simp (length-append, length-drop) (omega (arith, length-nodeLog nodes))
+use Rattle.calls.specs.Calls.{Made, openNumber, openedArea, openOf, fedBits, feedNumber, fedArea, feedOf, lastNodesOf, endNumber, endedArea, digestOut, endOf, shortTest, openTests, Opened, AreaLog, totalTest, feedTests, Finished, endTests, Previewed, previewNumber, previewOf, closeTests, closeNumber, closeOf, nodesDigest, logWordsNumber, logWordsOf}
 
 -- ---- an area that is long enough, sound and open
 
@@ -76,7 +58,7 @@ open-passed area P e =
 
 pub feed-number : (area : List ℕ) (piece : Piece) (log : List ℕ) → feedOf area piece log .number ≡ feedNumber area piece log
 unfolding feedOf
-feed-number area piece log = answer-number (λ (x : Fed). x .number) (feedNumber area piece log) _ _ refl (λ k. refl)
+feed-number area piece log = answer-number (λ (x : AreaLog). x .number) (feedNumber area piece log) _ _ refl (λ k. refl)
 
 pub feed-accepted : (area : List ℕ) (piece : Piece) (log : List ℕ) → feedNumber area piece log ≡ 0 → feedOf area piece log ≡
     (let made : Made = fedBits area (pieceBits piece) in
@@ -111,7 +93,7 @@ unfolding endOf
 end-number area out log = answer-number (λ (x : Finished). x .number) (endNumber area out log) _ _ refl (λ k. refl)
 
 pub end-accepted : (area out log : List ℕ) → endNumber area out log ≡ 0 → endOf area out log ≡
-    (let nodes : List Node = closedBy area in
+    (let nodes : List Node = lastNodesOf area in
     record { number = 0; count = length nodes; area = endedArea area nodes; digest = digestOut area nodes out; log = logged nodes log })
 unfolding endOf
 end-accepted area out log e = rw e refl
@@ -124,13 +106,13 @@ end-refused area out log k = answer-refused k (endNumber area out log) _ (λ k. 
 pub record EndPassed (area out log : List ℕ) : Type 0 where
   pub opened : OpenArea area
   pub output : digestBytes (paramsOf area .d) ≤ length out
-  pub room : 2 * length (closedBy area) ≤ length log
+  pub room : 2 * length (lastNodesOf area) ≤ length log
 
 pub end-passed : (area out log : List ℕ) → endNumber area out log ≡ 0 → EndPassed area out log
 unfolding endNumber
 end-passed area out log e =
-    let p = passed-by 0 (openTests area) (endTests (paramsOf area .d) (length (closedBy area)) out log) refl e in
-    let q = passed (endTests (paramsOf area .d) (length (closedBy area)) out log) refl (p .1) in
+    let p = passed-by 0 (openTests area) (endTests (paramsOf area .d) (length (lastNodesOf area)) out log) refl e in
+    let q = passed (endTests (paramsOf area .d) (length (lastNodesOf area)) out log) refl (p .1) in
     record { opened = open-area area (p .0); output = ltb-false _ _ (q 0); room = ltb-false _ _ (q 1) }
 
 -- ---- preview
@@ -140,7 +122,7 @@ unfolding previewOf
 preview-number area out = answer-number (λ (x : Previewed). x .number) (previewNumber area out) _ _ refl (λ k. refl)
 
 pub preview-accepted : (area out : List ℕ) → previewNumber area out ≡ 0
-    → previewOf area out ≡ record { number = 0; count = 0; digest = digestOut area (closedBy area) out }
+    → previewOf area out ≡ record { number = 0; count = 0; digest = digestOut area (lastNodesOf area) out }
 unfolding previewOf
 preview-accepted area out e = rw e refl
 
@@ -163,10 +145,10 @@ preview-passed area out e =
 
 pub close-number : (area figure log : List ℕ) → closeOf area figure log .number ≡ closeNumber area figure log
 unfolding closeOf
-close-number area figure log = answer-number (λ (x : ClosedWith). x .number) (closeNumber area figure log) _ _ refl (λ k. refl)
+close-number area figure log = answer-number (λ (x : AreaLog). x .number) (closeNumber area figure log) _ _ refl (λ k. refl)
 
 pub close-accepted : (area figure log : List ℕ) → closeNumber area figure log ≡ 0 → closeOf area figure log ≡
-    (let nodes : List Node = closedBy area in record { number = 0; count = length nodes; area = endedArea area nodes; log = logged nodes log })
+    (let nodes : List Node = lastNodesOf area in record { number = 0; count = length nodes; area = endedArea area nodes; log = logged nodes log })
 unfolding closeOf
 close-accepted area figure log e = rw e refl
 
@@ -177,14 +159,14 @@ close-refused area figure log k = answer-refused k (closeNumber area figure log)
 
 pub record ClosePassed (area figure log : List ℕ) : Type 0 where
   pub opened : OpenArea area
-  pub room : 2 * length (closedBy area) ≤ length log
-  pub is-figure : nodesDigest area (closedBy area) ≡ figure
+  pub room : 2 * length (lastNodesOf area) ≤ length log
+  pub is-figure : nodesDigest area (lastNodesOf area) ≡ figure
 
 pub close-passed : (area figure log : List ℕ) → closeNumber area figure log ≡ 0 → ClosePassed area figure log
 unfolding closeNumber
 close-passed area figure log e =
-    let digest : List ℕ = nodesDigest area (closedBy area) in
-    let later : List (Bool × ℕ) = closeTests (length (closedBy area)) digest figure log in
+    let digest : List ℕ = nodesDigest area (lastNodesOf area) in
+    let later : List (Bool × ℕ) = closeTests (length (lastNodesOf area)) digest figure log in
     let p = passed-by 0 (openTests area) later refl e in
     let q = passed later refl (p .1) in
     record { opened = open-area area (p .0); room = ltb-false _ _ (q 0); is-figure = same-eq digest figure (not-false _ (q 1)) }

@@ -9,9 +9,9 @@ use Rattle.lists.specs.Part.{put}
 use Rattle.lists.specs.Same.{same}
 use Rattle.bits.specs.Bits.{bits, spell}
 use Rattle.bits.specs.Piece.{Piece, pieceBits, bitsTest}
-use Rattle.tree.specs.Tree.{Params, Node, blockBits, sequentialBits, outputBits, words, keyWords, node, output, lastOr, noNode, digestBytes, rootDigest}
-use Rattle.refusals.specs.Refusals.{firstRefusal, answerOf, Told, toldFor, paramTests, outputTest}
-use Rattle.calls.specs.Area.{blockWords, outputWords, areaLevels, areaWords, ownLevels, ownWords, phaseOf, totalOf, compressionsOf, paramsOf, levelWords, levelsOf, withLevels, emptyLevel, emptyLevels, doneBlocks, heldBits, heldParallel, heldSequential, sound}
+use Rattle.tree.specs.Tree.{Params, Node, blockBits, sequentialBits, outputBits, keyWords, node, lastOr, noNode, digestBytes, rootDigest, outputWords, outWords, logged}
+use Rattle.refusals.specs.Refusals.{firstRefusal, answerOf, Told, toldFor, paramTests, outputTest, logTest}
+use Rattle.calls.specs.Area.{blockWords, areaLevels, areaWords, ownLevels, ownWords, phaseOf, totalOf, compressionsOf, paramsOf, levelWords, levelsOf, withLevels, emptyLevel, emptyLevels, doneBlocks, heldBits, heldParallel, heldSequential, sound}
 
 -- ---- one bit more
 
@@ -23,10 +23,6 @@ pub record Made : Type 0 where
 -- words with bit h set to b: bits go into words high bit first
 unfoldable pub withBit : ℕ → Bool → List ℕ → List ℕ
 withBit h b ws = set ws (h / 64) (spell 0 (set (bits 64 (getD ws (h / 64) 0)) (h % 64) b))
-
--- the words of a node's output
-unfoldable pub outWords : Params → Node → List ℕ
-outWords P m = words outputWords (output (P .rounds) m)
 
 -- a sequential level after its node m: "the first 16 words are its last output .. and what is held follows them"
 abbrev pub chained : Params → Node → List ℕ
@@ -90,26 +86,27 @@ feedBits P T (b ∷ bs) levels =
 -- ---- the end
 
 -- the last output, i, comes to a level: the level is compressed, and it is the root if it has one node only or is sequential
-unfoldable pub closeAbove : Params → ℕ → ℕ → ℕ → List ℕ → List (List ℕ) → List Node
-closeAbove P n level i out [] = []
-closeAbove P zero level i out (ws ∷ up) = node P level (i / 3) 1 (outputBits * (2 - heldSequential i)) (joinSequential i out ws) ∷ []
-closeAbove P (suc n) level i out (ws ∷ up) =
+unfoldable pub lastAbove : Params → ℕ → ℕ → ℕ → List ℕ → List (List ℕ) → List Node
+lastAbove P n level i out [] = []
+lastAbove P zero level i out (ws ∷ up) = node P level (i / 3) 1 (outputBits * (2 - heldSequential i)) (joinSequential i out ws) ∷ []
+lastAbove P (suc n) level i out (ws ∷ up) =
     let block : List ℕ = joinParallel i out ws in
     let padding : ℕ = outputBits * (3 - heldParallel i) in
     elim (eqb (i / 4) 0) [
       | true ↦ node P level 0 1 padding block ∷ []
-      | false ↦ let m : Node = node P level (i / 4) 0 padding block in m ∷ closeAbove P n (suc level) (i / 4) (outWords P m) up
+      | false ↦ let m : Node = node P level (i / 4) 0 padding block in m ∷ lastAbove P n (suc level) (i / 4) (outWords P m) up
     ]
 
 -- the nodes that the end makes after T bits, the root last; the first number is the limit; it changes no level
-unfoldable pub closing : Params → ℕ → ℕ → List (List ℕ) → List Node
-closing P limit T [] = []
-closing P zero T (ws ∷ up) = node P 1 (doneBlocks sequentialBits T) 1 (sequentialBits - heldBits sequentialBits T) ws ∷ []
-closing P (suc n) T (ws ∷ up) =
+unfoldable pub lastNodes : Params → ℕ → ℕ → List (List ℕ) → List Node
+lastNodes P limit T [] = []
+lastNodes P zero T (ws ∷ up) = node P 1 (doneBlocks sequentialBits T) 1 (sequentialBits - heldBits sequentialBits T) ws ∷ []
+lastNodes P (suc n) T (ws ∷ up) =
     let padding : ℕ = blockBits - heldBits blockBits T in
     elim (eqb (doneBlocks blockBits T) 0) [
       | true ↦ node P 1 0 1 padding ws ∷ []
-      | false ↦ let m : Node = node P 1 (doneBlocks blockBits T) 0 padding ws in m ∷ closeAbove P n 2 (doneBlocks blockBits T) (outWords P m) up
+      | false ↦ let m : Node = node P 1 (doneBlocks blockBits T) 0 padding ws in
+          m ∷ lastAbove P n 2 (doneBlocks blockBits T) (outWords P m) up
     ]
 
 -- ---- tests
@@ -130,21 +127,6 @@ openTests area = areaTests area ++ ((eqb (phaseOf area) 2, 10) ∷ [])
 abbrev pub totalTest : ℕ → ℕ → Bool × ℕ
 totalTest total n = (ltb (2 ^ 64 - 1) (total + n), 6)
 
--- "8, 0: log shorter than 2 words a node made"
-abbrev pub logTest : ℕ → List ℕ → Bool × ℕ
-logTest nodes log = (ltb (length log) (2 * nodes), 8)
-
--- ---- the log
-
--- "U and V of each node, in order"
-abbrev pub nodeLog : List Node → List ℕ
-nodeLog [] = []
-nodeLog (m ∷ ms) = m .u ∷ m .v ∷ nodeLog ms
-
--- ".. to a lent log of words from its first; the rest of the log stays"
-abbrev pub logged : List Node → List ℕ → List ℕ
-logged nodes log = nodeLog nodes ++ drop (2 * length nodes) log
-
 -- ---- open (key, d, L, r)
 
 pub record Opened : Type 0 where
@@ -164,11 +146,14 @@ openedArea area P =
 
 unfoldable pub openOf : List ℕ → Params → Opened
 openOf area P =
-    answerOf (openNumber area P) record { number = 0; count = 0; area = openedArea area P } (λ k. record { number = k; count = 0; area = area })
+    answerOf (openNumber area P)
+    record { number = 0; count = 0; area = openedArea area P }
+    (λ k. record { number = k; count = 0; area = area })
 
 -- ---- feed (piece bytes, start bit, bit count)
 
-pub record Fed : Type 0 where
+-- what a feed and a close answer: number and count, and the area and the log on exit
+pub record AreaLog : Type 0 where
   pub number : ℕ
   pub count : ℕ
   pub area : List ℕ
@@ -190,7 +175,7 @@ feedNumber area piece log =
 unfoldable pub fedArea : List ℕ → ℕ → Made → List ℕ
 fedArea area n made = withLevels (set (set area 1 (totalOf area + n)) 14 (compressionsOf area + length (made .nodes))) (made .levels)
 
-unfoldable pub feedOf : List ℕ → Piece → List ℕ → Fed
+unfoldable pub feedOf : List ℕ → Piece → List ℕ → AreaLog
 feedOf area piece log =
     let made : Made = fedBits area (pieceBits piece) in
     answerOf (feedNumber area piece log)
@@ -207,15 +192,15 @@ pub record Finished : Type 0 where
   pub log : List ℕ
 
 -- the nodes that an end makes of an area, which it does not change
-unfoldable pub closedBy : List ℕ → List Node
-closedBy area = closing (paramsOf area) (paramsOf area .limit) (totalOf area) (levelsOf area)
+unfoldable pub lastNodesOf : List ℕ → List Node
+lastNodesOf area = lastNodes (paramsOf area) (paramsOf area .limit) (totalOf area) (levelsOf area)
 
 -- "End 7, 10, 9, 8": after the tests of the area, those of an end with that digest size that makes so many nodes
 abbrev pub endTests : ℕ → ℕ → List ℕ → List ℕ → List (Bool × ℕ)
 endTests d nodes out log = outputTest (digestBytes d) out ∷ logTest nodes log ∷ []
 
 unfoldable pub endNumber : List ℕ → List ℕ → List ℕ → ℕ
-endNumber area out log = firstRefusal (openTests area ++ endTests (paramsOf area .d) (length (closedBy area)) out log)
+endNumber area out log = firstRefusal (openTests area ++ endTests (paramsOf area .d) (length (lastNodesOf area)) out log)
 
 -- "end changes words 0, 14 and the levels, no others"
 unfoldable pub endedArea : List ℕ → List Node → List ℕ
@@ -231,7 +216,7 @@ digestOut area nodes out = nodesDigest area nodes ++ drop (digestBytes (paramsOf
 
 unfoldable pub endOf : List ℕ → List ℕ → List ℕ → Finished
 endOf area out log =
-    let nodes : List Node = closedBy area in
+    let nodes : List Node = lastNodesOf area in
     answerOf (endNumber area out log)
     record { number = 0; count = length nodes; area = endedArea area nodes; digest = digestOut area nodes out; log = logged nodes log }
     (λ k. record { number = k; count = 0; area = area; digest = out; log = log })
@@ -252,16 +237,10 @@ previewNumber area out = firstRefusal (openTests area ++ (outputTest (digestByte
 unfoldable pub previewOf : List ℕ → List ℕ → Previewed
 previewOf area out =
     answerOf (previewNumber area out)
-    record { number = 0; count = 0; digest = digestOut area (closedBy area) out }
+    record { number = 0; count = 0; digest = digestOut area (lastNodesOf area) out }
     (λ k. record { number = k; count = 0; digest = out })
 
 -- ---- close (a figure, the digest that is given)
-
-pub record ClosedWith : Type 0 where
-  pub number : ℕ
-  pub count : ℕ
-  pub area : List ℕ
-  pub log : List ℕ
 
 -- M-106: "14, the figure differs": it is not "byte for byte, length included, the one a preview would write"
 abbrev pub figureTest : List ℕ → List ℕ → Bool × ℕ
@@ -274,13 +253,13 @@ closeTests nodes digest figure log = logTest nodes log ∷ figureTest digest fig
 
 unfoldable pub closeNumber : List ℕ → List ℕ → List ℕ → ℕ
 closeNumber area figure log =
-    let nodes : List Node = closedBy area in
+    let nodes : List Node = lastNodesOf area in
     firstRefusal (openTests area ++ closeTests (length nodes) (nodesDigest area nodes) figure log)
 
 -- "Closing is given a digest and ends the area, with log and count as end does, only if it is .. the one a preview would write"
-unfoldable pub closeOf : List ℕ → List ℕ → List ℕ → ClosedWith
+unfoldable pub closeOf : List ℕ → List ℕ → List ℕ → AreaLog
 closeOf area figure log =
-    let nodes : List Node = closedBy area in
+    let nodes : List Node = lastNodesOf area in
     answerOf (closeNumber area figure log)
     record { number = 0; count = length nodes; area = endedArea area nodes; log = logged nodes log }
     (λ k. record { number = k; count = 0; area = area; log = log })

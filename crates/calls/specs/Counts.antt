@@ -9,12 +9,12 @@ use native.Mathlib.Omega.{arith}
 use borrow.Author.Tests.{eqb-true, eqb-false, ne-eqb}
 use lib.Dec.{eqb}
 use lib.ListN.{length, length-append}
-use Rattle.tree.specs.Tree.{Params, Node, blockBits, outputBits, mostLevels, node, blocks, sequentialBits}
+use Rattle.tree.specs.Tree.{Params, Node, blockBits, outputBits, mostLevels, node, blocks, sequentialBits, outWords}
 use Rattle.tree.specs.Sizes.{nodesFrom, treeNodes}
 use Rattle.calls.specs.Area.{areaLevels, doneBlocks, heldBits, openAbove, openCount}
-use Rattle.calls.specs.Calls.{Made, outWords, joinParallel, receive, feedBit, feedBits, closeAbove, closing}
+use Rattle.calls.specs.Calls.{Made, joinParallel, receive, feedBit, feedBits, lastAbove, lastNodes}
 use Rattle.calls.specs.Receive
-use Rattle.calls.specs.Close
+use Rattle.calls.specs.LastNodes
 use Rattle.calls.specs.Machine
 use Rattle.calls.specs.Blocks.{done-less, done-full}
 
@@ -126,33 +126,33 @@ module _ (P : Params) where
   from-one zero = refl
   from-one (suc n) = refl
 
-  closeAbove-count : (n level i : ℕ) (x : List ℕ) (st : List (List ℕ)) → 0 < i → (length st ≤ n → i < 4 ^ length st) →
-      suc i + (length (closeAbove P n level i x st) + openAbove n i) ≡ nodesFrom n (suc i)
-  closeAbove-count n level i x [] h b = absurd (omega (arith, b (omega arith)))
-  closeAbove-count zero level i x (ws ∷ up) h b = rw (Close.close-seq P level i x ws up, from-last i h) (omega arith)
-  closeAbove-count (suc n) level i x (ws ∷ up) h b = go (eqb (i / 4) 0) refl (λ y. closeAbove-count n (suc level) (i / 4) y up)
+  lastAbove-count : (n level i : ℕ) (x : List ℕ) (st : List (List ℕ)) → 0 < i → (length st ≤ n → i < 4 ^ length st) →
+      suc i + (length (lastAbove P n level i x st) + openAbove n i) ≡ nodesFrom n (suc i)
+  lastAbove-count n level i x [] h b = absurd (omega (arith, b (omega arith)))
+  lastAbove-count zero level i x (ws ∷ up) h b = rw (LastNodes.above-seq P level i x ws up, from-last i h) (omega arith)
+  lastAbove-count (suc n) level i x (ws ∷ up) h b = go (eqb (i / 4) 0) refl (λ y. lastAbove-count n (suc level) (i / 4) y up)
     where
       m : Node
       m = node P level (i / 4) 0 (outputBits * (3 - i % 4)) (joinParallel i x ws)
 
       go : (t : Bool) → eqb (i / 4) 0 ≡ t →
           ((y : List ℕ) → 0 < i / 4 → (length up ≤ n → i / 4 < 4 ^ length up) →
-          suc (i / 4) + (length (closeAbove P n (suc level) (i / 4) y up) + openAbove n (i / 4)) ≡ nodesFrom n (suc (i / 4))) →
-          suc i + (length (closeAbove P (suc n) level i x (ws ∷ up)) + (i / 4 + openAbove n (i / 4))) ≡ nodesFrom (suc n) (suc i)
+          suc (i / 4) + (length (lastAbove P n (suc level) (i / 4) y up) + openAbove n (i / 4)) ≡ nodesFrom n (suc (i / 4))) →
+          suc i + (length (lastAbove P (suc n) level i x (ws ∷ up)) + (i / 4 + openAbove n (i / 4))) ≡ nodesFrom (suc n) (suc i)
       go true e u =
-          rw (Close.close-one P n level i x ws up e, from-more n i h, eqb-true (i / 4) 0 e, from-one n, openAbove-none n) refl
+          rw (LastNodes.above-one P n level i x ws up e, from-more n i h, eqb-true (i / 4) 0 e, from-one n, openAbove-none n) refl
       go false e u =
-          rw (Close.close-many P n level i x ws up e, from-more n i h)
+          rw (LastNodes.above-many P n level i x ws up e, from-more n i h)
           (omega (arith, u (outWords P m) (omega (arith, eqb-false (i / 4) 0 e)) (λ k. omega (arith, pow-succ' 4 (length up), b (omega arith)))))
 
   -- the nodes that an end makes, and those made before, are the whole tree's
-  pub closing-count : (limit T : ℕ) (st : List (List ℕ)) → length st ≡ areaLevels limit → T < 2 ^ 64 →
-      length (closing P limit T st) + openCount limit T ≡ treeNodes limit T
-  closing-count limit T [] h g = absurd (omega arith)
-  closing-count zero T (ws ∷ up) h g =
+  pub lastNodes-count : (limit T : ℕ) (st : List (List ℕ)) → length st ≡ areaLevels limit → T < 2 ^ 64 →
+      length (lastNodes P limit T st) + openCount limit T ≡ treeNodes limit T
+  lastNodes-count limit T [] h g = absurd (omega arith)
+  lastNodes-count zero T (ws ∷ up) h g =
       let b : blocks sequentialBits T ≡ suc ((T - 1) / sequentialBits) = omega arith in
-      rw (Machine.closing-seq P T ws up, b) (omega arith)
-  closing-count (suc n) T (ws ∷ up) h g = go (eqb (doneBlocks blockBits T) 0) refl
+      rw (Machine.lastNodes-seq P T ws up, b) (omega arith)
+  lastNodes-count (suc n) T (ws ∷ up) h g = go (eqb (doneBlocks blockBits T) 0) refl
     where
       b : blocks blockBits T ≡ suc ((T - 1) / blockBits)
       b = omega arith
@@ -161,37 +161,37 @@ module _ (P : Params) where
       m = node P 1 (doneBlocks blockBits T) 0 (blockBits - heldBits blockBits T) ws
 
       go : (t : Bool) → eqb (doneBlocks blockBits T) 0 ≡ t →
-          length (closing P (suc n) T (ws ∷ up)) + ((T - 1) / blockBits + openAbove n ((T - 1) / blockBits)) ≡ nodesFrom n (blocks blockBits T)
-      go true e = rw (Machine.closing-one P n T ws up e, b, eqb-true (doneBlocks blockBits T) 0 e, from-one n, openAbove-none n) refl
+          length (lastNodes P (suc n) T (ws ∷ up)) + ((T - 1) / blockBits + openAbove n ((T - 1) / blockBits)) ≡ nodesFrom n (blocks blockBits T)
+      go true e = rw (Machine.lastNodes-one P n T ws up e, b, eqb-true (doneBlocks blockBits T) 0 e, from-one n, openAbove-none n) refl
       go false e =
-          rw (Machine.closing-many P n T ws up e, b)
-          (omega (arith, closeAbove-count n 2 (doneBlocks blockBits T) (outWords P m) up (omega (arith, eqb-false (doneBlocks blockBits T) 0 e)) (λ k. rw (Machine.all-above n (length up) (omega arith) k) (omega (arith, g)))))
+          rw (Machine.lastNodes-many P n T ws up e, b)
+          (omega (arith, lastAbove-count n 2 (doneBlocks blockBits T) (outWords P m) up (omega (arith, eqb-false (doneBlocks blockBits T) 0 e)) (λ k. rw (Machine.all-above n (length up) (omega arith) k) (omega (arith, g)))))
 
   -- an end makes at most one node a level
-  closeAbove-bound : (n level i : ℕ) (x : List ℕ) (st : List (List ℕ)) → length (closeAbove P n level i x st) ≤ length st
-  closeAbove-bound n level i x [] = rw (Close.close-none P n level i x) (omega arith)
-  closeAbove-bound zero level i x (ws ∷ up) = rw (Close.close-seq P level i x ws up) (omega arith)
-  closeAbove-bound (suc n) level i x (ws ∷ up) = go (eqb (i / 4) 0) refl (closeAbove-bound n (suc level) (i / 4) (outWords P m) up)
+  lastAbove-bound : (n level i : ℕ) (x : List ℕ) (st : List (List ℕ)) → length (lastAbove P n level i x st) ≤ length st
+  lastAbove-bound n level i x [] = rw (LastNodes.above-none P n level i x) (omega arith)
+  lastAbove-bound zero level i x (ws ∷ up) = rw (LastNodes.above-seq P level i x ws up) (omega arith)
+  lastAbove-bound (suc n) level i x (ws ∷ up) = go (eqb (i / 4) 0) refl (lastAbove-bound n (suc level) (i / 4) (outWords P m) up)
     where
       m : Node
       m = node P level (i / 4) 0 (outputBits * (3 - i % 4)) (joinParallel i x ws)
 
-      go : (t : Bool) → eqb (i / 4) 0 ≡ t → length (closeAbove P n (suc level) (i / 4) (outWords P m) up) ≤ length up →
-          length (closeAbove P (suc n) level i x (ws ∷ up)) ≤ suc (length up)
-      go true e u = rw (Close.close-one P n level i x ws up e) (omega arith)
-      go false e u = rw (Close.close-many P n level i x ws up e) (omega arith)
+      go : (t : Bool) → eqb (i / 4) 0 ≡ t → length (lastAbove P n (suc level) (i / 4) (outWords P m) up) ≤ length up →
+          length (lastAbove P (suc n) level i x (ws ∷ up)) ≤ suc (length up)
+      go true e u = rw (LastNodes.above-one P n level i x ws up e) (omega arith)
+      go false e u = rw (LastNodes.above-many P n level i x ws up e) (omega arith)
 
-  pub closing-bound : (limit T : ℕ) (st : List (List ℕ)) → 0 < length st → length (closing P limit T st) ≤ length st
-  closing-bound limit T [] h = absurd (omega arith)
-  closing-bound zero T (ws ∷ up) h = rw (Machine.closing-seq P T ws up) (omega arith)
-  closing-bound (suc n) T (ws ∷ up) h = go (eqb (doneBlocks blockBits T) 0) refl
+  pub lastNodes-bound : (limit T : ℕ) (st : List (List ℕ)) → 0 < length st → length (lastNodes P limit T st) ≤ length st
+  lastNodes-bound limit T [] h = absurd (omega arith)
+  lastNodes-bound zero T (ws ∷ up) h = rw (Machine.lastNodes-seq P T ws up) (omega arith)
+  lastNodes-bound (suc n) T (ws ∷ up) h = go (eqb (doneBlocks blockBits T) 0) refl
     where
       m : Node
       m = node P 1 (doneBlocks blockBits T) 0 (blockBits - heldBits blockBits T) ws
 
-      go : (t : Bool) → eqb (doneBlocks blockBits T) 0 ≡ t → length (closing P (suc n) T (ws ∷ up)) ≤ suc (length up)
-      go true e = rw (Machine.closing-one P n T ws up e) (omega arith)
-      go false e = rw (Machine.closing-many P n T ws up e) (omega (arith, closeAbove-bound n 2 (doneBlocks blockBits T) (outWords P m) up))
+      go : (t : Bool) → eqb (doneBlocks blockBits T) 0 ≡ t → length (lastNodes P (suc n) T (ws ∷ up)) ≤ suc (length up)
+      go true e = rw (Machine.lastNodes-one P n T ws up e) (omega arith)
+      go false e = rw (Machine.lastNodes-many P n T ws up e) (omega (arith, lastAbove-bound n 2 (doneBlocks blockBits T) (outWords P m) up))
 
 -- ---- how many nodes a feed can make
 

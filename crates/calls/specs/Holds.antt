@@ -7,7 +7,7 @@ use lib.ListN.{getD, replicate}
 use Rattle.tree.specs.Tree.{blockBits}
 use Rattle.calls.specs.Area.{parallelHold, doneBlocks, holdsAbove, areaLevels}
 use Rattle.calls.specs.Machine.{one-more}
-use Rattle.calls.specs.Terms.{bitsAt, mostFirst, HoldsOutputs}
+use Rattle.calls.specs.Vocabulary.{bitsAt, mostFirst, HoldsOutputs}
 
 pub first-holds : (limit T : ℕ) → 0 < T → (1 ≤ bitsAt limit T 1) × (bitsAt limit T 1 ≤ mostFirst limit)
 first-holds zero T h = (omega arith, omega arith)

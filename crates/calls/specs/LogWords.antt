@@ -13,15 +13,15 @@ use Rattle.lists.specs.Append.{cons-eq}
 use Rattle.lists.specs.Flatten.{map-append}
 use Rattle.bits.specs.Piece.{Piece, pieceBits, refusedBits, bitsTest}
 use Rattle.bits.specs.PieceLaws.{length-pieceBits, bits-there}
-use Rattle.tree.specs.Tree.{Params, Node, blockBits, sequentialBits, mostLevels, node, digestBytes}
-use Rattle.refusals.specs.Refusals.{firstRefusal, outputTest}
+use Rattle.tree.specs.Tree.{Params, Node, blockBits, sequentialBits, mostLevels, node, digestBytes, outWords}
+use Rattle.refusals.specs.Refusals.{firstRefusal, outputTest, logTest}
 use Rattle.refusals.specs.RefusalLaws.{testAt, passed, passed-by, second-part}
 use Rattle.calls.specs.Area.{areaLevels, totalOf, paramsOf, levelsOf, doneBlocks, heldBits}
-use Rattle.calls.specs.Calls.{Made, outWords, joinParallel, receive, feedBit, feedBits, fedBits, openTests, totalTest, logTest, feedNumber, feedOf, closedBy, endNumber, endOf, nodesDigest, figureTest, closeNumber, closeOf, logWordsNumber, logWordsOf}
+use Rattle.calls.specs.Calls.{Made, joinParallel, receive, feedBit, feedBits, fedBits, openTests, totalTest, feedNumber, feedOf, lastNodesOf, endNumber, endOf, nodesDigest, figureTest, closeNumber, closeOf, logWordsNumber, logWordsOf}
 use Rattle.calls.specs.CallLaws.{total-passed, feed-number, feed-accepted, end-number, close-number, logWords-accepted}
 use Rattle.calls.specs.AreaLaws.{length-levelsOf}
 use Rattle.calls.specs.Accepts.{fed-count}
-use Rattle.calls.specs.Terms.{enoughWords}
+use Rattle.calls.specs.Vocabulary.{enoughWords}
 use Rattle.calls.specs.Receive
 use Rattle.calls.specs.Machine
 use Rattle.calls.specs.Counts
@@ -192,27 +192,27 @@ log-enough area piece log h e =
     omega (arith, Counts.feed-bound (paramsOf area .limit) (totalOf area) (piece .count) small)
 
 -- "End needs at most 54": an end makes a node a level at most
-pub closed-bound : (area : List ℕ) → length (closedBy area) ≤ mostLevels
-unfolding closedBy
-closed-bound area =
+pub last-bound : (area : List ℕ) → length (lastNodesOf area) ≤ mostLevels
+unfolding lastNodesOf
+last-bound area =
     let z = length-levelsOf area in
-    let g = Counts.closing-bound (paramsOf area) (paramsOf area .limit) (totalOf area) (levelsOf area) (omega arith) in
+    let g = Counts.lastNodes-bound (paramsOf area) (paramsOf area .limit) (totalOf area) (levelsOf area) (omega arith) in
     omega arith
 
 -- so with a log of 54 words an end does not answer 8
 pub end-enough : (area out log : List ℕ) → 54 ≤ length log → endOf area out log .number ≡ 8 → ⊥
 unfolding endNumber
 end-enough area out log h e =
-    let p = passed-by 8 (openTests area ++ (outputTest (digestBytes (paramsOf area .d)) out ∷ [])) (logTest (length (closedBy area)) log ∷ []) refl (sym (end-number area out log) ∙ e) in
-    omega (arith, number-eight (length (closedBy area)) log (p .1), closed-bound area)
+    let p = passed-by 8 (openTests area ++ (outputTest (digestBytes (paramsOf area .d)) out ∷ [])) (logTest (length (lastNodesOf area)) log ∷ []) refl (sym (end-number area out log) ∙ e) in
+    omega (arith, number-eight (length (lastNodesOf area)) log (p .1), last-bound area)
 
 -- nor does a close
 pub close-enough : (area figure log : List ℕ) → 54 ≤ length log → closeOf area figure log .number ≡ 8 → ⊥
 unfolding closeNumber
 close-enough area figure log h e =
-    let nodes : ℕ = length (closedBy area) in
-    let figured : Bool × ℕ = figureTest (nodesDigest area (closedBy area)) figure in
-    let room : ltb (length log) (2 * nodes) ≡ false = le-ltb (length log) (2 * nodes) (omega (arith, closed-bound area)) in
+    let nodes : ℕ = length (lastNodesOf area) in
+    let figured : Bool × ℕ = figureTest (nodesDigest area (lastNodesOf area)) figure in
+    let room : ltb (length log) (2 * nodes) ≡ false = le-ltb (length log) (2 * nodes) (omega (arith, last-bound area)) in
     let p = passed-by 8 (openTests area) (logTest nodes log ∷ figured ∷ []) refl (sym (close-number area figure log) ∙ e) in
     let z : firstRefusal (figured ∷ []) ≡ 8 = rw room at (p .1) in
     not-eight (figured .0) z

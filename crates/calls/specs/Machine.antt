@@ -10,18 +10,18 @@ use lib.ListN.{length, replicate, length-append, length-replicate}
 use lib.Seq.{append-snoc}
 use Rattle.lists.specs.Append.{cons-eq}
 use Rattle.lists.specs.Flatten.{map-append}
-use Rattle.tree.specs.Tree.{Params, Node, Mark, Subtree, blockBits, sequentialBits, outputBits, words, node, output, noChain, levels, lastOr, noNode, rootOf, root, leaves, mostLevels, listing, climb, subtrees, lastIndex}
+use Rattle.tree.specs.Tree.{Params, Node, Mark, Subtree, blockBits, sequentialBits, outputBits, words, node, output, noChain, levels, lastOr, noNode, rootOf, root, leaves, mostLevels, listing, climb, subtrees, lastIndex, outWords}
 use Rattle.tree.specs.TreeLaws.{length-output-node, length-seqBlock, levels-one, levels-more, levels-some, rootOf-cons}
 use Rattle.bits.specs.BitsLaws.{length-numbers}
 use Rattle.calls.specs.Area.{emptyLevel, emptyLevels, doneBlocks, heldBits, areaLevels}
-use Rattle.calls.specs.Calls.{Made, withBit, outWords, chained, joinParallel, receive, feedBit, feedBits, closeAbove, closing}
+use Rattle.calls.specs.Calls.{Made, withBit, chained, joinParallel, receive, feedBit, feedBits, lastAbove, lastNodes}
 use Rattle.calls.specs.Block.{blockOf, length-blockOf, blockOf-full, blockOf-none, blockOf-noChain, blockOf-output, blockOf-chain-full, blockOf-bit}
 use Rattle.calls.specs.Rows.{snoc-length, lastOr-snoc, Cut, cut-length, cut-last, cut-held, cut-blocks, cut-more, cut-full, tops}
 use Rattle.calls.specs.Rows
 use Rattle.calls.specs.Receive.{listing-append, marked, marked-append, outWords-is}
 use Rattle.calls.specs.Receive
-use Rattle.calls.specs.Close.{length-cases}
-use Rattle.calls.specs.Close
+use Rattle.calls.specs.LastNodes.{length-cases}
+use Rattle.calls.specs.LastNodes
 
 -- ---- leaves
 
@@ -301,32 +301,32 @@ module _ (P : Params) where
 
   -- ---- the end
 
-  pub closing-seq : (T : ℕ) (ws : List ℕ) (up : List (List ℕ)) →
-      closing P 0 T (ws ∷ up) ≡ node P 1 (doneBlocks sequentialBits T) 1 (sequentialBits - heldBits sequentialBits T) ws ∷ []
-  unfolding closing
-  closing-seq T ws up = refl
+  pub lastNodes-seq : (T : ℕ) (ws : List ℕ) (up : List (List ℕ)) →
+      lastNodes P 0 T (ws ∷ up) ≡ node P 1 (doneBlocks sequentialBits T) 1 (sequentialBits - heldBits sequentialBits T) ws ∷ []
+  unfolding lastNodes
+  lastNodes-seq T ws up = refl
 
-  pub closing-one : (n T : ℕ) (ws : List ℕ) (up : List (List ℕ)) → eqb (doneBlocks blockBits T) 0 ≡ true →
-      closing P (suc n) T (ws ∷ up) ≡ node P 1 0 1 (blockBits - heldBits blockBits T) ws ∷ []
-  unfolding closing
-  closing-one n T ws up e = rw (e, closing) refl
+  pub lastNodes-one : (n T : ℕ) (ws : List ℕ) (up : List (List ℕ)) → eqb (doneBlocks blockBits T) 0 ≡ true →
+      lastNodes P (suc n) T (ws ∷ up) ≡ node P 1 0 1 (blockBits - heldBits blockBits T) ws ∷ []
+  unfolding lastNodes
+  lastNodes-one n T ws up e = rw (e, lastNodes) refl
 
-  pub closing-many : (n T : ℕ) (ws : List ℕ) (up : List (List ℕ)) → eqb (doneBlocks blockBits T) 0 ≡ false →
-      closing P (suc n) T (ws ∷ up) ≡
+  pub lastNodes-many : (n T : ℕ) (ws : List ℕ) (up : List (List ℕ)) → eqb (doneBlocks blockBits T) 0 ≡ false →
+      lastNodes P (suc n) T (ws ∷ up) ≡
       (let m : Node = node P 1 (doneBlocks blockBits T) 0 (blockBits - heldBits blockBits T) ws in
-      m ∷ closeAbove P n 2 (doneBlocks blockBits T) (outWords P m) up)
-  unfolding closing
-  closing-many n T ws up e = rw (e, closing) refl
+      m ∷ lastAbove P n 2 (doneBlocks blockBits T) (outWords P m) up)
+  unfolding lastNodes
+  lastNodes-many n T ws up e = rw (e, lastNodes) refl
 
   -- the tree's nodes in order: those made so far do not reach the last bit, and those that the end makes do
   pub record Done (limit : ℕ) (M : List Bool) (log last : List Node) : Type 0 where
     pub listed : listing (subtrees limit (length M) (levels P limit 1 M)) ≡ marked false log ++ marked true last
     pub root : (d : Node) → rootOf (levels P limit 1 M) ≡ lastOr d last
 
-  seq-done : (M : List Bool) (st : List (List ℕ)) (log : List Node) → SeqState M st log → Done 0 M log (closing P 0 (length M) st)
+  seq-done : (M : List Bool) (st : List (List ℕ)) (log : List Node) → SeqState M st log → Done 0 M log (lastNodes P 0 (length M) st)
   unfolding mathlib.Core.List.flatten
   seq-done M st log v =
-      rw (v .is, closing-seq (length M) ws (v .up), cut-held (v .cut), cut-last (v .cut)) record {
+      rw (v .is, lastNodes-seq (length M) ws (v .up), cut-held (v .cut), cut-last (v .cut)) record {
         listed = ap (λ (T : List (List Node)). listing (subtrees 0 (length M) T)) level
             ∙ ap listing (leaves-snoc 0 (lastIndex sequentialBits (length M)) (seqNodes (v .B)) m
             (omega (arith, cut-last (v .cut), Rows.length-row P (Rows.seqNode P 1) 0 noChain (v .B))))
@@ -344,12 +344,12 @@ module _ (P : Params) where
       level = ap (λ (ns : List Node). ns ∷ []) (Rows.sequential-is P 1 (v .cut))
 
   par-one : (n : ℕ) (M : List Bool) (st : List (List ℕ)) (log : List Node) (v : ParState n M st log) → v .B ≡ [] →
-      Done (suc n) M log (closing P (suc n) (length M) st)
+      Done (suc n) M log (lastNodes P (suc n) (length M) st)
   unfolding mathlib.Core.List.flatten
   par-one n M st log v none =
       rw (
         v .is,
-        closing-one n (length M) (blockOf (v .l)) (v .up) (eq-eqb (doneBlocks blockBits (length M)) 0 (cut-last (v .cut) ∙ rw none refl)),
+        lastNodes-one n (length M) (blockOf (v .l)) (v .up) (eq-eqb (doneBlocks blockBits (length M)) 0 (cut-last (v .cut) ∙ rw none refl)),
         cut-held (v .cut),
       ) record {
         listed = ap (λ (T : List (List Node)). listing (subtrees (suc n) (length M) T)) level
@@ -367,15 +367,15 @@ module _ (P : Params) where
       level = levels-one P n 1 M (cut-blocks (v .cut) ∙ rw none refl) ∙ rw (all, Rows.parallel-one P 1 (v .l) (v .cut .fits)) refl
 
       quiet : marked false log ≡ []
-      quiet = Close.inv-empty P n 2 (v .up) (marked false log)
+      quiet = LastNodes.inv-empty P n 2 (v .up) (marked false log)
           (subst (λ (B : List (List Bool)). Receive.Inv P n 2 (quietLeaves (parNodes B)) (v .up) (marked false log)) none (v .inv))
 
   par-many : (n : ℕ) (M : List Bool) (st : List (List ℕ)) (log : List Node) → length M < 2 ^ 64 → (v : ParState n M st log) → 0 < length (v .B) →
-      Done (suc n) M log (closing P (suc n) (length M) st)
+      Done (suc n) M log (lastNodes P (suc n) (length M) st)
   par-many n M st log hM v some =
       rw (
         v .is,
-        closing-many n (length M) (blockOf (v .l)) (v .up) (ne-eqb (doneBlocks blockBits (length M)) 0 (λ e. omega (arith, cut-last (v .cut)))),
+        lastNodes-many n (length M) (blockOf (v .l)) (v .up) (ne-eqb (doneBlocks blockBits (length M)) 0 (λ e. omega (arith, cut-last (v .cut)))),
         cut-held (v .cut),
         cut-last (v .cut),
         outWords-is P m,
@@ -402,14 +402,14 @@ module _ (P : Params) where
       level : levels P (suc n) 1 M ≡ (parNodes (v .B) ++ (m ∷ [])) ∷ above
       level = levels-more P n 1 M (rw (cut-blocks (v .cut)) (omega arith)) ∙ rw (Rows.parallel-more P 1 (v .cut), nodes) refl
 
-      ends : Close.Ends P n 2 X (marked false log) (leaf true m) (closeAbove P n 2 (length (v .B)) (words 16 (output (P .rounds) m)) (v .up))
+      ends : LastNodes.Ends P n 2 X (marked false log) (leaf true m) (lastAbove P n 2 (length (v .B)) (words 16 (output (P .rounds) m)) (v .up))
       ends = rw (length-parNodes (v .B)) at
-          (Close.end-tree P n 2 X (v .up) (marked false log) (leaf true m) (v .inv) refl
+          (LastNodes.end-tree P n 2 X (v .up) (marked false log) (leaf true m) (v .inv) refl
           (length-output-node P (P .rounds) 1 (length (v .B)) 0 (blockBits - length (v .l)) (blockOf (v .l)) (length-blockOf (v .l)))
           (rw (length-parNodes (v .B)) some)
           (λ k. rw (all-above n (length (v .up)) (v .size) k, length-parNodes (v .B)) (omega (arith, cut-length (v .cut), hM))))
 
   pub state-done : (limit : ℕ) (M : List Bool) (st : List (List ℕ)) (log : List Node) → length M < 2 ^ 64 → State limit M st log →
-      Done limit M log (closing P limit (length M) st)
+      Done limit M log (lastNodes P limit (length M) st)
   state-done zero M st log h v = seq-done M st log v
   state-done (suc n) M st log h v = length-cases (v .B) (par-one n M st log v) (par-many n M st log h v)

@@ -8,17 +8,18 @@ use native.Mathlib.Omega.{arith}
 use lib.ListN.{length, take, drop, length-append, length-map}
 use Rattle.lists.specs.Below.{Below}
 use Rattle.bits.specs.Piece.{Piece, pieceBits}
-use Rattle.tree.specs.Tree.{Params, Mark, order, digest, digestBytes}
+use Rattle.tree.specs.Tree.{Params, Mark, order, digest, digestBytes, nodeLog}
+use Rattle.tree.specs.OutputLaws.{nodeLog-append, logged-front}
 use Rattle.calls.specs.Area.{ownWords}
-use Rattle.calls.specs.Calls.{Made, Fed, Finished, nodeLog, openNumber, openOf, fedBits, feedNumber, fedArea, feedOf, closedBy, endNumber, endedArea, digestOut, endOf, previewOf, ClosedWith, closeOf}
+use Rattle.calls.specs.Calls.{Made, AreaLog, Finished, openNumber, openOf, fedBits, feedNumber, fedArea, feedOf, lastNodesOf, endNumber, endedArea, digestOut, endOf, previewOf, closeOf}
 use Rattle.calls.specs.Marks.{allNodes, settled}
-use Rattle.calls.specs.CallLaws.{nodeLog-append, logged-front, open-number, open-accepted, feed-number, feed-accepted, end-number, end-accepted, preview-number, preview-accepted, close-number, close-passed}
-use Rattle.calls.specs.Stands.{Stands, Closed, open-stands, FeedDone, feed-stands, EndDone, end-closed, stands-digest}
+use Rattle.calls.specs.CallLaws.{open-number, open-accepted, feed-number, feed-accepted, end-number, end-accepted, preview-number, preview-accepted, close-number, close-passed}
+use Rattle.calls.specs.Stands.{Stands, HasEnded, open-stands, FeedDone, feed-stands, EndDone, end-done, stands-digest}
 use Rattle.calls.specs.Previews.{close-as-end}
 
 -- ---- a feed
 
-pub record FedOnce (P : Params) (M Y : List Bool) (area : List ℕ) (f : Fed) : Type 0 where
+pub record FedOnce (P : Params) (M Y : List Bool) (area : List ℕ) (f : AreaLog) : Type 0 where
   pub stands : Stands P (M ++ Y) (f .area)
   pub log : nodeLog (settled (order P (M ++ Y))) ≡ nodeLog (settled (order P M)) ++ take (2 * f .count) (f .log)
   pub count : length (settled (order P (M ++ Y))) ≡ length (settled (order P M)) + f .count
@@ -47,7 +48,7 @@ feed-one P M area piece log s e = rw (feed-accepted area piece log z) record {
 -- ---- an end
 
 pub record EndedOnce (P : Params) (M : List Bool) (area out : List ℕ) (e : Finished) : Type 0 where
-  pub closed : Closed P M (e .area)
+  pub ended : HasEnded P M (e .area)
   pub log : nodeLog (allNodes (order P M)) ≡ nodeLog (settled (order P M)) ++ take (2 * e .count) (e .log)
   pub count : length (order P M) ≡ length (settled (order P M)) + e .count
   pub digest : e .digest ≡ digest P M ++ drop (digestBytes (P .d)) out
@@ -57,9 +58,9 @@ pub record EndedOnce (P : Params) (M : List Bool) (area out : List ℕ) (e : Fin
 pub end-one : (P : Params) (M : List Bool) (area out log : List ℕ) → Stands P M area → endOf area out log .number ≡ 0 →
     EndedOnce P M area out (endOf area out log)
 end-one P M area out log s e = rw (end-accepted area out log z) record {
-  closed = d .closed;
-  log = ap nodeLog (d .all) ∙ nodeLog-append (settled (order P M)) (closedBy area) ∙ rw (logged-front (closedBy area) log);
-  count = sym (length-map (order P M) (λ (m : Mark). m .node)) ∙ ap length (d .all) ∙ length-append (settled (order P M)) (closedBy area);
+  ended = d .ended;
+  log = ap nodeLog (d .all) ∙ nodeLog-append (settled (order P M)) (lastNodesOf area) ∙ rw (logged-front (lastNodesOf area) log);
+  count = sym (length-map (order P M) (λ (m : Mark). m .node)) ∙ ap length (d .all) ∙ length-append (settled (order P M)) (lastNodesOf area);
   digest = d .digest;
   size = d .size;
   tail = d .tail;
@@ -68,19 +69,19 @@ end-one P M area out log s e = rw (end-accepted area out log z) record {
     z : endNumber area out log ≡ 0
     z = sym (end-number area out log) ∙ e
 
-    d : EndDone P M area out (closedBy area) (endedArea area (closedBy area)) (digestOut area (closedBy area) out)
-    d = end-closed P M area out s
+    d : EndDone P M area out (lastNodesOf area) (endedArea area (lastNodesOf area)) (digestOut area (lastNodesOf area) out)
+    d = end-done P M area out s
 
 -- ---- a preview and a close
 
 pub preview-one : (P : Params) (M : List Bool) (area out : List ℕ) → Stands P M area → previewOf area out .number ≡ 0 →
     previewOf area out .digest ≡ digest P M ++ drop (digestBytes (P .d)) out
 preview-one P M area out s e =
-    rw (preview-accepted area out (sym (preview-number area out) ∙ e)) (end-closed P M area out s .digest)
+    rw (preview-accepted area out (sym (preview-number area out) ∙ e)) (end-done P M area out s .digest)
 
 -- a close is an end that has room for the figure, which is the message's digest
-pub record ClosedOnce (P : Params) (M : List Bool) (figure : List ℕ) (c : ClosedWith) : Type 0 where
-  pub closed : Closed P M (c .area)
+pub record ClosedOnce (P : Params) (M : List Bool) (figure : List ℕ) (c : AreaLog) : Type 0 where
+  pub ended : HasEnded P M (c .area)
   pub log : nodeLog (allNodes (order P M)) ≡ nodeLog (settled (order P M)) ++ take (2 * c .count) (c .log)
   pub count : length (order P M) ≡ length (settled (order P M)) + c .count
   pub digest : figure ≡ digest P M
@@ -92,7 +93,7 @@ close-one P M area figure log s e =
     let o = end-one P M area figure log s (rw f refl) in
     let p = close-passed area figure log (sym (close-number area figure log) ∙ e) in
     record {
-      closed = rw f at (o .closed);
+      ended = rw f at (o .ended);
       log = rw f at (o .log);
       count = rw f at (o .count);
       digest = sym (p .is-figure) ∙ stands-digest s;

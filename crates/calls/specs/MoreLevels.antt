@@ -8,7 +8,7 @@ use lib.Dec.{eqb}
 use lib.ListN.{length, replicate, length-replicate, replicate-append-replicate}
 use Rattle.lists.specs.Append.{cons-eq}
 use Rattle.tree.specs.Tree.{blockBits}
-use Rattle.calls.specs.Area.{Hold, parallelHold, doneBlocks, holdsAbove, openHolds, holdsFor, clean, cleanAll, levelWords, levelsFrom}
+use Rattle.calls.specs.Area.{Hold, parallelHold, doneBlocks, holdsAbove, openHolds, holdsFor, clean, cleanAll, levelsFrom}
 
 -- m levels, of which k are those that L gives, and j stand above them
 above-more : (m k j n i : ℕ) → m ≡ k + j → k ≡ min (n + 1) m → holdsAbove m n i ≡ holdsAbove k n i ++ replicate j (parallelHold 0)

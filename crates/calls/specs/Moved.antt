@@ -25,12 +25,11 @@ use Rattle.calls.specs.Block.{blockOf-below}
 use Rattle.calls.specs.Rows.{over}
 use Rattle.calls.specs.Receive
 use Rattle.calls.specs.Machine
-use Rattle.calls.specs.Counts
 use Rattle.calls.specs.AreaLaws.{same-word, same-key, same-head, key-words}
 use Rattle.refusals.specs.RefusalLaws.{params-valid}
 use Rattle.calls.specs.FeedLaws.{flatten-from}
-use Rattle.calls.specs.Stands.{Head, Stands, Closed}
-use Rattle.calls.specs.Terms.{SameFront}
+use Rattle.calls.specs.Stands.{Head, Stands, HasEnded}
+use Rattle.calls.specs.Vocabulary.{SameFront}
 
 -- ---- the tests of soundness
 
@@ -163,8 +162,8 @@ stands-moved P M x y e t =
       state = rw (s .levels) at (t .state);
     }
 
-pub closed-moved : (P : Params) (M : List Bool) (x y : List ℕ) → SameFront (paramsOf x .limit) x y → Closed P M x → Closed P M y
-closed-moved P M x y e t =
+pub ended-moved : (P : Params) (M : List Bool) (x y : List ℕ) → SameFront (paramsOf x .limit) x y → HasEnded P M x → HasEnded P M y
+ended-moved P M x y e t =
     let s = same-front x y (t .head .long) e in
     record {
       head = head-moved P M x y (alike-long x y (t .head .long) e) s (t .head);
@@ -260,9 +259,9 @@ stands-below {P} {M} {area} s =
     (head-below P M area (s .head) (omega (arith, s .phase)) (omega (arith, s .count, openCount-small (P .limit) (length M) (s .head .short))))
     (flatten-below (state-words P (P .limit) M (levelsOf area) (settled (order P M)) (s .state))))
 
-pub closed-below : {P : Params} {M : List Bool} {area : List ℕ} → Closed P M area → Below (2 ^ 64) (take (ownWords area) area)
+pub ended-below : {P : Params} {M : List Bool} {area : List ℕ} → HasEnded P M area → Below (2 ^ 64) (take (ownWords area) area)
 unfolding emptyLevels
-closed-below {P} {M} {area} s =
+ended-below {P} {M} {area} s =
     rw (area-front area)
     (below-append
     (head-below P M area (s .head) (omega (arith, s .phase)) (omega (arith, s .count, treeNodes-bound (P .limit) (length M) (s .head .short))))

@@ -12,25 +12,25 @@ use lib.Seq.{take-all, take-at}
 use Rattle.lists.specs.SameLaws.{same-refl}
 use Rattle.bits.specs.BitsLaws.{length-numbers}
 use Rattle.tree.specs.Tree.{digestBytes}
-use Rattle.refusals.specs.Refusals.{firstRefusal, outputTest}
+use Rattle.refusals.specs.Refusals.{firstRefusal, outputTest, logTest}
 use Rattle.refusals.specs.RefusalLaws.{testAt, passed, passed-by, first-part, second-part}
 use Rattle.calls.specs.Area.{paramsOf}
-use Rattle.calls.specs.Calls.{openTests, logTest, closedBy, nodesDigest, digestOut, endTests, endNumber, endOf, previewNumber, previewOf, ClosedWith, figureTest, closeNumber, closeOf}
+use Rattle.calls.specs.Calls.{openTests, lastNodesOf, nodesDigest, digestOut, endTests, endNumber, endOf, previewNumber, previewOf, AreaLog, figureTest, closeNumber, closeOf}
 use Rattle.calls.specs.CallLaws.{open-tests, end-number, end-accepted, end-refused, preview-number, preview-accepted, preview-refused, preview-passed, close-number, close-accepted, close-passed}
 
 -- the digest's bytes
-pub length-nodesDigest : (area : List ℕ) → length (nodesDigest area (closedBy area)) ≡ digestBytes (paramsOf area .d)
+pub length-nodesDigest : (area : List ℕ) → length (nodesDigest area (lastNodesOf area)) ≡ digestBytes (paramsOf area .d)
 length-nodesDigest area = length-numbers 8 (digestBytes (paramsOf area .d)) _
 
 -- it stands in front of an output
 pub digest-front : (area out : List ℕ) (n : ℕ) → n ≡ digestBytes (paramsOf area .d)
-    → take n (digestOut area (closedBy area) out) ≡ nodesDigest area (closedBy area)
+    → take n (digestOut area (lastNodesOf area) out) ≡ nodesDigest area (lastNodesOf area)
 unfolding digestOut
 digest-front area out n e =
-    take-at (nodesDigest area (closedBy area)) (drop (digestBytes (paramsOf area .d)) out) n (length-nodesDigest area ∙ sym e)
+    take-at (nodesDigest area (lastNodesOf area)) (drop (digestBytes (paramsOf area .d)) out) n (length-nodesDigest area ∙ sym e)
 
 -- an output is as long as it was
-pub length-digestOut : (area out : List ℕ) → digestBytes (paramsOf area .d) ≤ length out → length (digestOut area (closedBy area) out) ≡ length out
+pub length-digestOut : (area out : List ℕ) → digestBytes (paramsOf area .d) ≤ length out → length (digestOut area (lastNodesOf area) out) ≡ length out
 unfolding digestOut
 length-digestOut area out h =
     let n = length-nodesDigest area in
@@ -46,14 +46,14 @@ preview-end-number area out log n = by (firstRefusal tests) refl
     tests : List (Bool × ℕ)
     tests = openTests area ++ (outputTest (digestBytes (paramsOf area .d)) out ∷ [])
 
-    room : (b : Bool) → ltb (length log) (2 * length (closedBy area)) ≡ b → ((j : ℕ) → testAt tests j ≡ false)
-        → firstRefusal (tests ++ (logTest (length (closedBy area)) log ∷ [])) ≡ 0
-    room true e k = absurd (n (second-part tests (logTest (length (closedBy area)) log ∷ []) k ∙ rw e refl))
-    room false e k = second-part tests (logTest (length (closedBy area)) log ∷ []) k ∙ rw e refl
+    room : (b : Bool) → ltb (length log) (2 * length (lastNodesOf area)) ≡ b → ((j : ℕ) → testAt tests j ≡ false)
+        → firstRefusal (tests ++ (logTest (length (lastNodesOf area)) log ∷ [])) ≡ 0
+    room true e k = absurd (n (second-part tests (logTest (length (lastNodesOf area)) log ∷ []) k ∙ rw e refl))
+    room false e k = second-part tests (logTest (length (lastNodesOf area)) log ∷ []) k ∙ rw e refl
 
-    by : (k : ℕ) → firstRefusal tests ≡ k → firstRefusal (tests ++ (logTest (length (closedBy area)) log ∷ [])) ≡ firstRefusal tests
-    by zero e = room (ltb (length log) (2 * length (closedBy area))) refl (passed tests refl e) ∙ sym e
-    by (suc k) e = sym (first-part tests (logTest (length (closedBy area)) log ∷ []) (λ z. omega arith))
+    by : (k : ℕ) → firstRefusal tests ≡ k → firstRefusal (tests ++ (logTest (length (lastNodesOf area)) log ∷ [])) ≡ firstRefusal tests
+    by zero e = room (ltb (length log) (2 * length (lastNodesOf area))) refl (passed tests refl e) ∙ sym e
+    by (suc k) e = sym (first-part tests (logTest (length (lastNodesOf area)) log ∷ []) (λ z. omega arith))
 
 -- "A preview writes the digest that end would": it answers what an end of the same area into the same output would, and writes what that
 -- would write, unless the end's log is too short; its count is 0
@@ -72,7 +72,7 @@ preview-as-end area out log n = by (previewNumber area out) refl
 
 -- what an accepted preview writes
 pub preview-writes : (area out : List ℕ) → previewOf area out .number ≡ 0
-    → take (digestBytes (paramsOf area .d)) (previewOf area out .digest) ≡ nodesDigest area (closedBy area)
+    → take (digestBytes (paramsOf area .d)) (previewOf area out .digest) ≡ nodesDigest area (lastNodesOf area)
 preview-writes area out e =
     rw (preview-accepted area out (sym (preview-number area out) ∙ e)) (digest-front area out (digestBytes (paramsOf area .d)) refl)
 
@@ -80,15 +80,15 @@ preview-writes area out e =
 
 -- a close is accepted exactly if 7, 10 and 8 do not hold and the figure is that digest, "byte for byte, length included"
 pub close-iff : (area figure log : List ℕ) → (closeOf area figure log .number ≡ 0)
-    ↔ ((firstRefusal (openTests area ++ (logTest (length (closedBy area)) log ∷ [])) ≡ 0) × (figure ≡ nodesDigest area (closedBy area)))
+    ↔ ((firstRefusal (openTests area ++ (logTest (length (lastNodesOf area)) log ∷ [])) ≡ 0) × (figure ≡ nodesDigest area (lastNodesOf area)))
 unfolding closeNumber
 close-iff area figure log = (there, back)
   where
     nodes : ℕ
-    nodes = length (closedBy area)
+    nodes = length (lastNodesOf area)
 
     digest : List ℕ
-    digest = nodesDigest area (closedBy area)
+    digest = nodesDigest area (lastNodesOf area)
 
     tests : List (Bool × ℕ)
     tests = openTests area ++ (logTest nodes log ∷ [])
@@ -108,30 +108,30 @@ close-iff area figure log = (there, back)
 -- so after a preview into an output of the digest's length a close is accepted exactly if its log has room and its figure is what that
 -- output holds
 pub close-previewed : (area out figure log : List ℕ) → previewOf area out .number ≡ 0 → length out ≡ digestBytes (paramsOf area .d)
-    → (closeOf area figure log .number ≡ 0) ↔ ((2 * length (closedBy area) ≤ length log) × (figure ≡ previewOf area out .digest))
+    → (closeOf area figure log .number ≡ 0) ↔ ((2 * length (lastNodesOf area) ≤ length log) × (figure ≡ previewOf area out .digest))
 close-previewed area out figure log e n = (there, back)
   where
     z : previewNumber area out ≡ 0
     z = sym (preview-number area out) ∙ e
 
-    written : previewOf area out .digest ≡ nodesDigest area (closedBy area)
+    written : previewOf area out .digest ≡ nodesDigest area (lastNodesOf area)
     written =
         let size : length (previewOf area out .digest) ≡ length out = rw (preview-accepted area out z) (length-digestOut area out (omega arith)) in
         sym (take-all (digestBytes (paramsOf area .d)) (previewOf area out .digest) (omega arith)) ∙ preview-writes area out e
 
-    there : closeOf area figure log .number ≡ 0 → (2 * length (closedBy area) ≤ length log) × (figure ≡ previewOf area out .digest)
+    there : closeOf area figure log .number ≡ 0 → (2 * length (lastNodesOf area) ≤ length log) × (figure ≡ previewOf area out .digest)
     there c = let p = close-passed area figure log (sym (close-number area figure log) ∙ c) in (p .room, sym (p .is-figure) ∙ sym written)
 
-    back : (2 * length (closedBy area) ≤ length log) × (figure ≡ previewOf area out .digest) → closeOf area figure log .number ≡ 0
+    back : (2 * length (lastNodesOf area) ≤ length log) × (figure ≡ previewOf area out .digest) → closeOf area figure log .number ≡ 0
     back h =
-        let tests : List (Bool × ℕ) = logTest (length (closedBy area)) log ∷ [] in
-        let open-and-room : firstRefusal (openTests area ++ tests) ≡ 0 = open-tests (preview-passed area out z .opened) tests ∙ rw (le-ltb (length log) (2 * length (closedBy area)) (h .0)) refl in
+        let tests : List (Bool × ℕ) = logTest (length (lastNodesOf area)) log ∷ [] in
+        let open-and-room : firstRefusal (openTests area ++ tests) ≡ 0 = open-tests (preview-passed area out z .opened) tests ∙ rw (le-ltb (length log) (2 * length (lastNodesOf area)) (h .0)) refl in
         close-iff area figure log .1 (open-and-room, h .1 ∙ written)
 
 -- "ends the area, with log and count as end does": an accepted close leaves area, log and count as an end that has room for the digest,
 -- and that end writes the figure
 pub close-as-end : (area figure out log : List ℕ) → closeOf area figure log .number ≡ 0 → length figure ≤ length out → endOf area out log ≡
-    (let c : ClosedWith = closeOf area figure log in
+    (let c : AreaLog = closeOf area figure log in
     record { number = 0; count = c .count; area = c .area; digest = figure ++ drop (length figure) out; log = c .log })
 unfolding endNumber digestOut
 close-as-end area figure out log e h =
@@ -139,8 +139,8 @@ close-as-end area figure out log e h =
     let p = close-passed area figure log z in
     let size : length figure ≡ digestBytes (paramsOf area .d) = ap length (sym (p .is-figure)) ∙ length-nodesDigest area in
     let n : endNumber area out log ≡ 0 =
-    open-tests (p .opened) (endTests (paramsOf area .d) (length (closedBy area)) out log)
-    ∙ rw (le-ltb (length out) (digestBytes (paramsOf area .d)) (omega arith), le-ltb (length log) (2 * length (closedBy area)) (p .room)) refl in
+    open-tests (p .opened) (endTests (paramsOf area .d) (length (lastNodesOf area)) out log)
+    ∙ rw (le-ltb (length out) (digestBytes (paramsOf area .d)) (omega arith), le-ltb (length log) (2 * length (lastNodesOf area)) (p .room)) refl in
     rw (end-accepted area out log n, close-accepted area figure log z, size, p .is-figure) refl
 
 -- so what holds of the area after an end holds of it after a close

@@ -11,10 +11,10 @@ use lib.ListN.{length, replicate, length-append, length-map, length-replicate}
 use Rattle.lists.specs.Append.{cons-eq}
 use Rattle.lists.specs.Flatten.{flatten-append, map-append}
 use Rattle.bits.specs.BitsLaws.{length-numbers}
-use Rattle.tree.specs.Tree.{Params, Node, Mark, Subtree, outputBits, words, node, output, noChain, joinedOutputs, anyReaches, listing, parent}
+use Rattle.tree.specs.Tree.{Params, Node, Mark, Subtree, outputBits, words, node, output, noChain, joinedOutputs, anyReaches, listing, parent, outWords}
 use Rattle.tree.specs.TreeLaws.{length-output-node, length-seqBlock}
 use Rattle.calls.specs.Area.{emptyLevel}
-use Rattle.calls.specs.Calls.{Made, outWords, chained, joinParallel, joinSequential, receive}
+use Rattle.calls.specs.Calls.{Made, chained, joinParallel, joinSequential, receive}
 use Rattle.calls.specs.Block.{blockOf, blockOf-full, blockOf-none, blockOf-noChain, blockOf-output, blockOf-chain-full, join-parallel, join-sequential}
 use Rattle.calls.specs.Rows.{AllLen, allLen-snoc, length-flatten, snoc-length, tops, over, over-snoc, length-over}
 use Rattle.calls.specs.Rows

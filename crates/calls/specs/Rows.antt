@@ -5,7 +5,7 @@ use mathlib.Core.List.{List, [], _∷_, _++_, map, append-assoc, append-nil, fla
 use Prim.Native.Nat.{ℕ, suc, _+_, _-_, _*_, _≤_, _<_}
 use native.Mathlib.Nat.{add-zero, zero-add, suc-add, add-suc, zero-mul, suc-mul, mul-suc, mul-comm, add-comm, zero-div}
 use native.Mathlib.Omega.{arith}
-use lib.ListN.{length, replicate, length-append}
+use lib.ListN.{length, drop, replicate, length-append}
 use lib.Seq.{take-at, drop-at, take-all}
 use Rattle.lists.specs.Append.{cons-eq}
 use Rattle.lists.specs.Flatten.{flatten-append, map-append}
@@ -157,19 +157,20 @@ module _ (P : Params) where
 
   -- ---- a level of the tree is its row and a last node
 
+  -- the first of full blocks of n words each: what the first node takes, what is left for the others, and how their indices go on
+  first-block : (n i : ℕ) (b : List Bool) (B : List (List Bool)) (e : List Bool) → length b ≡ 64 * n →
+      (words n (flatten (b ∷ B) ++ e) ≡ words n b) × (drop (64 * n) (flatten (b ∷ B) ++ e) ≡ flatten B ++ e) × (i + suc (length B) ≡ suc i + length B)
+  unfolding flatten
+  first-block n i b B e l =
+      rw (append-assoc b (flatten B) e) (numbers-front 64 n b (flatten B ++ e) (omega arith), drop-at b (flatten B ++ e) (64 * n) l, omega arith)
+
   par-row : (level p i : ℕ) (c : List Bool) (B : List (List Bool)) (e : List Bool) → AllLen blockBits B →
       par P level 0 p i (suc (length B)) (flatten B ++ e) ≡ row (parNode level) i c B ++ (node P level (i + length B) 0 p (words 64 e) ∷ [])
   unfolding flatten
   par-row level p i c [] e a = rw (add-zero i) refl
   par-row level p i c (b ∷ B) e a =
-      rw (
-        append-assoc b (flatten B) e,
-        numbers-front 64 64 b (flatten B ++ e) (omega (arith, a .0)),
-        drop-at b (flatten B ++ e) blockBits (a .0),
-        par-row level p (suc i) (out (parNode level i c b)) B e (a .1),
-        add-suc i (length B),
-        suc-add i (length B),
-      ) refl
+      let f = first-block 64 i b B e (a .0) in
+      rw (f .0, f .1, par-row level p (suc i) (out (parNode level i c b)) B e (a .1), f .2) refl
 
   seq-row : (level p i : ℕ) (c : List Bool) (B : List (List Bool)) (e : List Bool) → AllLen sequentialBits B →
       seq P level p i c (suc (length B)) (flatten B ++ e)
@@ -177,14 +178,8 @@ module _ (P : Params) where
   unfolding flatten
   seq-row level p i c [] e a = rw (add-zero i) refl
   seq-row level p i c (b ∷ B) e a =
-      rw (
-        append-assoc b (flatten B) e,
-        numbers-front 64 48 b (flatten B ++ e) (omega (arith, a .0)),
-        drop-at b (flatten B ++ e) sequentialBits (a .0),
-        seq-row level p (suc i) (out (seqNode level i c b)) B e (a .1),
-        add-suc i (length B),
-        suc-add i (length B),
-      ) refl
+      let f = first-block 48 i b B e (a .0) in
+      rw (f .0, f .1, seq-row level p (suc i) (out (seqNode level i c b)) B e (a .1), f .2) refl
 
   abbrev pub lastPar : ℕ → ℕ → ℕ → List Bool → Node
   lastPar level i z l = node P level i z (blockBits - length l) (blockOf l)

@@ -14,7 +14,7 @@ use Rattle.tree.specs.TreeLaws.{length-keyWords}
 use Rattle.refusals.specs.Refusals.{firstRefusal, paramTests}
 use Rattle.tree.specs.Sizes.{treeNodes}
 use Rattle.calls.specs.Area.{areaWords, phaseOf, totalOf, keyBytesOf, kOf, compressionsOf, paramsOf, levelsOf, withLevels, emptyLevel, emptyLevels, openCount, soundPhase, soundParams, soundKey, soundCount, soundLast, soundLevels, sound, areaLevels, ownLevels, ownWords, blockWords, Long}
-use Rattle.calls.specs.Calls.{Made, feedBits, closing, openNumber, openedArea, fedBits, feedNumber, fedArea, closedBy, endedArea, nodesDigest, digestOut}
+use Rattle.calls.specs.Calls.{Made, feedBits, lastNodes, openNumber, openedArea, fedBits, feedNumber, fedArea, lastNodesOf, endedArea, nodesDigest, digestOut}
 use Rattle.calls.specs.Marks.{allNodes, settled}
 use Rattle.calls.specs.Rows.{length-flatten}
 use Rattle.calls.specs.Receive.{marked}
@@ -48,12 +48,12 @@ settled-both (x ∷ xs) ys = cons-eq refl (settled-both xs ys)
 
 module _ (P : Params) (M : List Bool) (st : List (List ℕ)) (log : List Node) (short : length M < 2 ^ 64) (v : Machine.State P (P .limit) M st log) where
   pub state-settled : settled (order P M) ≡ log
-  state-settled = ap settled (Machine.state-done P (P .limit) M st log short v .listed) ∙ settled-both log (closing P (P .limit) (length M) st)
+  state-settled = ap settled (Machine.state-done P (P .limit) M st log short v .listed) ∙ settled-both log (lastNodes P (P .limit) (length M) st)
 
-  pub state-all : allNodes (order P M) ≡ log ++ closing P (P .limit) (length M) st
-  state-all = ap allNodes (Machine.state-done P (P .limit) M st log short v .listed) ∙ allNodes-both log (closing P (P .limit) (length M) st)
+  pub state-all : allNodes (order P M) ≡ log ++ lastNodes P (P .limit) (length M) st
+  state-all = ap allNodes (Machine.state-done P (P .limit) M st log short v .listed) ∙ allNodes-both log (lastNodes P (P .limit) (length M) st)
 
-  state-root : root P M ≡ lastOr noNode (closing P (P .limit) (length M) st)
+  state-root : root P M ≡ lastOr noNode (lastNodes P (P .limit) (length M) st)
   state-root = Machine.state-done P (P .limit) M st log short v .root noNode
 
 -- the empty message has no node that does not reach its last bit
@@ -81,7 +81,7 @@ pub record Stands (P : Params) (M : List Bool) (area : List ℕ) : Type 0 where
   pub state : Machine.State P (P .limit) M (levelsOf area) (settled (order P M))
 
 -- an area that ended after the message M
-pub record Closed (P : Params) (M : List Bool) (area : List ℕ) : Type 0 where
+pub record HasEnded (P : Params) (M : List Bool) (area : List ℕ) : Type 0 where
   pub head : Head P M area
   pub phase : phaseOf area ≡ 2
   pub count : compressionsOf area ≡ treeNodes (P .limit) (length M)
@@ -98,33 +98,24 @@ key-sound {P} {M} {area} h = rw (h .keyBytes, h .key) (key-clean (P .key) (h .va
 last-sound : {P : Params} {M : List Bool} {area : List ℕ} → Head P M area → soundLast area ≡ true
 last-sound h = rw (h .last) refl
 
-pub stands-sound : {P : Params} {M : List Bool} {area : List ℕ} → Stands P M area → sound area ≡ true
+-- the other tests of soundness
+head-sound : {P : Params} {M : List Bool} {area : List ℕ} → Head P M area → soundPhase area ≡ true → soundCount area ≡ true → soundLevels area ≡ true → sound area ≡ true
 unfolding sound
+head-sound h phase count levels =
+    and-intro phase (and-intro (params-sound h) (and-intro (key-sound h) (and-intro count (and-intro (last-sound h) levels))))
+
+pub stands-sound : {P : Params} {M : List Bool} {area : List ℕ} → Stands P M area → sound area ≡ true
 stands-sound {P} {M} {area} s =
-    and-intro phase (and-intro (params-sound (s .head)) (and-intro (key-sound (s .head)) (and-intro count (and-intro (last-sound (s .head)) levels))))
-  where
-    phase : soundPhase area ≡ true
-    phase = rw (s .phase) refl
+    head-sound (s .head) (rw (s .phase) refl)
+    (rw (s .phase, s .head .params, s .head .total) (eq-eqb (compressionsOf area) (openCount (P .limit) (length M)) (s .count)))
+    (rw (s .phase, s .head .params, s .head .total) (state-sound P (P .limit) M (levelsOf area) (settled (order P M)) (s .state)))
 
-    count : soundCount area ≡ true
-    count = rw (s .phase, s .head .params, s .head .total) (eq-eqb (compressionsOf area) (openCount (P .limit) (length M)) (s .count))
-
-    levels : soundLevels area ≡ true
-    levels = rw (s .phase, s .head .params, s .head .total) (state-sound P (P .limit) M (levelsOf area) (settled (order P M)) (s .state))
-
-pub closed-sound : {P : Params} {M : List Bool} {area : List ℕ} → Closed P M area → sound area ≡ true
-unfolding sound emptyLevels
-closed-sound {P} {M} {area} s =
-    and-intro phase (and-intro (params-sound (s .head)) (and-intro (key-sound (s .head)) (and-intro count (and-intro (last-sound (s .head)) levels))))
-  where
-    phase : soundPhase area ≡ true
-    phase = rw (s .phase) refl
-
-    count : soundCount area ≡ true
-    count = rw (s .phase, s .head .params, s .head .total) (eq-eqb (compressionsOf area) (treeNodes (P .limit) (length M)) (s .count))
-
-    levels : soundLevels area ≡ true
-    levels = rw (s .phase, s .head .params, s .levels) (clean-empty (areaLevels (P .limit)))
+pub ended-sound : {P : Params} {M : List Bool} {area : List ℕ} → HasEnded P M area → sound area ≡ true
+unfolding emptyLevels
+ended-sound {P} {M} {area} s =
+    head-sound (s .head) (rw (s .phase) refl)
+    (rw (s .phase, s .head .params, s .head .total) (eq-eqb (compressionsOf area) (treeNodes (P .limit) (length M)) (s .count)))
+    (rw (s .phase, s .head .params, s .levels) (clean-empty (areaLevels (P .limit))))
 
 -- ---- open
 
@@ -301,23 +292,23 @@ feed-stands P M area piece log s e = record {
 
 -- what an accepted end makes of an area
 pub record EndDone (P : Params) (M : List Bool) (area out : List ℕ) (nodes : List Node) (to given : List ℕ) : Type 0 where
-  pub closed : Closed P M to
+  pub ended : HasEnded P M to
   pub all : allNodes (order P M) ≡ settled (order P M) ++ nodes
   pub digest : given ≡ digest P M ++ drop (digestBytes (P .d)) out
   pub size : length to ≡ length area
   pub tail : drop (ownWords area) to ≡ drop (ownWords area) area
 
 -- the digest of an area that stands for a message is the message's
-pub stands-digest : {P : Params} {M : List Bool} {area : List ℕ} → Stands P M area → nodesDigest area (closedBy area) ≡ digest P M
-unfolding closedBy
+pub stands-digest : {P : Params} {M : List Bool} {area : List ℕ} → Stands P M area → nodesDigest area (lastNodesOf area) ≡ digest P M
+unfolding lastNodesOf
 stands-digest {P} {M} {area} s =
     rw (s .head .params, s .head .total, ← state-root P M (levelsOf area) (settled (order P M)) (s .head .short) (s .state)) refl
 
-pub end-closed : (P : Params) (M : List Bool) (area out : List ℕ) → Stands P M area →
-    EndDone P M area out (closedBy area) (endedArea area (closedBy area)) (digestOut area (closedBy area) out)
-unfolding closedBy endedArea digestOut emptyLevels
-end-closed P M area out s = record {
-  closed = record {
+pub end-done : (P : Params) (M : List Bool) (area out : List ℕ) → Stands P M area →
+    EndDone P M area out (lastNodesOf area) (endedArea area (lastNodesOf area)) (digestOut area (lastNodesOf area) out)
+unfolding lastNodesOf endedArea digestOut emptyLevels
+end-done P M area out s = record {
+  ended = record {
     head = record {
       valid = s .head .valid;
       short = s .head .short;
@@ -339,9 +330,9 @@ end-closed P M area out s = record {
 }
   where
     nodes : List Node
-    nodes = closing (paramsOf area) (paramsOf area .limit) (totalOf area) (levelsOf area)
+    nodes = lastNodes (paramsOf area) (paramsOf area .limit) (totalOf area) (levelsOf area)
 
-    is : nodes ≡ closing P (P .limit) (length M) (levelsOf area)
+    is : nodes ≡ lastNodes P (P .limit) (length M) (levelsOf area)
     is = rw (s .head .params, s .head .total) refl
 
     c : Changed area 0 2 (compressionsOf area + length nodes) (replicate (ownLevels area) emptyLevel) (withLevels (set (set area 0 2) 14 (compressionsOf area + length nodes)) (replicate (ownLevels area) emptyLevel))
@@ -349,4 +340,4 @@ end-closed P M area out s = record {
         (length-replicate (ownLevels area) emptyLevel)
 
     counted : openCount (P .limit) (length M) + length nodes ≡ treeNodes (P .limit) (length M)
-    counted = rw is (omega (arith, Counts.closing-count P (P .limit) (length M) (levelsOf area) (state-size P (P .limit) M (levelsOf area) (settled (order P M)) (s .state)) (s .head .short)))
+    counted = rw is (omega (arith, Counts.lastNodes-count P (P .limit) (length M) (levelsOf area) (state-size P (P .limit) M (levelsOf area) (settled (order P M)) (s .state)) (s .head .short)))

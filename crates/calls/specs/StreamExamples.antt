@@ -9,10 +9,10 @@ use lib.ListN.{take, drop, set, replicate}
 use Rattle.bits.specs.Bits.{numbers}
 use Rattle.bits.specs.Piece.{Piece, pieceOf}
 use Rattle.compress.specs.Compress.{grown, compressed}
-use Rattle.tree.specs.Tree.{Params, Mark, mostLimit, keyWords, output, noChain, digest, order, digestBytes}
+use Rattle.tree.specs.Tree.{Params, Mark, mostLimit, keyWords, output, noChain, digest, order, digestBytes, outWords, nodeLog}
 use Rattle.refusals.specs.Refusals.{Told}
 use Rattle.calls.specs.Area.{areaWords, countFor, paramsOf, levelsOf, withLevels, emptyLevel, emptyLevels, sound}
-use Rattle.calls.specs.Calls.{Fed, Finished, withBit, outWords, receive, feedBit, feedBits, closeAbove, closing, nodeLog, openNumber, openedArea, openOf, fedBits, feedNumber, fedArea, feedOf, closedBy, endNumber, endedArea, digestOut, endOf, shown, levelOf, logWordsNumber, logWordsOf, areaWordsOf}
+use Rattle.calls.specs.Calls.{AreaLog, Finished, withBit, receive, feedBit, feedBits, lastAbove, lastNodes, openNumber, openedArea, openOf, fedBits, feedNumber, fedArea, feedOf, lastNodesOf, endNumber, endedArea, digestOut, endOf, shown, levelOf, logWordsNumber, logWordsOf, areaWordsOf}
 
 -- a row: the bit counts of the pieces, d and L; U and V of each node, and the digest
 pub record Row : Type 0 where
@@ -77,7 +77,7 @@ calls area bytes [] =
     let e : Finished = endOf area spare spare in
     leftIf (e .number) (record { log = take (2 * e .count) (e .log); digest = take bytes (e .digest) })
 calls area bytes (n ∷ ns) =
-    let f : Fed = feedOf area (ones n) spare in
+    let f : AreaLog = feedOf area (ones n) spare in
     let l : Left = calls (f .area) bytes ns in
     leftIf (f .number) (record { log = take (2 * f .count) (f .log) ++ l .log; digest = l .digest })
 
@@ -91,7 +91,7 @@ unfolding numbers keyWords output noChain compressed grown mathlib.Core.List.fla
 tree-rows = refl
 
 stream-rows : map streamRow rows ≡ rows
-unfolding numbers keyWords output compressed grown paramsOf levelsOf withLevels emptyLevel emptyLevels sound withBit outWords receive feedBit feedBits closeAbove closing openNumber openedArea openOf fedBits feedNumber fedArea feedOf closedBy endNumber endedArea digestOut endOf mathlib.Core.List.flatten
+unfolding numbers keyWords output compressed grown paramsOf levelsOf withLevels emptyLevel emptyLevels sound withBit outWords receive feedBit feedBits lastAbove lastNodes openNumber openedArea openOf fedBits feedNumber fedArea feedOf lastNodesOf endNumber endedArea digestOut endOf mathlib.Core.List.flatten
 stream-rows = refl
 
 pub rows-agree : map streamRow rows ≡ map treeRow rows
@@ -166,5 +166,5 @@ none-shown = (refl, refl, refl)
 
 -- a feed and an end in such a slice leave its words from 80 on, too
 pub tail-kept : (drop 80 (feedOf (openIn 0) (ones 9) [] .area) ≡ replicate 1665 7) × (drop 80 (endOf (openIn 0) spare spare .area) ≡ replicate 1665 7)
-unfolding numbers keyWords output compressed grown paramsOf levelsOf withLevels emptyLevel emptyLevels sound withBit outWords receive feedBit feedBits closeAbove closing openNumber openedArea openOf fedBits feedNumber fedArea feedOf closedBy endNumber endedArea digestOut endOf mathlib.Core.List.flatten
+unfolding numbers keyWords output compressed grown paramsOf levelsOf withLevels emptyLevel emptyLevels sound withBit outWords receive feedBit feedBits lastAbove lastNodes openNumber openedArea openOf fedBits feedNumber fedArea feedOf lastNodesOf endNumber endedArea digestOut endOf mathlib.Core.List.flatten
 tail-kept = (refl, refl)

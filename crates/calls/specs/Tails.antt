@@ -6,9 +6,9 @@ use Prim.Native.Nat.{ℕ, _+_}
 use native.Mathlib.Omega.{arith}
 use lib.ListN.{length, drop, replicate, length-replicate}
 use Rattle.bits.specs.Piece.{Piece, pieceOf, pieceBits}
-use Rattle.tree.specs.Tree.{Params}
+use Rattle.tree.specs.Tree.{Params, logged}
 use Rattle.calls.specs.Area.{areaWords, ownLevels, ownWords, totalOf, compressionsOf, paramsOf, levelsOf, emptyLevel, emptyLevels}
-use Rattle.calls.specs.Calls.{Made, logged, Opened, Fed, Finished, ClosedWith, feedBits, openNumber, openOf, fedBits, feedNumber, fedArea, feedOf, closedBy, endNumber, endedArea, endOf, closeOf}
+use Rattle.calls.specs.Calls.{Made, Opened, AreaLog, Finished, feedBits, openNumber, openOf, fedBits, feedNumber, fedArea, feedOf, lastNodesOf, endNumber, endedArea, endOf, closeOf}
 use Rattle.calls.specs.Machine
 use Rattle.calls.specs.AreaLaws.{Changed, changed}
 use Rattle.calls.specs.Sound.{empty-widths}
@@ -32,10 +32,10 @@ feed-changed area piece log e =
     changed area 1 (totalOf area + piece .count) (compressionsOf area + length (made .nodes)) (made .levels) (q .opened .long) (omega arith) (w .widths) (w .size)
 
 pub end-changed : (area out log : List ℕ) → endNumber area out log ≡ 0 →
-    Changed area 0 2 (compressionsOf area + length (closedBy area)) (emptyLevels (ownLevels area)) (endedArea area (closedBy area))
+    Changed area 0 2 (compressionsOf area + length (lastNodesOf area)) (emptyLevels (ownLevels area)) (endedArea area (lastNodesOf area))
 unfolding endedArea emptyLevels
 end-changed area out log e =
-    changed area 0 2 (compressionsOf area + length (closedBy area)) (replicate (ownLevels area) emptyLevel) (end-passed area out log e .opened .long) (omega arith) (empty-widths (ownLevels area))
+    changed area 0 2 (compressionsOf area + length (lastNodesOf area)) (replicate (ownLevels area) emptyLevel) (end-passed area out log e .opened .long) (omega arith) (empty-widths (ownLevels area))
     (length-replicate (ownLevels area) emptyLevel)
 
 -- ---- "the untouched tail"
@@ -48,7 +48,7 @@ open-tail area P =
 pub feed-tail : (area : List ℕ) (piece : Piece) (log : List ℕ) → drop (ownWords area) (feedOf area piece log .area) ≡ drop (ownWords area) area
 unfolding feedOf
 feed-tail area piece log =
-    answered-by (λ (x : Fed). drop (ownWords area) (x .area) ≡ drop (ownWords area) area) (λ e. feed-changed area piece log e .tail) (λ k. refl)
+    answered-by (λ (x : AreaLog). drop (ownWords area) (x .area) ≡ drop (ownWords area) area) (λ e. feed-changed area piece log e .tail) (λ k. refl)
 
 pub end-tail : (area out log : List ℕ) → drop (ownWords area) (endOf area out log .area) ≡ drop (ownWords area) area
 unfolding endOf
@@ -58,7 +58,7 @@ end-tail area out log =
 pub close-tail : (area figure log : List ℕ) → drop (ownWords area) (closeOf area figure log .area) ≡ drop (ownWords area) area
 unfolding closeOf
 close-tail area figure log =
-    answered-by (λ (x : ClosedWith). drop (ownWords area) (x .area) ≡ drop (ownWords area) area)
+    answered-by (λ (x : AreaLog). drop (ownWords area) (x .area) ≡ drop (ownWords area) area)
     (λ e. let s = close-same area figure log (close-number area figure log ∙ e) in end-changed area figure log (sym (end-number area figure log) ∙ s .0) .tail)
     (λ k. refl)
 
@@ -73,8 +73,8 @@ nothing-fed : (area bytes : List ℕ) (start : ℕ) (log : List ℕ) → (let ma
 nothing-fed area bytes start log = rw (feed-nothing area, none-made area) (refl, refl, refl)
 
 pub feed-none : (area bytes : List ℕ) (start : ℕ) (log : List ℕ) →
-    (let f : Fed = feedOf area (pieceOf bytes start 0) log in (f .area ≡ area) × (f .log ≡ log) × (f .count ≡ 0))
+    (let f : AreaLog = feedOf area (pieceOf bytes start 0) log in (f .area ≡ area) × (f .log ≡ log) × (f .count ≡ 0))
 unfolding feedOf
 feed-none area bytes start log =
-    answered-by (λ (f : Fed). (f .area ≡ area) × (f .log ≡ log) × (f .count ≡ 0))
+    answered-by (λ (f : AreaLog). (f .area ≡ area) × (f .log ≡ log) × (f .count ≡ 0))
     (λ (e : feedNumber area (pieceOf bytes start 0) log ≡ 0). nothing-fed area bytes start log) (λ k. (refl, refl, refl))

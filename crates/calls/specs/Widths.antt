@@ -7,12 +7,10 @@ use native.Mathlib.Omega.{arith}
 use lib.Dec.{eqb}
 use lib.ListN.{length, replicate, length-append, length-take, length-drop}
 use Rattle.lists.specs.Part.{put}
-use lib.Seq.{take-all}
-use Rattle.bits.specs.Bits.{bitsOf}
-use Rattle.bits.specs.BitsLaws.{length-numbers, bitsOf-numbers}
-use Rattle.tree.specs.Tree.{Params, Node, node, output, blockBits, sequentialBits, outputBits}
+use Rattle.tree.specs.Tree.{Params, Node, node, blockBits, sequentialBits, outputBits, outWords}
+use Rattle.tree.specs.OutputLaws.{length-outWords}
 use Rattle.calls.specs.Area.{paramsOf, levelsOf, emptyLevel, doneBlocks, heldBits, areaLevels, Long}
-use Rattle.calls.specs.Calls.{outWords, chained, joinParallel, joinSequential, receive, feedBit, feedBits}
+use Rattle.calls.specs.Calls.{chained, joinParallel, joinSequential, receive, feedBit, feedBits}
 use Rattle.calls.specs.Rows.{AllLen}
 use Rattle.calls.specs.Receive
 use Rattle.calls.specs.Machine
@@ -24,16 +22,6 @@ use Rattle.calls.specs.AreaLaws.{length-levelsOf}
 pub length-empty : length emptyLevel ≡ 64
 unfolding emptyLevel
 length-empty = refl
-
-pub length-outWords : (P : Params) (m : Node) → length (outWords P m) ≡ 16
-unfolding outWords
-length-outWords P m = length-numbers 64 16 (output (P .rounds) m)
-
--- their bits are the output
-pub words-bits : (P : Params) (m : Node) → length (output (P .rounds) m) ≡ outputBits → bitsOf 64 (outWords P m) ≡ output (P .rounds) m
-unfolding outWords
-words-bits P m h =
-    bitsOf-numbers 64 16 (output (P .rounds) m) (omega arith) ∙ take-all outputBits (output (P .rounds) m) (omega arith)
 
 -- a level that an output joined
 pub length-joined : (place : ℕ) (ws out : List ℕ) → length ws ≡ 64 → length out ≡ 16 → place + 16 ≤ 64 → length (put place 16 ws out) ≡ 64

@@ -6,16 +6,19 @@ use Prim.Native.Nat.{ℕ, zero, suc, _+_, _-_, _*_, _^_, _≤_, _<_}
 use native.Mathlib.Omega.{arith}
 use lib.ListN.{length, replicate, length-append}
 use lib.Seq.{length-sets}
-use Rattle.refusals.specs.declared.Params as declared
-use Rattle.tree.specs.Tree.{Params, Node, node, blockBits, sequentialBits}
-use Rattle.calls.specs.Area.{blockWords, outputWords, Long, paramsOf, levelWords, levelsUp, levelsOf, doneBlocks, heldBits}
-use Rattle.calls.specs.Calls.{Made, outWords, chained, nodeLog}
+use Rattle.tree.specs.Tree.{Params, Node, node, blockBits, sequentialBits, outputWords, outWords, nodeLog}
+use Rattle.tree.specs.OutputLaws.{length-outWords}
+use Rattle.calls.specs.Area.{blockWords, Long, paramsOf, levelWords, levelsUp, levelsOf, doneBlocks, heldBits}
+use Rattle.calls.specs.Calls.{Made, chained}
 use Rattle.calls.specs.Machine
-use Rattle.calls.specs.Widths.{Wide, wide-levels, length-chained, length-outWords, receive-widths}
-use Rattle.climb.specs.Levels.{withLevel, Level, up-level, length-empty, first-level, levels-split, with-up}
-use Rattle.node.specs.Words.{nodeWords, paramsFrom, Ready}
+use Rattle.calls.specs.Widths.{Wide, wide-levels, length-chained, receive-widths}
+use Rattle.climb.specs.Levels.{withLevel, HasLevel, up-level, length-empty, first-level, levels-split, with-up}
+use Rattle.node.specs.declared.Keyed.{Keyed}
+use Rattle.node.specs.declared.Place.{Place}
+use Rattle.node.specs.Words.{nodeWords, placed, treeParams, Ready}
+use Rattle.area.specs.CountLaws.{done-fits}
 use Rattle.node.specs.WordLaws.{length-nodeWords}
-use Rattle.climb.specs.MakeLaws.{Logged, node-out}
+use Rattle.climb.specs.MakeLaws.{Logged}
 use Rattle.climb.specs.ReceiveLaws.{made}
 use Rattle.climb.specs.Left.{Left, left-params, left-long, left-levels, left-then}
 use Rattle.climb.specs.PassLaws.{passed, passedWords, Parallel, Passing, passed-node}
@@ -82,11 +85,11 @@ le-at e f h = omega arith
 -- ---- level 1 is flushed
 
 -- what the code needs to flush level 1
-pub record Flushing (key : List ℕ) (params : declared.Params) (constants : List ℕ) (T : ℕ) (area log : List ℕ) (at : ℕ) : Type 0 where
-  pub ready : Ready key params constants
+pub record Flushing (keyed : Keyed) (constants : List ℕ) (T : ℕ) (area log : List ℕ) (at : ℕ) : Type 0 where
+  pub ready : Ready keyed constants
   pub long : Long area
-  pub own : paramsOf area .limit ≡ params .limit
-  pub room : at + 2 * length (flushed (paramsFrom key params) (params .limit) T (levelsOf area) .nodes) ≤ length log
+  pub own : paramsOf area .limit ≡ keyed .params .limit
+  pub room : at + 2 * length (flushed (treeParams keyed) (keyed .params .limit) T (levelsOf area) .nodes) ≤ length log
 
 -- level 1 is sequential, or its output goes up
 module _ (P : Params) (T : ℕ) (area : List ℕ) where
@@ -98,16 +101,16 @@ module _ (P : Params) (T : ℕ) (area : List ℕ) where
   flushed-none (suc n) h = absurd (omega arith)
 
 -- a parallel level 1 whose block has the words ws: its node is made, and its output passed on
-module _ {key : List ℕ} {params : declared.Params} {constants area : List ℕ} (p : Parallel key params constants area) (T : ℕ) (ws : List ℕ)
-    {index : ℕ} {out : List ℕ} (d : index ≡ doneBlocks blockBits T) (o : out ≡ nodeWords (paramsFrom key params) 1 index 0 0 ws) where
+module _ {keyed : Keyed} {constants area : List ℕ} (p : Parallel keyed constants area) (T : ℕ) (ws : List ℕ)
+    {index : ℕ} {out : List ℕ} (d : index ≡ doneBlocks blockBits T) (o : out ≡ nodeWords (treeParams keyed) 1 index 0 0 ws) where
   abbrev R : Params
-  R = paramsFrom key params
+  R = treeParams keyed
 
   abbrev here : Made
-  here = flushed R (params .limit) T (ws ∷ levelsUp area 2)
+  here = flushed R (keyed .params .limit) T (ws ∷ levelsUp area 2)
 
-  is-passed : here ≡ (let m : Node = node R 1 index 0 0 ws in passed R (params .limit - 1) index m (outWords R m) (levelsUp area 2))
-  is-passed = by (params .limit) (p .some)
+  is-passed : here ≡ (let m : Node = node R 1 index 0 0 ws in passed R (keyed .params .limit - 1) index m (outWords R m) (levelsUp area 2))
+  is-passed = by (keyed .params .limit) (p .some)
     where
       by : (limit : ℕ) → 1 ≤ limit
           → flushed R limit T (ws ∷ levelsUp area 2) ≡ (let m : Node = node R 1 index 0 0 ws in passed R (limit - 1) index m (outWords R m) (levelsUp area 2))
@@ -115,25 +118,26 @@ module _ {key : List ℕ} {params : declared.Params} {constants area : List ℕ}
       by (suc n) h = let e : suc n - 1 ≡ n = omega arith in rw (d, e)
 
   module _ {log : List ℕ} {at : ℕ} where
-    passing : index < 2 ^ 56 → at + 2 * length (here .nodes) ≤ length log → Passing key params constants index out area log at
+    passing : index < 2 ^ 56 → at + 2 * length (here .nodes) ≤ length log → Passing keyed constants index out area log at
     passing small room = record {
       parallel = p;
       small = small;
       words = ap length o ∙ length-nodeWords R 1 index 0 0 ws;
-      room = rw (o, node-out R 1 index 0 0 ws) (omega (arith, ap (λ (x : Made). length (x .nodes)) is-passed, room));
+      room = rw o (omega (arith, ap (λ (x : Made). length (x .nodes)) is-passed, room));
     }
 
-    was-passed : {area′ log′ : List ℕ} {at′ : ℕ} → Left (passedWords R (params .limit) index out area) area log at area′ log′ at′ → Left here area log at area′ log′ at′
-    was-passed l = rw is-passed (passed-node R (params .limit) index ws o l)
+    was-passed : {area′ log′ : List ℕ} {at′ : ℕ} → Left (passedWords keyed index out area) area log at area′ log′ at′
+        → Left here area log at area′ log′ at′
+    was-passed l = rw is-passed (passed-node keyed index ws o l)
 
-module _ {key : List ℕ} {params : declared.Params} {constants : List ℕ} {T : ℕ} {area log : List ℕ} {at : ℕ} (f : Flushing key params constants T area log at) where
+module _ {keyed : Keyed} {constants : List ℕ} {T : ℕ} {area log : List ℕ} {at : ℕ} (f : Flushing keyed constants T area log at) where
   abbrev P : Params
-  P = paramsFrom key params
+  P = treeParams keyed
 
   abbrev limit : ℕ
-  limit = params .limit
+  limit = keyed .params .limit
 
-  first : Level area 1
+  first : HasLevel area 1
   first = first-level (f .long)
 
   -- a sequential level 1: the log has room for the node, and the level keeps its output
@@ -154,78 +158,83 @@ module _ {key : List ℕ} {params : declared.Params} {constants : List ℕ} {T :
       }
 
   -- a parallel one passes it on
-  module _ {done : ℕ} {out : List ℕ} (some : 1 ≤ limit) (d : done ≡ doneBlocks blockBits T) (o : out ≡ nodeWords P 1 done 0 0 (levelWords area 1)) where
-    parallel : Parallel key params constants area
+  module _ {done : ℕ} {place : Place} {level out : List ℕ} (some : 1 ≤ limit) (d : done ≡ doneBlocks blockBits T)
+      (ep : place ≡ record { level = 1; index = done; z = 0; p = 0 }) (el : level ≡ levelWords area 1) (o : out ≡ outWords P (placed P place level)) where
+    parallel : Parallel keyed constants area
     parallel = record { ready = f .ready; long = f .long; own = f .own; some = some }
 
-    pub flush-passing : done < 2 ^ 56 → Passing key params constants done out area log at
-    flush-passing small = passing parallel T (levelWords area 1) d o small (rw (levels-split area) at (f .room))
+    pub flush-passing : T < 2 ^ 64 → Passing keyed constants done out area log at
+    flush-passing h = passing parallel T (levelWords area 1) d (rw (ep, el) at o) (omega (arith, d, done-fits T h .0)) (rw (levels-split area) at (f .room))
 
-    pub flush-passed : {area′ log′ : List ℕ} {at′ : ℕ} → Left (passedWords P limit done out area) area log at area′ log′ at′
+    pub flush-passed : {area′ log′ : List ℕ} {at′ : ℕ} → Left (passedWords keyed done out area) area log at area′ log′ at′
         → Left (flushed P limit T (levelsOf area)) area log at area′ log′ at′
-    flush-passed l = rw (levels-split area) (was-passed parallel T (levelWords area 1) d o l)
+    flush-passed l = rw (levels-split area) (was-passed parallel T (levelWords area 1) d (rw (ep, el) at o) l)
 
 -- ---- two nodes of level 1
 
 -- what the code needs to flush the full block that level 1 held, and then the one that it holds
-pub record FlushingTwo (key : List ℕ) (params : declared.Params) (constants : List ℕ) (T : ℕ) (held area log : List ℕ) (at : ℕ) : Type 0 where
-  pub parallel : Parallel key params constants area
+pub record FlushingTwo (keyed : Keyed) (constants : List ℕ) (T : ℕ) (held area log : List ℕ) (at : ℕ) : Type 0 where
+  pub parallel : Parallel keyed constants area
   pub full : heldBits blockBits T ≡ blockBits
   pub words : length held ≡ blockWords
-  pub room : at + 2 * length (flushedTwo (paramsFrom key params) (params .limit) T held (levelsOf area) .nodes) ≤ length log
+  pub room : at + 2 * length (flushedTwo (treeParams keyed) (keyed .params .limit) T held (levelsOf area) .nodes) ≤ length log
 
-module _ {key : List ℕ} {params : declared.Params} {constants : List ℕ} {T : ℕ} {held area log : List ℕ} {at : ℕ} (f : FlushingTwo key params constants T held area log at) where
+module _ {keyed : Keyed} {constants : List ℕ} {T : ℕ} {held area log : List ℕ} {at : ℕ} (f : FlushingTwo keyed constants T held area log at) where
   abbrev Q : Params
-  Q = paramsFrom key params
+  Q = treeParams keyed
 
   abbrev one : Made
-  one = flushed Q (params .limit) T (held ∷ levelsUp area 2)
+  one = flushed Q (keyed .params .limit) T (held ∷ levelsUp area 2)
 
   abbrev two : Made
-  two = flushed Q (params .limit) (T + blockBits) (levelWords area 1 ∷ restOf (one .levels))
+  two = flushed Q (keyed .params .limit) (T + blockBits) (levelWords area 1 ∷ restOf (one .levels))
 
-  both : flushedTwo Q (params .limit) T held (levelsOf area) ≡ made (two .levels) (one .nodes ++ two .nodes)
-  both = ap (flushedTwo Q (params .limit) T held) (levels-split area)
+  both : flushedTwo Q (keyed .params .limit) T held (levelsOf area) ≡ made (two .levels) (one .nodes ++ two .nodes)
+  both = ap (flushedTwo Q (keyed .params .limit) T held) (levels-split area)
 
-  counted : length (flushedTwo Q (params .limit) T held (levelsOf area) .nodes) ≡ length (one .nodes) + length (two .nodes)
+  counted : length (flushedTwo Q (keyed .params .limit) T held (levelsOf area) .nodes) ≡ length (one .nodes) + length (two .nodes)
   counted = ap (λ (x : Made). length (x .nodes)) both ∙ length-append (one .nodes) (two .nodes)
-
-  -- the first
-  module _ {index : ℕ} {out : List ℕ} (d : index ≡ doneBlocks blockBits T) (o : out ≡ nodeWords Q 1 index 0 0 held) where
-    pub first-passing : index < 2 ^ 56 → Passing key params constants index out area log at
-    first-passing small = passing (f .parallel) T held d o small (omega (arith, f .room, counted))
-
-    pub first-passed : {area₁ log₁ : List ℕ} {at₁ : ℕ} → Left (passedWords Q (params .limit) index out area) area log at area₁ log₁ at₁
-        → Left one area log at area₁ log₁ at₁
-    first-passed l = was-passed (f .parallel) T held d o l
 
   wide : Wide (paramsOf area .limit) (one .levels)
   wide =
-      wide-flushed Q (params .limit) T (held ∷ levelsUp area 2)
+      wide-flushed Q (keyed .params .limit) T (held ∷ levelsUp area 2)
       (rw (levels-split area) at (wide-next held (levelsOf area) (f .words) (wide-levels area (f .parallel .long))))
 
-  -- the second, of the index after it
-  module _ {area₁ log₁ : List ℕ} {at₁ : ℕ} (l : Left one area log at area₁ log₁ at₁) {index : ℕ} {out : List ℕ}
-      (d : index ≡ doneBlocks blockBits T + 1) (o : out ≡ nodeWords Q 1 index 0 0 (levelWords area 1)) where
-    second : index ≡ doneBlocks blockBits (T + blockBits)
-    second = omega (arith, f .full)
+  -- the two as the code makes them: one after the other by index, of the block that was held and of level 1
+  module _ {index : ℕ} {place next : Place} {level out out₂ : List ℕ} (d : index ≡ doneBlocks blockBits T)
+      (ep : place ≡ record { level = 1; index = index; z = 0; p = 0 }) (en : next ≡ record { level = 1; index = index + 1; z = 0; p = 0 })
+      (el : level ≡ levelWords area 1) (o : (out ≡ outWords Q (placed Q place held)) × (out₂ ≡ outWords Q (placed Q next level))) where
+    o₁ : out ≡ nodeWords Q 1 index 0 0 held
+    o₁ = rw ep at (o .0)
 
-    parallel₁ : Parallel key params constants area₁
-    parallel₁ = record {
-      ready = f .parallel .ready;
-      long = left-long (f .parallel .long) wide l;
-      own = rw (left-params (f .parallel .long) wide l) (f .parallel .own);
-      some = f .parallel .some;
-    }
+    pub first-passing : T < 2 ^ 64 → Passing keyed constants index out area log at
+    first-passing h = passing (f .parallel) T held d o₁ (omega (arith, d, done-fits T h .0)) (omega (arith, f .room, counted))
 
-    above : levelsUp area₁ 2 ≡ restOf (one .levels)
-    above = ap restOf (sym (levels-split area₁) ∙ left-levels (f .parallel .long) wide l)
+    -- the second, where the first has been passed on
+    module _ {area₁ log₁ : List ℕ} {at₁ : ℕ} (p : Left (passedWords keyed index out area) area log at area₁ log₁ at₁) where
+      l : Left one area log at area₁ log₁ at₁
+      l = was-passed (f .parallel) T held d o₁ p
 
-    pub second-passing : index < 2 ^ 56 → Passing key params constants index out area₁ log₁ at₁
-    second-passing small =
-        passing parallel₁ (T + blockBits) (levelWords area 1) second o small
-        (rw above (omega (arith, f .room, counted, l .next, ap length (l .logged) ∙ length-sets log at (nodeLog (one .nodes)))))
+      second : index + 1 ≡ doneBlocks blockBits (T + blockBits)
+      second = omega (arith, d, f .full)
 
-    pub second-passed : {area₂ log₂ : List ℕ} {at₂ : ℕ} → Left (passedWords Q (params .limit) index out area₁) area₁ log₁ at₁ area₂ log₂ at₂
-        → Left (flushedTwo Q (params .limit) T held (levelsOf area)) area log at area₂ log₂ at₂
-    second-passed m = rw both (left-then (f .parallel .long) wide l (rw above at (was-passed parallel₁ (T + blockBits) (levelWords area 1) second o m)))
+      parallel₁ : Parallel keyed constants area₁
+      parallel₁ = record {
+        ready = f .parallel .ready;
+        long = left-long (f .parallel .long) wide l;
+        own = rw (left-params (f .parallel .long) wide l) (f .parallel .own);
+        some = f .parallel .some;
+      }
+
+      above : levelsUp area₁ 2 ≡ restOf (one .levels)
+      above = ap restOf (sym (levels-split area₁) ∙ left-levels (f .parallel .long) wide l)
+
+      pub second-passing : T < 2 ^ 64 → Passing keyed constants (index + 1) out₂ area₁ log₁ at₁
+      second-passing h =
+          passing parallel₁ (T + blockBits) (levelWords area 1) second (rw (en, el) at (o .1)) (omega (arith, d, done-fits T h .0))
+          (rw above (omega (arith, f .room, counted, l .next, ap length (l .logged) ∙ length-sets log at (nodeLog (one .nodes)))))
+
+      pub second-passed : {area₂ log₂ : List ℕ} {at₂ : ℕ} → Left (passedWords keyed (index + 1) out₂ area₁) area₁ log₁ at₁ area₂ log₂ at₂
+          → Left (flushedTwo Q (keyed .params .limit) T held (levelsOf area)) area log at area₂ log₂ at₂
+      second-passed m =
+          rw both (left-then (f .parallel .long) wide l (rw above at (was-passed parallel₁ (T + blockBits) (levelWords area 1) second (rw (en, el) at (o .1)) m)))

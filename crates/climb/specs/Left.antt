@@ -5,9 +5,10 @@ use Prim.Native.Nat.{ℕ, _+_, _*_}
 use native.Mathlib.Omega.{arith}
 use lib.ListN.{length, length-append}
 use lib.Seq.{sets}
+use Rattle.tree.specs.Tree.{nodeLog}
 use Rattle.calls.specs.Area.{Long, paramsOf, levelsOf, withLevels}
 use Rattle.calls.specs.AreaLaws.{length-withLevels, params-withLevels, levelsOf-withLevels}
-use Rattle.calls.specs.Calls.{Made, nodeLog}
+use Rattle.calls.specs.Calls.{Made}
 use Rattle.calls.specs.Widths.{Wide}
 use Rattle.calls.specs.WriteLaws.{withLevels-again}
 use Rattle.climb.specs.ReceiveLaws.{made, log-append}

@@ -1,19 +1,18 @@
 -- Laws: an area as its levels: one level replaced, and all levels from one on. The contracts of the code's own steps cite these.
 use mathlib.Core.Path.{_≡_, refl, sym, ap, _∙_}
+use mathlib.Core.Bool.{Bool, true, false}
 use mathlib.Core.List.{List, _∷_, _++_, append-assoc, append-nil, flatten}
-use Prim.Native.Nat.{ℕ, zero, suc, _+_, _-_, _*_, _≤_, _<_}
+use Prim.Native.Nat.{ℕ, zero, suc, _+_, _-_, _*_, _%_, _≤_, _<_}
 use native.Mathlib.Omega.{arith}
 use lib.ListN.{length, take, drop, replicate, take-append-drop}
 use lib.Seq.{paste, take-at, drop-at, take-all, drop-drop, length-take-le, take-append-le, take-take}
 use Rattle.lists.specs.Part.{put}
 use Rattle.lists.specs.PartLaws.{put-length, put-take, put-drop}
-use Rattle.tree.specs.Tree.{Params}
-use Rattle.calls.specs.Area.{areaWords, headWords, blockWords, outputWords, ownLevels, ownWords, Long, paramsOf, levelsUp, levelWords, levelsFrom, levelsOf, withLevels, emptyLevel}
+use Rattle.tree.specs.Tree.{Params, outputWords}
+use Rattle.calls.specs.Area.{areaWords, levelStart, headWords, blockWords, ownLevels, ownWords, Long, paramsOf, levelsUp, levelWords, levelsFrom, withLevels, emptyLevel}
 use Rattle.calls.specs.AreaLaws.{same-head}
 pub use Rattle.calls.specs.AreaLaws.{levels-split}
 use Rattle.calls.specs.FeedLaws.{flatten-from}
-pub use Rattle.tree.specs.Tree.{Params}
-use Rattle.calls.specs.Area.{areaWords, levelStart}
 pub use Rattle.calls.specs.Widths.{length-joined, length-empty}
 use Rattle.area.specs.SoundLaws.{LevelPart}
 
@@ -24,6 +23,15 @@ withLevel area k ws = put (levelStart k) blockWords area ws
 -- an area with other levels from a level on
 abbrev pub upArea : List ℕ → ℕ → List (List ℕ) → List ℕ
 upArea area k levels = take (levelStart k) area ++ (flatten levels ++ drop (ownWords area) area)
+
+-- where output i goes in the block of a level
+abbrev pub outputPlace : Bool → ℕ → ℕ
+outputPlace true i = outputWords + outputWords * (i % 3)
+outputPlace false i = outputWords * (i % 4)
+
+pub place-fits : (sequential : Bool) (i : ℕ) → outputPlace sequential i + outputWords ≤ blockWords
+place-fits true i = omega arith
+place-fits false i = omega arith
 
 -- ---- a part of a list replaced
 
@@ -65,12 +73,18 @@ level-copied {part = part} l e = e ∙ paste-put (replicate blockWords 0) 0 bloc
 -- ---- one level replaced
 
 -- a level of an area that has all its words
-pub record Level (area : List ℕ) (k : ℕ) : Type 0 where
+pub record HasLevel (area : List ℕ) (k : ℕ) : Type 0 where
   pub long : Long area
   pub low : 1 ≤ k
   pub high : k ≤ ownLevels area
 
-module _ {area : List ℕ} {k : ℕ} (l : Level area k) (ws : List ℕ) (size : length ws ≡ blockWords) where
+-- an output fits a place of a level's block
+pub record Joins (area : List ℕ) (k place : ℕ) (out : List ℕ) : Type 0 where
+  pub level : HasLevel area k
+  pub inside : place + outputWords ≤ blockWords
+  pub words : length out ≡ outputWords
+
+module _ {area : List ℕ} {k : ℕ} (l : HasLevel area k) (ws : List ℕ) (size : length ws ≡ blockWords) where
   fits : levelStart k + blockWords ≤ length area
   fits = omega arith
 
@@ -85,7 +99,7 @@ module _ {area : List ℕ} {k : ℕ} (l : Level area k) (ws : List ℕ) (size : 
       ∙ take-take headWords (levelStart k) area (omega arith))
 
   -- it is a level of what is left, too
-  pub level-still : {area₁ : List ℕ} → area₁ ≡ withLevel area k ws → Level area₁ k
+  pub level-still : {area₁ : List ℕ} → area₁ ≡ withLevel area k ws → HasLevel area₁ k
   level-still e = record { long = rw (e, length-with, params-with) (l .long); low = l .low; high = rw (e, params-with) (l .high) }
 
   pub level-with : levelWords (withLevel area k ws) k ≡ ws
@@ -130,7 +144,7 @@ up-same area k h g =
     rw (flatten-from area (ownLevels area + 1 - k) k h, d) (ap (λ (x : List ℕ). take a area ++ x) (take-append-drop n (drop a area)) ∙ take-append-drop a area)
 
 -- a level replaced, those above it as they are
-pub up-level : {area : List ℕ} {k : ℕ} (l : Level area k) (ws : List ℕ) → length ws ≡ blockWords → withLevel area k ws ≡ upArea area k (ws ∷ levelsUp area (k + 1))
+pub up-level : {area : List ℕ} {k : ℕ} (l : HasLevel area k) (ws : List ℕ) → length ws ≡ blockWords → withLevel area k ws ≡ upArea area k (ws ∷ levelsUp area (k + 1))
 up-level {area} {k} l ws size =
     sym
     (up-step l ws size (levelsUp area (k + 1))
@@ -144,11 +158,11 @@ with-up area L = refl
 
 -- ---- a level lent by the code
 
-pub lent-put : (area : List ℕ) (k : ℕ) (ws : List ℕ) → put (levelStart k) ((levelStart k + blockWords) - levelStart k) area ws ≡ withLevel area k ws
-lent-put area k ws = let e : (levelStart k + blockWords) - levelStart k ≡ blockWords = omega arith in rw e
+pub lent-size : (a : ℕ) → (a + blockWords) - a ≡ blockWords
+lent-size a = omega arith
 
-pub lent-size : (k : ℕ) → (levelStart k + blockWords) - levelStart k ≡ blockWords
-lent-size k = omega arith
+pub lent-put : (area : List ℕ) (k : ℕ) (ws : List ℕ) → put (levelStart k) ((levelStart k + blockWords) - levelStart k) area ws ≡ withLevel area k ws
+lent-put area k ws = rw (lent-size (levelStart k))
 
 -- words copied into a lent level
 pub lent-join : (area : List ℕ) (k place : ℕ) (out : List ℕ) → length out ≡ outputWords
@@ -156,11 +170,11 @@ pub lent-join : (area : List ℕ) (k place : ℕ) (out : List ℕ) → length ou
     ≡ withLevel area k (put place outputWords (levelWords area k) out)
 lent-join area k place out h =
     lent-put area k (paste (take ((levelStart k + blockWords) - levelStart k) (drop (levelStart k) area)) place out (length out))
-    ∙ ap (λ (n : ℕ). withLevel area k (paste (take n (drop (levelStart k) area)) place out (length out))) (lent-size k)
+    ∙ ap (λ (n : ℕ). withLevel area k (paste (take n (drop (levelStart k) area)) place out (length out))) (lent-size (levelStart k))
     ∙ ap (withLevel area k) (paste-put (levelWords area k) place outputWords out h)
 
 -- a level cleared, and an output put in front
-pub chain-made : {area : List ℕ} {k : ℕ} (l : Level area k) (out : List ℕ)
+pub chain-made : {area : List ℕ} {k : ℕ} (l : HasLevel area k) (out : List ℕ)
     → withLevel (withLevel area k emptyLevel) k (put 0 outputWords (levelWords (withLevel area k emptyLevel) k) out) ≡ withLevel area k (out ++ replicate (blockWords - outputWords) 0)
 unfolding emptyLevel
 chain-made {area} {k} l out =
@@ -169,9 +183,9 @@ chain-made {area} {k} l out =
 
 -- ---- level 1
 
-pub first-level : {area : List ℕ} → Long area → Level area 1
+pub first-level : {area : List ℕ} → Long area → HasLevel area 1
 first-level h = record { long = h; low = omega arith; high = omega arith }
 
 -- level 1 replaced, the others as they are
 pub with-first : (area ws : List ℕ) → Long area → length ws ≡ blockWords → withLevels area (ws ∷ levelsUp area 2) ≡ withLevel area 1 ws
-with-first area ws long size = let l : Level area 1 = first-level long in with-up area (ws ∷ levelsUp area 2) ∙ sym (up-level l ws size)
+with-first area ws long size = let l : HasLevel area 1 = first-level long in with-up area (ws ∷ levelsUp area 2) ∙ sym (up-level l ws size)

@@ -1,15 +1,14 @@
 // How an output goes up: it is given to a level, and a level whose block is full then is compressed.
-ghost use Rattle.node.specs.Words.{paramsFrom};
+ghost use Prim.Native.Nat.{_<_};
 ghost use Rattle.climb.specs.ReceiveLaws.{received, Coming, Climbed};
 use super::level;
 use area::Area;
-use refusals::Params;
+use node::Keyed;
 
 // An output comes to the sequential level: it is given to the level, which is compressed if its block is full then.
 fn receive_last(
     area: &mut [u64],
-    params: Params,
-    key: &[u64],
+    keyed: Keyed,
     constants: &[u64],
     level: usize,
     i: u64,
@@ -17,53 +16,51 @@ fn receive_last(
     log: &mut [u64],
     at: usize,
 ) -> usize
-    requires { ⌜ Coming (now key) params (now constants) 0 level i (now out) (now area) (now log) at ⌝ }
-    ensures { λ r. ⌜ Climbed level (received (paramsFrom (now (key .entry)) params) 0 level i (now (out .entry)) (now (area .entry))) (now (area .entry)) (now (log .entry)) at (now (area .exit)) (now (log .exit)) r ⌝ }
+    requires { ⌜ Coming keyed (now constants) level i (now out) (now area) (now log) at ⌝ }
+    requires { ⌜ keyed .params .limit < level ⌝ }
+    ensures { λ r. ⌜ Climbed level (received keyed level i (now (out .entry)) (now (area .entry)))
+        (now (area .entry)) (now (log .entry)) at (now (area .exit)) (now (log .exit)) r ⌝ }
 {
-    let place = Area::OUTPUT + Area::OUTPUT * ((i % 3) as usize);
-    level::join(&mut *area, level, place, out);
+    level::join(&mut *area, level, super::output_place(true, i), out);
     if i % 3 != 2 {
         return at;
     }
-    let made = level::make_level(area, params, key, constants, level, i / 3, log, at);
+    let made = level::make_level(area, keyed, constants, level, i / 3, log, at);
     level::chain_level(&mut *area, level, &made);
     at + 2
 }
 
-// An output comes to level 2, when so many came before and so many levels from it up may be parallel. It is given to the
-// level; a level whose block is full then is compressed, and its output goes to the level above.
+// An output comes to level 2, when so many came before. It is given to the level; a parallel level whose block is full then is
+// compressed, and its output goes to the level above.
 pub fn receive(
     area: &mut [u64],
-    params: Params,
-    key: &[u64],
+    keyed: Keyed,
     constants: &[u64],
-    levels: u64,
     outputs: u64,
     first: [u64; 16],
     log: &mut [u64],
     start: usize,
 ) -> usize
-    requires { ⌜ Coming (now key) params (now constants) levels 2 outputs first (now area) (now log) start ⌝ }
-    ensures { λ r. ⌜ Climbed 2 (received (paramsFrom (now (key .entry)) params) levels 2 outputs first (now (area .entry))) (now (area .entry)) (now (log .entry)) start (now (area .exit)) (now (log .exit)) r ⌝ }
+    requires { ⌜ Coming keyed (now constants) 2 outputs first (now area) (now log) start ⌝ }
+    ensures { λ r. ⌜ Climbed 2 (received keyed 2 outputs first (now (area .entry)))
+        (now (area .entry)) (now (log .entry)) start (now (area .exit)) (now (log .exit)) r ⌝ }
 {
-    let mut n = levels;
     let mut i = outputs;
     let mut out = first;
     let mut at = start;
     let mut k: usize = 2;
     while k <= Area::LEVELS {
-        if n < 1 {
-            return receive_last(area, params, key, constants, k, i, &out, log, at);
+        if keyed.params.limit < k as u64 {
+            return receive_last(area, keyed, constants, k, i, &out, log, at);
         }
-        level::join(&mut *area, k, Area::OUTPUT * ((i % 4) as usize), &out);
+        level::join(&mut *area, k, super::output_place(false, i), &out);
         if i % 4 != 3 {
             return at;
         }
-        let next = level::make_level(area, params, key, constants, k, i / 4, log, at);
+        let next = level::make_level(area, keyed, constants, k, i / 4, log, at);
         level::clear_level(&mut *area, k);
         out = next;
         at += 2;
-        n -= 1;
         i = i / 4;
         k += 1;
     }

@@ -16,7 +16,7 @@ use Rattle.tree.specs.TreeLaws.{above, levels-some, rootOf-cons, parallel-sized
 use Rattle.tree.specs.Places.{root-stands-levels}
 use Rattle.collision.specs.Clash.{Clash}
 use Rattle.collision.specs.Nodes.{Apart, same-outputs}
-use Rattle.collision.specs.Level.{parallel-inj, Earlier, sequential-walk}
+use Rattle.collision.specs.OneLevel.{parallel-inj, Earlier, sequential-walk}
 
 -- what is not the root's place of the levels above is not that of the whole
 pub below-root : (ns : List Node) (S : List (List Node)) (l i : ℕ) → ¬ RootAt S (suc l) i → ¬ RootAt (ns ∷ S) (suc (suc l)) i

@@ -1,9 +1,9 @@
 pub mod Clash
-pub mod Nodes
-pub mod Level
-pub mod Descent
 pub mod Collision
-pub mod Worked
-pub mod Vocabulary
+pub mod Descent
 pub mod HashCollision
+pub mod OneLevel
+pub mod Nodes
+pub mod Vocabulary
 pub mod Windows
+pub mod Worked

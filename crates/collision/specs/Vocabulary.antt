@@ -13,7 +13,7 @@ use Rattle.lists.specs.Append.{cons-eq}
 use Rattle.tree.specs.Tree.{Params, Valid, Node, tree, root, rootOf}
 use Rattle.tree.specs.Place.{levelAt, nodeAt, RootAt}
 use Rattle.tree.specs.Places.{no-node, tree-place, levels-filled, root-at, root-place}
-use Rattle.tree.specs.Terms.{rootLevel, rootIndex}
+use Rattle.tree.specs.Vocabulary.{rootLevel, rootIndex}
 use Rattle.collision.specs.Clash.{Clash}
 use Rattle.collision.specs.Descent.{descend}
 use Rattle.collision.specs.Collision.{same-params}

@@ -163,5 +163,8 @@ part-out xs e m h l =
 abbrev small : ℕ → ℕ → Bool
 small k x = ltb x 64
 
-pub small-shift : (xs : List ℕ) → T (every small 0 xs) → (k : ℕ) → k < length xs → getD xs k 0 < 64
+small-shift : (xs : List ℕ) → T (every small 0 xs) → (k : ℕ) → k < length xs → getD xs k 0 < 64
 small-shift xs t k h = ltb→lt (getD xs k 0) 64 (at small xs t k h)
+
+pub small-shifts : (j : ℕ) → j < 16 → (getD shiftsR j 0 < 64) × (getD shiftsT j 0 < 64)
+small-shifts j h = (small-shift shiftsR tt j h, small-shift shiftsT tt j h)

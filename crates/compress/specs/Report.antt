@@ -14,7 +14,8 @@ linearTerms s an a0 = bitXor (bitXor s an) a0
 abbrev pub quadraticTerms : ℕ → ℕ → ℕ → ℕ → ℕ → ℕ
 quadraticTerms x a1 a2 a3 a4 = bitXor (bitXor x (bitAnd a1 a2)) (bitAnd a3 a4)
 
--- the four lines, one after the other; lines 3 and 4, which document 01 has in the same form, are "x = x xor (x >> r[i-n])" and "A[i] = x xor (x << l[i-n])"
+-- the four lines, one after the other; lines 3 and 4, which document 01 has in the same form, are "x = x xor (x >> r[i-n])" and
+-- "A[i] = x xor (x << l[i-n])"
 unfoldable pub reportStep : ℕ → ℕ → ℕ → ℕ → ℕ → ℕ → ℕ → ℕ → ℕ → ℕ
 reportStep s an a0 a1 a2 a3 a4 r l =
     let x₁ : ℕ = linearTerms s an a0 in

@@ -53,23 +53,28 @@ pub fn q_words() -> [u64; 15]
     Q_WORDS
 }
 
+// The shifts of a step: the report's r[i-n] and l[i-n], document 01's R and T.
+struct Shifts {
+    r: u64,
+    l: u64,
+}
+
 // The new word of a step, line for line as figure 2.10 of the report has it: s is the constant, an is A[i-n], a0 to a4 are
-// A[i-t0] to A[i-t4], r and l are the shifts. Document 01 calls them S; A[i-89]; A[i-17], A[i-18], A[i-21], A[i-31] and
-// A[i-67]; R and T.
-fn step(s: u64, an: u64, a0: u64, a1: u64, a2: u64, a3: u64, a4: u64, r: u64, l: u64) -> u64
-    requires { ⌜ (r < 64) × (l < 64) ⌝ }
-    ensures { λ x. ⌜ x ≡ reportStep s an a0 a1 a2 a3 a4 r l ⌝ }
+// A[i-t0] to A[i-t4]. Document 01 calls them S; A[i-89]; A[i-17], A[i-18], A[i-21], A[i-31] and A[i-67].
+fn step(s: u64, an: u64, a0: u64, a1: u64, a2: u64, a3: u64, a4: u64, by: Shifts) -> u64
+    requires { ⌜ (by .r < 64) × (by .l < 64) ⌝ }
+    ensures { λ x. ⌜ x ≡ reportStep s an a0 a1 a2 a3 a4 (by .r) (by .l) ⌝ }
 {
     let x1 = s ^ an ^ a0;
     let x2 = x1 ^ (a1 & a2) ^ (a3 & a4);
-    let x3 = x2 ^ (x2 >> r);
-    x3 ^ (x3 << l)
+    let x3 = x2 ^ (x2 >> by.r);
+    x3 ^ (x3 << by.l)
 }
 
 // The word to be written at place p of a buffer, from those before it in its lane.
-fn new_word(a: &[u64], lanes: usize, p: usize, s: u64, r: u64, t: u64) -> u64
-    requires { ⌜ (1 ≤ lanes) × (lanes ≤ 2) × (lanes * 89 ≤ p) × (p < length (now a)) × (r < 64) × (t < 64) ⌝ }
-    ensures { λ x. ⌜ x ≡ newWord lanes p s r t (now (a .entry)) ⌝ }
+fn new_word(a: &[u64], lanes: usize, p: usize, s: u64, by: Shifts) -> u64
+    requires { ⌜ (1 ≤ lanes) × (lanes ≤ 2) × (lanes * 89 ≤ p) × (p < length (now a)) × (by .r < 64) × (by .l < 64) ⌝ }
+    ensures { λ x. ⌜ x ≡ newWord lanes p s (by .r) (by .l) (now (a .entry)) ⌝ }
 {
     step(
         s,
@@ -79,17 +84,16 @@ fn new_word(a: &[u64], lanes: usize, p: usize, s: u64, r: u64, t: u64) -> u64
         a[p - lanes * 21],
         a[p - lanes * 31],
         a[p - lanes * 67],
-        r,
-        t,
+        by,
     )
 }
 
 // Writes word i of the only lane.
-fn add_word(a: &mut [u64], i: usize, s: u64, r: u64, t: u64)
-    requires { ⌜ (89 ≤ i) × (i < length (now a)) × (r < 64) × (t < 64) ⌝ }
-    ensures { λ _. ⌜ now (a .exit) ≡ putAt i s r t (now (a .entry)) ⌝ }
+fn add_word(a: &mut [u64], i: usize, s: u64, by: Shifts)
+    requires { ⌜ (89 ≤ i) × (i < length (now a)) × (by .r < 64) × (by .l < 64) ⌝ }
+    ensures { λ _. ⌜ now (a .exit) ≡ putAt i s (by .r) (by .l) (now (a .entry)) ⌝ }
 {
-    a[i] = new_word(a, 1, i, s, r, t);
+    a[i] = new_word(a, 1, i, s, by);
 }
 
 // Writes the 16 words of a round from i on, of the only lane.
@@ -101,7 +105,7 @@ fn one_lane_round(a: &mut [u64], i: usize, s: u64)
     let ts = SHIFTS_T;
     let mut j = 0;
     while j < ROUND {
-        add_word(a, i + j, s, rs[j], ts[j]);
+        add_word(a, i + j, s, Shifts { r: rs[j], l: ts[j] });
         j += 1;
     }
 }
@@ -133,7 +137,8 @@ fn move_to_front(a: &mut [u64], b: usize, n: usize)
 // Where the next round is written: at, or 89 after the last 89 words of each lane of a full buffer were moved to its front.
 fn next_place(a: &mut [u64], lanes: usize, at: usize) -> usize
     requires { ⌜ Placed lanes (now a) at ⌝ }
-    ensures { λ r. ⌜ Placed lanes (now (a .exit)) r × (r + 16 ≤ 345) × ((j : ℕ) → j < lanes → before r (lane lanes j (now (a .exit))) ≡ before at (lane lanes j (now (a .entry)))) ⌝ }
+    ensures { λ r. ⌜ Placed lanes (now (a .exit)) r × (r + 16 ≤ 345)
+        × ((j : ℕ) → j < lanes → before r (lane lanes j (now (a .exit))) ≡ before at (lane lanes j (now (a .entry)))) ⌝ }
 {
     if at < BUFFER {
         at
@@ -153,7 +158,8 @@ fn least(a: usize, b: usize) -> usize
 // So many rounds with the first constants of a part, written from `at` on. The place after them.
 fn some_rounds(a: &mut [u64], lanes: usize, at: usize, part: &[u64], n: usize) -> usize
     requires { ⌜ Placed lanes (now a) at × (n ≤ length (now part)) ⌝ }
-    ensures { λ r. ⌜ Placed lanes (now (a .exit)) r × ((q : ℕ) → RoundTable q (now (part .entry)) → Advances lanes q (q + n) at (now (a .entry)) r (now (a .exit))) ⌝ }
+    ensures { λ r. ⌜ Placed lanes (now (a .exit)) r
+        × ((q : ℕ) → RoundTable q (now (part .entry)) → Advances lanes q (q + n) at (now (a .entry)) r (now (a .exit))) ⌝ }
 {
     let mut place = at;
     let mut k = 0;
@@ -170,7 +176,8 @@ fn some_rounds(a: &mut [u64], lanes: usize, at: usize, part: &[u64], n: usize) -
 // test says again what the loop's says, so that the compiler leaves out the loop where it is not needed.
 fn later_rounds(a: &mut [u64], lanes: usize, at: usize, rounds: usize) -> usize
     requires { ⌜ Placed lanes (now a) at × (rounds ≤ tableEntries) ⌝ }
-    ensures { λ r. ⌜ Placed lanes (now (a .exit)) r × Advances lanes (min rounds partEntries) rounds at (now (a .entry)) r (now (a .exit)) ⌝ }
+    ensures { λ r. ⌜ Placed lanes (now (a .exit)) r
+        × Advances lanes (min rounds partEntries) rounds at (now (a .entry)) r (now (a .exit)) ⌝ }
 {
     if rounds <= PART {
         return at;

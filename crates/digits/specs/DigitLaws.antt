@@ -169,12 +169,14 @@ words-exact n {ws} rest h e = rw (← e) (words-back rest h)
 
 -- ---- bytes
 
-length-bytesOf : (ds bs : List ℕ) → bytesOf ds ≡ some bs → length ds ≡ 2 * length bs
+-- two digits a byte: an odd count of digits spells no bytes
+pub length-bytesOf : (ds bs : List ℕ) → bytesOf ds ≡ some bs → length ds ≡ 2 * length bs
 length-bytesOf [] bs e = let k : [] ≡ bs = cc in rw (← k)
 length-bytesOf (a ∷ []) bs e = absurd (Option·none-ne-some bs e)
 length-bytesOf (a ∷ b ∷ ds) bs e = by (spelt 0 (a ∷ b ∷ [])) (bytesOf ds) (length-bytesOf ds) e
   where
-    by : (x : Option ℕ) (o : Option (List ℕ)) → ((vs : List ℕ) → o ≡ some vs → length ds ≡ 2 * length vs) → withWord x o ≡ some bs → suc (suc (length ds)) ≡ 2 * length bs
+    by : (x : Option ℕ) (o : Option (List ℕ)) → ((vs : List ℕ) → o ≡ some vs → length ds ≡ 2 * length vs) → withWord x o ≡ some bs
+        → suc (suc (length ds)) ≡ 2 * length bs
     by none o more e = absurd (Option·none-ne-some bs e)
     by (some w) none more e = absurd (Option·none-ne-some bs e)
     by (some w) (some vs) more e =

@@ -1,5 +1,5 @@
+pub mod DigitLaws
+pub mod Digits
 pub mod Hex
 pub mod HexLaws
-pub mod Digits
-pub mod DigitLaws
 pub mod Loops

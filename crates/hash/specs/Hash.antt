@@ -49,4 +49,6 @@ roundsByDefault d keyBytes = cond (ltb 0 keyBytes) (max leastKeyedRounds (unkeye
 -- "The call that tells the default now takes the key length and refuses 1, then 2"; "a count: .. for default rounds r"
 unfoldable pub defaultRoundsOf : ℕ → ℕ → Told
 defaultRoundsOf d keyBytes =
-    answerOf (firstRefusal (sizeTests d keyBytes)) record { number = 0; count = roundsByDefault d keyBytes } (λ k. record { number = k; count = 0 })
+    answerOf (firstRefusal (sizeTests d keyBytes))
+    record { number = 0; count = roundsByDefault d keyBytes }
+    (λ k. record { number = k; count = 0 })

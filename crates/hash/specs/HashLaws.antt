@@ -1,26 +1,27 @@
 -- Laws: of Hash: the answers of a call that is refused or accepted, and the digest.
 use mathlib.Core.Path.{_≡_, refl, sym, ap, _∙_}
-use mathlib.Core.Bool.{Bool, false}
+use mathlib.Core.Bool.{Bool, true, false, cond}
 use mathlib.Core.List.{List, [], _∷_, _++_}
 use Prim.Native.Nat.{ℕ, suc, _-_, _≤_}
 use borrow.Author.Tests.{ltb-false}
+use lib.Dec.{ltb}
 use lib.ListN.{length, drop, replicate}
 use Rattle.lists.specs.Below.{Below}
 use Rattle.bits.specs.Bits.{bitsOf, numbers}
 use Rattle.constants.specs.Constants.{RoundTable, partEntries}
 use Rattle.tree.specs.Tree.{Params, keyWords, digest, order, digestBytes}
 use Rattle.tree.specs.TreeLaws.{length-keyWords, key-back}
-use Rattle.bits.specs.Piece.{Piece, pieceBits, bitsTest}
+use Rattle.bits.specs.Piece.{Piece, pieceBits, refusedBits, bitsTest}
 use Rattle.bits.specs.PieceLaws.{Fits, length-pieceBits, bits-there}
-use Rattle.refusals.specs.Refusals.{paramTests, outputTest}
+use Rattle.refusals.specs.Refusals.{firstRefusal, rangeTests, paramTests, outputTest}
 use Rattle.hash.specs.Hash.{hashNumber, Hashed, hashOf}
 use Rattle.refusals.specs.declared.Params as declared
-use Rattle.node.specs.Words.{paramsFrom, Ready}
+use Rattle.node.specs.Words.{treeParams, Ready}
 use Rattle.nodes.specs.Value.{rootValue}
 use Rattle.nodes.specs.NodeByNode.{root-by-node}
 use Rattle.tree.specs.Sizes.{treeNodes}
 use Rattle.tree.specs.Count.{order-nodes}
-use Rattle.refusals.specs.RefusalLaws.{passed-by, passed, InRange, ranges-passed, answer-number, answer-refused}
+use Rattle.refusals.specs.RefusalLaws.{passed-by, passed, first-part, second-part, InRange, ranges-passed, answer-number, answer-refused}
 
 -- the parameters with a key
 abbrev pub withKey : List ℕ → declared.Params → Params
@@ -41,6 +42,36 @@ number-accepted m P out e =
       ranges = ranges-passed _ _ _ _ (λ k. p .0 (suc k));
       room = ltb-false _ _ (passed (outputTest (digestBytes (P .d)) out ∷ []) refl (p .1) 0);
     }
+
+-- ---- the number, by the parameters' four numbers: of the key it tells no more than how many bytes it has
+
+abbrev rangesOf : declared.Params → List (Bool × ℕ)
+rangesOf params = rangeTests (params .keylen) (params .d) (params .limit) (params .rounds)
+
+unfoldable pub numberFor : Piece → declared.Params → List ℕ → ℕ
+numberFor m params out = firstRefusal (bitsTest m ∷ rangesOf params ++ (outputTest (digestBytes (params .d)) out ∷ []))
+
+pub number-for : (m : Piece) (key : List ℕ) (params : declared.Params) (out : List ℕ) → params .keylen ≡ length key
+    → numberFor m params out ≡ hashNumber m (withKey key params) out
+unfolding numberFor hashNumber
+number-for m key params out e = rw e
+
+module _ (m : Piece) (params : declared.Params) (out : List ℕ) where
+  pub number-bits : refusedBits m ≡ true → 5 ≡ numberFor m params out
+  unfolding numberFor
+  number-bits b = rw b
+
+  pub number-ranges : refusedBits m ≡ false → (firstRefusal (rangesOf params) ≡ 0 → ⊥)
+      → firstRefusal (rangesOf params) ≡ numberFor m params out
+  unfolding numberFor
+  number-ranges b h = rw b (first-part (rangesOf params) (outputTest (digestBytes (params .d)) out ∷ []) h)
+
+  -- where neither the bits nor the parameters are refused, the output decides
+  pub number-output : refusedBits m ≡ false → firstRefusal (rangesOf params) ≡ 0
+      → (short : Bool) → ltb (length out) (digestBytes (params .d)) ≡ short → cond short 9 0 ≡ numberFor m params out
+  unfolding numberFor
+  number-output b h short e =
+      rw (b, second-part (rangesOf params) (outputTest (digestBytes (params .d)) out ∷ []) (passed (rangesOf params) refl h), e)
 
 pub hash-number : (m : Piece) (P : Params) (out : List ℕ) → hashOf m P out .number ≡ hashNumber m P out
 unfolding hashOf
@@ -64,13 +95,16 @@ hash-accepted m P out count written e c w =
 -- ---- the digest
 
 -- K and the numbers of the parameters stand for the parameters with that key
-module _ (key : List ℕ) (params : declared.Params) (bytes : Below 256 key) (size : params .keylen ≡ length key) (r : InRange (length key) (params .d) (params .limit) (params .rounds)) where
-  pub params-key : paramsFrom (keyWords key) params ≡ withKey key params
-  unfolding paramsFrom
+module _
+    (key : List ℕ) (params : declared.Params) (bytes : Below 256 key) (size : params .keylen ≡ length key)
+    (r : InRange (length key) (params .d) (params .limit) (params .rounds)) where
+  pub params-key : treeParams record { k = keyWords key; params = params } ≡ withKey key params
+  unfolding treeParams
   params-key = rw (size, key-back key bytes (r .keyHigh))
 
   -- nodes can be made
-  pub key-ready : (constants : List ℕ) → RoundTable 0 constants → length constants ≡ partEntries → Ready (keyWords key) params constants
+  pub key-ready : (constants : List ℕ) → RoundTable 0 constants → length constants ≡ partEntries
+      → Ready record { k = keyWords key; params = params } constants
   key-ready constants rule entries = record {
     range = rw size r;
     words = length-keyWords key;

@@ -22,7 +22,8 @@ pub keyed-least : (d keyBytes : ℕ) → 1 ≤ keyBytes → leastKeyedRounds ≤
 keyed-least d keyBytes h = rw (keyed-rounds d keyBytes h) (omega arith)
 
 -- what holds of both cases holds of the default
-either : (C : ℕ → Type 0) (d keyBytes : ℕ) → C (unkeyedRounds d) → C (max leastKeyedRounds (unkeyedRounds d)) → C (roundsByDefault d keyBytes)
+either : (C : ℕ → Type 0) (d keyBytes : ℕ) → C (unkeyedRounds d) → C (max leastKeyedRounds (unkeyedRounds d))
+    → C (roundsByDefault d keyBytes)
 either C d keyBytes u k = by (ltb 0 keyBytes) refl
   where
     by : (t : Bool) → ltb 0 keyBytes ≡ t → C (roundsByDefault d keyBytes)

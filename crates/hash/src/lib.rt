@@ -2,12 +2,12 @@
 ghost use mathlib.Core.Path.{_≡_};
 ghost use mathlib.Core.List.{_++_};
 ghost use lib.ListN.{length, drop};
-ghost use Rattle.bits.specs.Piece.{pieceBits};
-ghost use Rattle.bits.specs.PieceLaws.{spanned};
+ghost use Rattle.bits.specs.PieceLaws.{spanned, spanBits};
 ghost use Rattle.tree.specs.Tree.{digest, digestBytes};
-ghost use Rattle.hash.specs.Hash.{hashNumber, hashOf, roundsByDefault, defaultRoundsOf};
-ghost use Rattle.hash.specs.HashLaws.{withKey, Accepted};
+ghost use Rattle.hash.specs.Hash.{hashOf, roundsByDefault, defaultRoundsOf};
+ghost use Rattle.hash.specs.HashLaws.{withKey, numberFor, Accepted};
 use bits::Span;
+use node::Keyed;
 use node::digest;
 use refusals::Answer;
 use refusals::Params;
@@ -41,9 +41,8 @@ pub fn default_rounds(d: u64, keylen: u64) -> Answer
 }
 
 // The number that refuses the whole-message call, and otherwise 0.
-pub fn hash_number(message: &[u8], span: Span, key: &[u8], params: Params, digest: &[u8]) -> u64
-    requires { ⌜ params .keylen ≡ length (now key) ⌝ }
-    ensures { λ r. ⌜ r ≡ hashNumber (spanned (now (message .entry)) span) (withKey (now (key .entry)) params) (now (digest .entry)) ⌝ }
+pub fn hash_number(message: &[u8], span: Span, params: Params, digest: &[u8]) -> u64
+    ensures { λ r. ⌜ r ≡ numberFor (spanned (now (message .entry)) span) params (now (digest .entry)) ⌝ }
 {
     if refusals::refused_bits(message, span) {
         return 5;
@@ -52,7 +51,7 @@ pub fn hash_number(message: &[u8], span: Span, key: &[u8], params: Params, diges
     if number != 0 {
         return number;
     }
-    if (digest.len() as u64) < (params.d + 7) / 8 {
+    if (digest.len() as u64) < node::digest::digest_bytes(params.d) {
         return 9;
     }
     0
@@ -61,11 +60,13 @@ pub fn hash_number(message: &[u8], span: Span, key: &[u8], params: Params, diges
 // Writes the digest of a message. The round constants are copied once, and lent to every node.
 fn put_digest(message: &[u8], span: Span, key: &[u8], params: Params, out: &mut [u8])
     requires { ⌜ Accepted (spanned (now message) span) (withKey (now key) params) (now out) × (params .keylen ≡ length (now key)) ⌝ }
-    ensures { λ _. ⌜ now (out .exit) ≡ digest (withKey (now (key .entry)) params) (pieceBits (spanned (now (message .entry)) span)) ++ drop (digestBytes (params .d)) (now (out .entry)) ⌝ }
+    ensures { λ _. ⌜ now (out .exit)
+        ≡ digest (withKey (now (key .entry)) params) (spanBits (now (message .entry)) span)
+        ++ drop (digestBytes (params .d)) (now (out .entry)) ⌝ }
 {
     let k = digest::key_words(key);
     let first = constants::first_part();
-    let root = nodes::root(message, span, params, &k, &first);
+    let root = nodes::root(message, span, Keyed { k, params }, &first);
     digest::write_digest(&root, params.d, out);
 }
 
@@ -80,11 +81,13 @@ pub fn hash(
     rounds: u64,
     digest: &mut [u8],
 ) -> Answer
-    ensures { λ o. ⌜ record { number = o .number; count = o .count; digest = now (digest .exit) } ≡ hashOf (record { bytes = now (message .entry); start = start; count = bits }) (record { key = now (key .entry); d = d; limit = limit; rounds = rounds }) (now (digest .entry)) ⌝ }
+    ensures { λ o. ⌜ record { number = o .number; count = o .count; digest = now (digest .exit) }
+        ≡ hashOf (record { bytes = now (message .entry); start = start; count = bits })
+        (record { key = now (key .entry); d = d; limit = limit; rounds = rounds }) (now (digest .entry)) ⌝ }
 {
     let span = Span { start, bits };
     let params = Params::new(key.len() as u64, d, limit, rounds);
-    let number = hash_number(message, span, key, params, digest);
+    let number = hash_number(message, span, params, digest);
     if number != 0 {
         return Answer::refused(number);
     }

@@ -1,4 +1,4 @@
-// Calls `hash` from Rattle, which alone is told how many nodes a message has: for each bit count of the rows that tests/hash/rows.c runs
+// Calls `hash` from Rattle, since `md6_hash` does not tell C the count: for each bit count of the rows that tests/hash/rows.c runs
 // from C, at three height limits and start bits, and for refused calls. A line is what hash_number tells, the number and the
 // count that hash answers, and the output, which held a5 in every byte before the call. Then some default rounds.
 // tests/hash/expected.py --rattle makes the expected lines with the second program and from document 02.
@@ -45,7 +45,7 @@ fn call(key: &[u8], start: u64, bits: u64, d: u64, limit: u64, rounds: u64) {
         limit,
         rounds,
     };
-    let number = hash::hash_number(&ones, Span { start, bits }, key, params, &out);
+    let number = hash::hash_number(&ones, Span { start, bits }, params, &out);
     io::print_decimal(STDOUT_FILENO, number);
     io::write_all(STDOUT_FILENO, b" ");
     let answer = hash::hash(&ones, start, bits, key, d, limit, rounds, &mut out);

@@ -11,13 +11,12 @@ use borrow.Author.Tests.{eqb-true, eqb-false, leb-true, leb-false}
 use lib.Dec.{eqb, leb}
 use lib.ListN.{length, getD, take, drop, getElem?, length-append, length-drop, List·getD-eq-default}
 use lib.Seq.{take-at, drop-at, drop-append-add}
-use Rattle.tree.specs.Tree.{Params, Node, blockBits, blocks, parallel, joinedOutputs, levels, tree, lastOr, noNode, root}
+use Rattle.tree.specs.Tree.{Params, Node, blockBits, blocks, parallel, joinedOutputs, levels, tree, lastOr, noNode, root, outWords}
 use Rattle.tree.specs.Place.{levelAt, nodeAt}
 use Rattle.tree.specs.TreeLaws.{length-parallel, levels-some, levels-one, levels-more}
 use Rattle.tree.specs.Places.{no-node, index-below, levels-height, root-place, root-at, tree-u}
-use Rattle.tree.specs.Terms.{rootLevel, rootIndex}
-use Rattle.calls.specs.Calls.{outWords}
-use Rattle.calls.specs.Widths.{length-outWords}
+use Rattle.tree.specs.Vocabulary.{rootLevel, rootIndex}
+use Rattle.tree.specs.OutputLaws.{length-outWords}
 use Rattle.layers.specs.Layers.{wordsUsed, nodesAtIndex, highestNode, highestOutputs, wordsAfter}
 use Rattle.layers.specs.Laid.{levels-narrow}
 
@@ -82,7 +81,8 @@ pub every-index : (P : Params) (M : List Bool) (index : ℕ) → index < length 
     → (level : ℕ) × (n : Node) × (nodeAt (tree P M) level index ≡ some n) × ((k : ℕ) → level < k → nodeAt (tree P M) k index ≡ none)
 every-index P M index b = go (tree P M) b (top-or-none ([] ∷ tree P M) index)
   where
-    go : (T : List (List Node)) → index < length (levelAt T 1) → ((k : ℕ) → nodeAt T k index ≡ none) ⊎ Top ([] ∷ T) index → Top ([] ∷ T) index
+    go : (T : List (List Node)) → index < length (levelAt T 1) → ((k : ℕ) → nodeAt T k index ≡ none) ⊎ Top ([] ∷ T) index
+        → Top ([] ∷ T) index
     go T b (inl h) = let a = at-index (levelAt T 1) index b in absurd (no-node (a .0) (sym (h 1) ∙ a .1))
     go T b (inr t) = t
 
@@ -99,7 +99,8 @@ alone P (suc n) level M h = go (eqb (blocks blockBits (length M)) 1) refl (λ X 
     last ns (ms ∷ T) g = refl
 
     go : (b : Bool) → eqb (blocks blockBits (length M)) 1 ≡ b
-        → ((X : List Bool) → length (levels P n (suc level) X) ≤ n → length (levelAt (levels P n (suc level) X) (length (levels P n (suc level) X))) ≡ 1)
+        → ((X : List Bool) → length (levels P n (suc level) X) ≤ n
+        → length (levelAt (levels P n (suc level) X) (length (levels P n (suc level) X))) ≡ 1)
         → length (levelAt (levels P (suc n) level M) (length (levels P (suc n) level M))) ≡ 1
     go true e up =
         let one = eqb-true (blocks blockBits (length M)) 1 e in
@@ -129,7 +130,8 @@ module _ (P : Params) where
   length-highest : (T : List (List Node)) (i n : ℕ) → length (highestOutputs P T i n) ≡ 16 * n
   length-highest T i zero = refl
   length-highest T i (suc n) =
-      length-append (outWords P (highestNode T i)) (highestOutputs P T (suc i) n) ∙ omega (arith, length-outWords P (highestNode T i), length-highest T (suc i) n)
+      length-append (outWords P (highestNode T i)) (highestOutputs P T (suc i) n)
+      ∙ omega (arith, length-outWords P (highestNode T i), length-highest T (suc i) n)
 
   -- the output of an index
   highest-at : (T : List (List Node)) (from n i : ℕ) (rest : List ℕ) → i < n
@@ -144,17 +146,20 @@ module _ (P : Params) where
       let others : List ℕ = highestOutputs P T (suc from) n ++ rest in
       let s : 16 * suc i ≡ length one + 16 * i = omega (arith, length-outWords P (highestNode T from)) in
       let t : suc from + i ≡ from + suc i = omega arith in
-      rw (append-assoc one (highestOutputs P T (suc from) n) rest, s, drop-append-add one others (16 * i), ← t) (highest-at T (suc from) n i rest (omega arith))
+      rw (append-assoc one (highestOutputs P T (suc from) n) rest, s, drop-append-add one others (16 * i), ← t)
+      (highest-at T (suc from) n i rest (omega arith))
 
   module _ (M : List Bool) (words : List ℕ) where
     -- "16 for each index, the output of the highest node of that index": a node above which no level has that index
-    pub highest-words : (level index : ℕ) (n : Node) → nodeAt (tree P M) level index ≡ some n → ((k : ℕ) → level < k → nodeAt (tree P M) k index ≡ none)
+    pub highest-words : (level index : ℕ) (n : Node) → nodeAt (tree P M) level index ≡ some n
+        → ((k : ℕ) → level < k → nodeAt (tree P M) k index ≡ none)
         → take 16 (drop (16 * index) (wordsAfter P (tree P M) words)) ≡ outWords P n
     unfolding wordsAfter
     highest-words zero index n e h = absurd (no-node n e)
     highest-words (suc l) index n e h =
         let s : 0 + index ≡ index = omega arith in
-        let b : index < length (levelAt (tree P M) 1) = omega (arith, index-below (levelAt (tree P M) (suc l)) index n e, levels-narrow P M l) in
+        let b : index < length (levelAt (tree P M) 1) =
+        omega (arith, index-below (levelAt (tree P M) (suc l)) index n e, levels-narrow P M l) in
         highest-at (tree P M) 0 (length (levelAt (tree P M) 1)) index (drop (wordsUsed (tree P M)) words) b
         ∙ rw (s, highest-last (tree P M) l index n noNode e (λ k g. h (suc k) (omega arith)))
 
@@ -174,24 +179,31 @@ module _ (P : Params) where
     root-words = last-level (rootIndex (tree P M)) (root P M) root-there
 
     -- if the tree has no level L + 1, that is index 0
-    pub root-first : rootLevel (tree P M) ≤ P .limit → (rootIndex (tree P M) ≡ 0) × (take 16 (wordsAfter P (tree P M) words) ≡ outWords P (root P M))
+    pub root-first : rootLevel (tree P M) ≤ P .limit
+        → (rootIndex (tree P M) ≡ 0) × (take 16 (wordsAfter P (tree P M) words) ≡ outWords P (root P M))
     root-first h = let z = root-parallel P M h in (z, rw z at root-words)
 
     -- in a sequential level the root is the last, and index 0 ends with the output of the first: where the root has an index above 0,
     -- its level is the sequential one (`root-sequential`), whose first node is not the root
     pub sequential-words : 0 < rootIndex (tree P M)
-        → (n : Node) × (nodeAt (tree P M) (rootLevel (tree P M)) 0 ≡ some n) × (n .u ≢ root P M .u) × (take 16 (wordsAfter P (tree P M) words) ≡ outWords P n)
+        → (n : Node) × (nodeAt (tree P M) (rootLevel (tree P M)) 0 ≡ some n) × (n .u ≢ root P M .u)
+        × (take 16 (wordsAfter P (tree P M) words) ≡ outWords P n)
     sequential-words h =
         let f = at-index (levelAt (tree P M) (rootLevel (tree P M))) 0 (omega arith) in
         (f .0, f .1, other (f .0) (f .1), last-level 0 (f .0) (f .1))
       where
         other : (n : Node) → nodeAt (tree P M) (rootLevel (tree P M)) 0 ≡ some n → n .u ≢ root P M .u
-        other n e = λ d. omega (arith, tree-u P M (rootLevel (tree P M)) 0 n e, tree-u P M (rootLevel (tree P M)) (rootIndex (tree P M)) (root P M) root-there)
+        other n e d =
+            let T : List (List Node) = tree P M in
+            omega (arith, tree-u P M (rootLevel T) 0 n e, tree-u P M (rootLevel T) (rootIndex T) (root P M) root-there)
 
     -- "those past them stay as they were"
     pub past-words : drop (wordsUsed (tree P M)) (wordsAfter P (tree P M) words) ≡ drop (wordsUsed (tree P M)) words
     unfolding wordsAfter
-    past-words = drop-at (highestOutputs P (tree P M) 0 (length (levelAt (tree P M) 1))) (drop (wordsUsed (tree P M)) words) (wordsUsed (tree P M)) (length-highest (tree P M) 0 (length (levelAt (tree P M) 1)))
+    past-words =
+        let T : List (List Node) = tree P M in
+        let n : ℕ = length (levelAt T 1) in
+        drop-at (highestOutputs P T 0 n) (drop (wordsUsed T) words) (wordsUsed T) (length-highest T 0 n)
 
     -- and they stay as many
     pub length-wordsAfter : wordsUsed (tree P M) ≤ length words → length (wordsAfter P (tree P M) words) ≡ length words

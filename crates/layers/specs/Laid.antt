@@ -8,13 +8,12 @@ use native.Mathlib.Omega.{arith}
 use lib.ListN.{length, getD, drop, length-append, length-drop}
 use lib.Seq.{drop-drop, drop-append-add}
 use Rattle.lists.specs.Append.{cons-eq}
-use Rattle.tree.specs.Tree.{Params, Node, tree, lastOr}
+use Rattle.tree.specs.Tree.{Params, Node, tree, lastOr, outWords}
 use Rattle.tree.specs.Place.{levelAt}
 use Rattle.tree.specs.Height.{Above, no-level, sequential-level, parallel-level, Levels, sequential-tree, parallel-tree, tree-levels}
-use Rattle.calls.specs.Calls.{outWords}
-use Rattle.calls.specs.Widths.{length-outWords}
-use Rattle.level.specs.Outputs.{levelOutputs, outputs-append}
-use Rattle.level.specs.OverLaws.{over}
+use Rattle.tree.specs.OutputLaws.{length-outWords}
+use Rattle.layer.specs.Outputs.{levelOutputs, outputs-append}
+use Rattle.layer.specs.OverLaws.{over}
 use Rattle.layers.specs.Layers.{nodesAtIndex, highestOutputs, wordsAfter}
 
 abbrev pub laid : Params → List (List Node) → List ℕ → List ℕ
@@ -42,7 +41,8 @@ levels-narrow P M = go (tree-levels P M)
 module _ (P : Params) where
   -- ---- the outputs of a level
 
-  outputs-drop : (k : ℕ) (ns : List Node) (rest : List ℕ) → k ≤ length ns → drop (16 * k) (levelOutputs P ns ++ rest) ≡ levelOutputs P (drop k ns) ++ rest
+  outputs-drop : (k : ℕ) (ns : List Node) (rest : List ℕ) → k ≤ length ns
+      → drop (16 * k) (levelOutputs P ns ++ rest) ≡ levelOutputs P (drop k ns) ++ rest
   unfolding flatten
   outputs-drop zero ns rest h = refl
   outputs-drop (suc k) [] rest h = absurd (omega arith)
@@ -86,7 +86,8 @@ module _ (P : Params) where
   laid-tops (ms ∷ T) ns rest h =
       let shown : List Node = ms ++ drop (length ms) ns in
       let size : length shown ≡ length ns = simp (length-append, length-drop) (omega (arith, h 0)) in
-      rw (outputs-drop (length ms) ns rest (h 0), ← append-assoc (levelOutputs P ms) (levelOutputs P (drop (length ms) ns)) rest, ← outputs-append P ms (drop (length ms) ns))
+      let past : List Node = drop (length ms) ns in
+      rw (outputs-drop (length ms) ns rest (h 0), ← append-assoc (levelOutputs P ms) (levelOutputs P past) rest, ← outputs-append P ms past)
       (laid-tops T shown rest (λ k. rw size (h (suc k))) ∙ rw (tops-over ms T 0 ms ns refl (h 0)))
 
   highest-tops : (ns : List Node) (T : List (List Node)) (i : ℕ) (rest : List Node) → drop i ns ≡ rest

@@ -11,7 +11,8 @@ module _ (a b c d e p q root : Node) where
   unfolding flatten
   parallel-layers = refl
 
-  pub parallel-highest : map (highestNode ((a ∷ b ∷ c ∷ d ∷ e ∷ []) ∷ (p ∷ q ∷ []) ∷ (root ∷ []) ∷ [])) (0 ∷ 1 ∷ 2 ∷ 3 ∷ 4 ∷ []) ≡ root ∷ q ∷ c ∷ d ∷ e ∷ []
+  pub parallel-highest : map (highestNode ((a ∷ b ∷ c ∷ d ∷ e ∷ []) ∷ (p ∷ q ∷ []) ∷ (root ∷ []) ∷ [])) (0 ∷ 1 ∷ 2 ∷ 3 ∷ 4 ∷ [])
+      ≡ root ∷ q ∷ c ∷ d ∷ e ∷ []
   parallel-highest = refl
 
 -- that of 12,289 bits with L = 1: four nodes, and two over them at the sequential level: the root has index 1, and index 0 ends with the

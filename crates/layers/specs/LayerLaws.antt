@@ -5,7 +5,8 @@ use mathlib.Core.Logic.{_⊎_, inl, inr, _↔_}
 use mathlib.Core.HLevel.{¬-prop}
 use mathlib.Core.Bool.{Bool, true, false}
 use mathlib.Core.Option.{some}
-use mathlib.Core.List.{List, [], _∷_, _++_, map, map-map, flatten, List·Permᴰ, List·Permᴰ·nil, List·Permᴰ·cons, List·Permᴰ·swap, List·Permᴰ·trans, Permᴰ·map, Permᴰ·pairwise, List·Nodup}
+use mathlib.Core.List.{List, [], _∷_, _++_, map, map-map, flatten, List·Permᴰ, List·Permᴰ·nil, List·Permᴰ·cons, List·Permᴰ·swap}
+use mathlib.Core.List.{List·Permᴰ·trans, Permᴰ·map, Permᴰ·pairwise, List·Nodup}
 use Prim.Native.Nat.{ℕ, zero, suc, _+_, _*_, _^_, _≤_, _<_}
 use native.Mathlib.Omega.{arith}
 use borrow.Author.Tests.{ltb-true, ltb-false, lt-ltb, le-ltb}
@@ -14,11 +15,11 @@ use lib.ListN.{length, getD, take, drop, getElem?, length-map, length-append}
 use Rattle.lists.specs.Flatten.{map-append}
 use Rattle.bits.specs.Piece.{Piece, pieceBits, refusedBits}
 use Rattle.bits.specs.PieceLaws.{length-pieceBits, bits-there, there-bits}
-use Rattle.tree.specs.Tree.{Params, Node, Mark, mostLimit, nodeU, tree, order, digest, digestBytes}
+use Rattle.tree.specs.Tree.{Params, Node, Mark, mostLimit, nodeU, tree, order, digest, digestBytes, nodeLog, logged}
 use Rattle.tree.specs.Place.{levelAt, nodeAt}
 use Rattle.tree.specs.Places.{no-node, index-below, tree-u}
 use Rattle.tree.specs.Sizes.{treeNodes}
-use Rattle.tree.specs.Terms.{marked}
+use Rattle.tree.specs.Vocabulary.{marked}
 use Rattle.tree.specs.OrderLaws.{order-levels}
 use Rattle.tree.specs.Fresh.{order-nodup}
 use Rattle.tree.specs.Count.{order-nodes}
@@ -27,9 +28,9 @@ use Rattle.refusals.specs.Refusals.{firstRefusal, Told}
 use Rattle.refusals.specs.RefusalLaws.{without, passed, passed-by, first-part, second-part, answer-number}
 use Rattle.hash.specs.Hash.{Hashed, hashTests, hashNumber, hashOf}
 use Rattle.hash.specs.HashLaws.{Accepted, number-accepted, hash-number, hash-accepted}
-use Rattle.calls.specs.Calls.{nodeLog, logged}
-use Rattle.layers.specs.Layers.{layerOrder, wordsUsed, wordsAfter, lentTests, layersNumber, Layered, layersOf, firstNodes, layerWordsOf, layerLogWordsOf}
-use Rattle.layers.specs.LayerTerms.{layerPlace}
+use Rattle.layers.specs.Layers.{layerOrder, wordsUsed, wordsAfter, lentTests, layersNumber, Layered, layersOf}
+use Rattle.layers.specs.Layers.{firstNodes, layerWordsOf, layerLogWordsOf}
+use Rattle.layers.specs.Vocabulary.{layerPlace}
 
 -- ---- the nodes
 
@@ -95,7 +96,8 @@ at-right [] ys i j e = ap (getElem? ys) (omega arith)
 at-right (x ∷ xs) ys i zero e = absurd (omega arith)
 at-right (x ∷ xs) ys i (suc j) e = at-right xs ys i j (omega arith)
 
-at-place : (T : List (List Node)) (l i : ℕ) (n : Node) → getElem? (getD T l []) i ≡ some n → getElem? (flatten T) (length (flatten (take l T)) + i) ≡ some n
+at-place : (T : List (List Node)) (l i : ℕ) (n : Node) → getElem? (getD T l []) i ≡ some n
+    → getElem? (flatten T) (length (flatten (take l T)) + i) ≡ some n
 unfolding flatten
 at-place [] l i n e = absurd (no-node n e)
 at-place (ns ∷ T) zero i n e = let s : 0 + i ≡ i = omega arith in rw s (at-left ns (flatten T) i n e)
@@ -153,7 +155,8 @@ second-lent false true e = (refl, refl)
 second-lent false false e = absurd (omega arith)
 
 -- the two words of log of a node
-log-at : (ns : List Node) (i : ℕ) (n : Node) (rest : List ℕ) → getElem? ns i ≡ some n → take 2 (drop (2 * i) (nodeLog ns ++ rest)) ≡ n .u ∷ n .v ∷ []
+log-at : (ns : List Node) (i : ℕ) (n : Node) (rest : List ℕ) → getElem? ns i ≡ some n
+    → take 2 (drop (2 * i) (nodeLog ns ++ rest)) ≡ n .u ∷ n .v ∷ []
 log-at [] i n rest e = absurd (no-node n e)
 log-at (m ∷ ns) zero n rest e = let s : m ≡ n = cc in rw s
 log-at (m ∷ ns) (suc i) n rest e = let s : 2 * suc i ≡ suc (suc (2 * i)) = omega arith in rw s (log-at ns i n rest e)
@@ -162,6 +165,13 @@ module _ (m : Piece) (P : Params) (words log out : List ℕ) where
   -- the tests that follow those of the whole-message call
   abbrev lent : List (Bool × ℕ)
   lent = lentTests P (pieceBits m) words log
+
+  -- the words and log words that the call needs
+  abbrev used : ℕ
+  used = wordsUsed (tree P (pieceBits m))
+
+  abbrev logUsed : ℕ
+  logUsed = 2 * length (layerOrder P (pieceBits m))
 
   pub layers-number : layersOf m P words log out .number ≡ layersNumber m P words log out
   unfolding layersOf
@@ -201,10 +211,12 @@ module _ (m : Piece) (P : Params) (words log out : List ℕ) where
 
   -- the call is accepted exactly if the whole-message call is, and words and log are long enough
   pub accepted-iff : (layersOf m P words log out .number ≡ 0)
-      ↔ ((hashOf m P out .number ≡ 0) × (wordsUsed (tree P (pieceBits m)) ≤ length words) × (2 * length (layerOrder P (pieceBits m)) ≤ length log))
+      ↔ ((hashOf m P out .number ≡ 0) × (wordsUsed (tree P (pieceBits m)) ≤ length words)
+      × (2 * length (layerOrder P (pieceBits m)) ≤ length log))
   accepted-iff = (
     λ e. let a = after-whole 0 refl e in let p = passed lent refl (a .1) in (a .0, ltb-false _ _ (p 0), ltb-false _ _ (p 1)),
-    λ h. whole-then-lent (h .0) ∙ rw (le-ltb (length words) (wordsUsed (tree P (pieceBits m))) (h .1), le-ltb (length log) (2 * length (layerOrder P (pieceBits m))) (h .2)),
+    λ h. whole-then-lent (h .0)
+        ∙ rw (le-ltb (length words) used (h .1), le-ltb (length log) logUsed (h .2)),
   )
 
   -- what an accepted whole-message call shows
@@ -218,24 +230,32 @@ module _ (m : Piece) (P : Params) (words log out : List ℕ) where
   as-whole e =
       let a : hashOf m P out .number ≡ 0 = accepted-iff .0 e .0 in
       let n = given-nodes m P (length-pieceBits m (whole-accepted a .enough)) in
-      let h = hash-accepted m P out (length (layerOrder P (pieceBits m))) (digest P (pieceBits m) ++ drop (digestBytes (P .d)) out) (sym (hash-number m P out) ∙ a) n refl in
-      let l = layers-accepted (sym layers-number ∙ e) in
-      (a, ap (λ (x : Layered). x .count) l ∙ ap (λ (x : Hashed). x .count) h, ap (λ (x : Layered). x .digest) l ∙ ap (λ (x : Hashed). x .digest) h)
+      let written : List ℕ = digest P (pieceBits m) ++ drop (digestBytes (P .d)) out in
+      let h = hash-accepted m P out (length (layerOrder P (pieceBits m))) written (sym (hash-number m P out) ∙ a) n refl in
+      let l = layers-accepted (sym layers-number ∙ e) in (
+        a,
+        ap (λ (x : Layered). x .count) l ∙ ap (λ (x : Hashed). x .count) h,
+        ap (λ (x : Layered). x .digest) l ∙ ap (λ (x : Hashed). x .digest) h,
+      )
 
   -- what is told, where the whole-message checks pass
-  told : hashOf m P out .number ≡ 0 → (layerWordsOf (m .count) (P .limit) .count ≡ wordsUsed (tree P (pieceBits m))) × (layerLogWordsOf (m .count) (P .limit) .count ≡ 2 * length (layerOrder P (pieceBits m)))
+  told : hashOf m P out .number ≡ 0
+      → (layerWordsOf (m .count) (P .limit) .count ≡ wordsUsed (tree P (pieceBits m)))
+      × (layerLogWordsOf (m .count) (P .limit) .count ≡ 2 * length (layerOrder P (pieceBits m)))
   told e =
       let a = whole-accepted e in
+      let there = there-bits m (a .enough) in
       let h = a .ranges .limitHigh in
-      (ap (λ (x : Told). x .count) (told-words m P (there-bits m (a .enough)) h), ap (λ (x : Told). x .count) (told-log-words m P (there-bits m (a .enough)) h))
+      (ap (λ (x : Told). x .count) (told-words m P there h), ap (λ (x : Told). x .count) (told-log-words m P there h))
 
   -- "Numbers 7 (too few words) and 8 follow the whole-message checks": 7 exactly if these pass and there are fewer words than told
   pub few-words-iff : (layersOf m P words log out .number ≡ 7)
       ↔ ((hashOf m P out .number ≡ 0) × (length words < layerWordsOf (m .count) (P .limit) .count))
   few-words-iff = (
     λ e. let a = after-whole 7 refl e in
-        (a .0, rw (told (a .0) .0) (ltb-true (length words) (wordsUsed (tree P (pieceBits m))) (first-lent (ltb (length words) (wordsUsed (tree P (pieceBits m)))) (ltb (length log) (2 * length (layerOrder P (pieceBits m)))) (a .1)))),
-    λ h. whole-then-lent (h .0) ∙ rw (lt-ltb (length words) (wordsUsed (tree P (pieceBits m))) (rw (told (h .0) .0) at (h .1))),
+        let s = first-lent (ltb (length words) used) (ltb (length log) logUsed) (a .1) in
+        (a .0, rw (told (a .0) .0) (ltb-true (length words) used s)),
+    λ h. whole-then-lent (h .0) ∙ rw (lt-ltb (length words) used (rw (told (h .0) .0) at (h .1))),
   )
 
   -- and 8 exactly if they pass, there are as many words as told, and fewer words of log
@@ -245,15 +265,17 @@ module _ (m : Piece) (P : Params) (words log out : List ℕ) where
   short-log-iff = (
     λ e. let a = after-whole 8 refl e in
         let t = told (a .0) in
-        let s = second-lent (ltb (length words) (wordsUsed (tree P (pieceBits m)))) (ltb (length log) (2 * length (layerOrder P (pieceBits m)))) (a .1) in
-        (a .0, rw (t .0) (ltb-false (length words) (wordsUsed (tree P (pieceBits m))) (s .0)), rw (t .1) (ltb-true (length log) (2 * length (layerOrder P (pieceBits m))) (s .1))),
+        let s = second-lent (ltb (length words) used) (ltb (length log) logUsed) (a .1) in
+        (a .0, rw (t .0) (ltb-false (length words) used (s .0)), rw (t .1) (ltb-true (length log) logUsed (s .1))),
     λ h. let t = told (h .0) in
-        whole-then-lent (h .0) ∙ rw (le-ltb (length words) (wordsUsed (tree P (pieceBits m))) (rw (t .0) at (h .1)), lt-ltb (length log) (2 * length (layerOrder P (pieceBits m))) (rw (t .1) at (h .2))),
+        whole-then-lent (h .0)
+        ∙ rw (le-ltb (length words) used (rw (t .0) at (h .1)), lt-ltb (length log) logUsed (rw (t .1) at (h .2))),
   )
 
   -- the order "shows in a log like the stream's": the U and V of the node of a level and an index stand at its place
   pub in-log : layersOf m P words log out .number ≡ 0 → (level index : ℕ) (n : Node) → nodeAt (tree P (pieceBits m)) level index ≡ some n
       → take 2 (drop (2 * layerPlace (tree P (pieceBits m)) level index) (layersOf m P words log out .log)) ≡ n .u ∷ n .v ∷ []
   in-log a level index n e =
-      ap (λ (x : Layered). take 2 (drop (2 * layerPlace (tree P (pieceBits m)) level index) (x .log))) (layers-accepted (sym layers-number ∙ a))
-      ∙ log-at (layerOrder P (pieceBits m)) (layerPlace (tree P (pieceBits m)) level index) n (drop (2 * length (layerOrder P (pieceBits m))) log) (in-place P (pieceBits m) level index n e .0)
+      let place : ℕ = layerPlace (tree P (pieceBits m)) level index in
+      ap (λ (x : Layered). take 2 (drop (2 * place) (x .log))) (layers-accepted (sym layers-number ∙ a))
+      ∙ log-at (layerOrder P (pieceBits m)) place n (drop logUsed log) (in-place P (pieceBits m) level index n e .0)

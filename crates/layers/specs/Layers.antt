@@ -7,12 +7,11 @@ use lib.Dec.{ltb}
 use lib.ListN.{length, take, drop}
 use Rattle.bits.specs.Piece.{Piece, pieceBits}
 use Rattle.tree.specs.Tree.{Params, Node, blockBits, sequentialBits, blocks, tree, lastOr, noNode, digestBytes, digest}
+use Rattle.tree.specs.Tree.{outputWords, outWords, logged}
 use Rattle.tree.specs.Place.{levelAt}
 use Rattle.tree.specs.Sizes.{treeNodes}
-use Rattle.refusals.specs.Refusals.{firstRefusal, answerOf, Told, toldFor}
+use Rattle.refusals.specs.Refusals.{firstRefusal, answerOf, Told, toldFor, logTest}
 use Rattle.hash.specs.Hash.{hashTests}
-use Rattle.calls.specs.Area.{outputWords}
-use Rattle.calls.specs.Calls.{outWords, logTest, logged}
 
 -- ---- the order of nodes
 

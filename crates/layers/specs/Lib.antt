@@ -1,9 +1,9 @@
-pub mod Layers
-pub mod LayerExamples
-pub mod LayerTerms
-pub mod Laid
-pub mod LayerLaws
-pub mod Steps
 pub mod CallLaws
 pub mod Highest
+pub mod Laid
+pub mod LayerExamples
+pub mod LayerLaws
+pub mod Layers
 pub mod RefusalRows
+pub mod Steps
+pub mod Vocabulary

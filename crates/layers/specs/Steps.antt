@@ -16,30 +16,30 @@ use Rattle.lists.specs.Part.{put}
 use Rattle.lists.specs.PartLaws.{put-put}
 use Rattle.bits.specs.Bits.{bitsOf}
 use Rattle.bits.specs.BitsLaws.{bitsOf-append}
-use Rattle.bits.specs.Piece.{Piece, pieceBits}
+use Rattle.bits.specs.Piece.{Piece, pieceOf, pieceBits}
 use Rattle.bits.specs.PieceLaws.{Fits, length-pieceBits}
-use Rattle.tree.specs.Tree.{Params, Node, tree, blocks, joinedOutputs, blockBits, sequentialBits, outputBits, mostLevels}
+use Rattle.bits.specs.declared.Span.{Span}
+use Rattle.tree.specs.Tree.{blockBits, sequentialBits, outputBits, mostLevels, Params, Node, tree, blocks, joinedOutputs}
+use Rattle.tree.specs.Tree.{outWords, nodeLog, logged}
 use Rattle.tree.specs.Place.{levelAt}
 use Rattle.tree.specs.Kind.{levelBits}
 use Rattle.tree.specs.KindLaws.{tree-parallel, tree-sequential}
 use Rattle.tree.specs.TreeLaws.{Sized, nil, cons, length-joined, parallel-sized, levels-some}
 use Rattle.tree.specs.Places.{levels-height, root-at}
-use Rattle.tree.specs.Terms.{heightFrom, treeHeight, rootIndex}
+use Rattle.tree.specs.Vocabulary.{heightFrom, treeHeight, rootIndex}
 use Rattle.tree.specs.Count.{levelNodes, levelNodes-one, levelNodes-suc, tree-height}
-use Rattle.refusals.specs.declared.Params as declared
-use Rattle.node.specs.Words.{paramsFrom}
-use Rattle.node.specs.WordLaws.{limit-from}
+use Rattle.node.specs.declared.Keyed.{Keyed}
+use Rattle.node.specs.Words.{treeParams}
+use Rattle.node.specs.WordLaws.{limit-of}
 use Rattle.shape.specs.Shape.{topFrom, topLevel}
-use Rattle.calls.specs.Calls.{outWords, nodeLog, logged}
-use Rattle.calls.specs.CallLaws.{length-nodeLog, nodeLog-append}
-use Rattle.calls.specs.Widths.{words-bits}
-use Rattle.level.specs.declared.Level.{Level}
+use Rattle.tree.specs.OutputLaws.{length-nodeLog, nodeLog-append, words-bits}
+use Rattle.layer.specs.declared.Layer.{Layer}
 use Rattle.layers.specs.Layers.{layerOrder, wordsUsed, wordsAfter, firstNodes}
 use Rattle.layers.specs.LayerLaws.{first-level}
 use Rattle.layers.specs.Laid.{laid, laid-snoc, laid-highest, levels-narrow}
-use Rattle.level.specs.Outputs.{levelOutputs, length-levelOutputs}
-use Rattle.level.specs.Level.{sizeOf, source, Source, Fitting, levelOver}
-use Rattle.level.specs.OverLaws.{over, length-over, length-levelOver}
+use Rattle.layer.specs.Outputs.{levelOutputs, length-levelOutputs}
+use Rattle.layer.specs.OneLayer.{sizeOf, nodesIn, source, Source, Fitting, layerNodes}
+use Rattle.layer.specs.OverLaws.{over, layerOver, length-over, length-levelOver}
 
 -- ---- how many levels there are
 
@@ -54,7 +54,8 @@ top-from m zero h = go (eqb (levelNodes m (suc h)) 1)
 top-from m (suc n) h = go (top-from m n (suc h)) (eqb (levelNodes m (suc h)) 1)
   where
     go : topFrom m (suc n) (suc (suc h)) ≡ suc h + heightFrom n (levelNodes m (suc (suc h)))
-        → (b : Bool) → cond b (suc h) (topFrom m (suc n) (suc (suc h))) ≡ h + cond b 1 (suc (heightFrom n (blocks 4 (levelNodes m (suc h)))))
+        → (b : Bool)
+        → cond b (suc h) (topFrom m (suc n) (suc (suc h))) ≡ h + cond b 1 (suc (heightFrom n (blocks 4 (levelNodes m (suc h)))))
     go up true = omega arith
     go up false = omega (arith, up, ap (heightFrom n) (levelNodes-suc m h))
 
@@ -68,9 +69,13 @@ top-height P M = go (P .limit) ∙ sym (tree-height P M)
 
 -- ---- one level
 
--- the level above so many others, as the code has it
-abbrev pub levelAbove : ℕ → ℕ → ℕ → Level
-levelAbove limit levels bits = record { level = suc levels; bits = bits; size = sizeOf limit (suc levels) }
+-- the layer above so many levels, as the code has it
+abbrev pub layerAbove : ℕ → ℕ → Span → Layer
+layerAbove limit levels span = record { level = suc levels; span = span; size = sizeOf limit (suc levels) }
+
+-- and the bits that it works on, of a message m
+abbrev pub spanAbove : Piece → ℕ → Span
+spanAbove m bits = record { start = m .start; bits = bits }
 
 -- the bits of its outputs
 outputs-bits : (P : Params) (ns : List Node) → Sized (P .rounds) ns → bitsOf 64 (levelOutputs P ns) ≡ joinedOutputs P ns
@@ -88,10 +93,12 @@ size-kind limit level = go (ltb limit level)
 
 module _ (P : Params) (M : List Bool) where
   -- it is the tree's
-  level-is : (levels bits : ℕ) → levels < length (tree P M) → levelAt (tree P M) (suc levels) ≡ levelOver P (levelAbove (P .limit) levels bits) (levelBits P M (suc levels))
-  level-is levels bits h = go (leb (suc levels) (P .limit)) refl
+  level-is : (levels : ℕ) (span : Span) → levels < length (tree P M)
+      → levelAt (tree P M) (suc levels) ≡ layerNodes P (layerAbove (P .limit) levels span) (levelBits P M (suc levels))
+  level-is levels span h = go (leb (suc levels) (P .limit)) refl
     where
-      go : (b : Bool) → leb (suc levels) (P .limit) ≡ b → levelAt (tree P M) (suc levels) ≡ levelOver P (levelAbove (P .limit) levels bits) (levelBits P M (suc levels))
+      go : (b : Bool) → leb (suc levels) (P .limit) ≡ b
+          → levelAt (tree P M) (suc levels) ≡ layerNodes P (layerAbove (P .limit) levels span) (levelBits P M (suc levels))
       go true e =
           let low : suc levels ≤ P .limit = leb-true (suc levels) (P .limit) e in
           rw (le-ltb (P .limit) (suc levels) low) (tree-parallel P M (suc levels) (omega arith) low (omega arith))
@@ -101,16 +108,21 @@ module _ (P : Params) (M : List Bool) where
           rw (lt-ltb (P .limit) (suc levels) high, top) (tree-sequential P M (omega (arith, levels-height P (P .limit) 1 M)))
 
   -- its nodes: no more than level 1 has
-  level-nodes : (levels bits : ℕ) → levels < length (tree P M) → bits ≡ length (levelBits P M (suc levels))
-      → (blocks (sizeOf (P .limit) (suc levels)) bits ≡ length (levelAt (tree P M) (suc levels))) × (length (levelAt (tree P M) (suc levels)) ≤ length (levelAt (tree P M) 1))
-  level-nodes levels bits h e =
-      (sym (ap length (level-is levels bits h) ∙ length-levelOver P (levelAbove (P .limit) levels bits) (levelBits P M (suc levels)) (sym e) (size-kind (P .limit) (suc levels))), levels-narrow P M levels)
+  level-nodes : (levels : ℕ) (span : Span) → levels < length (tree P M) → span .bits ≡ length (levelBits P M (suc levels))
+      → (nodesIn (layerAbove (P .limit) levels span) ≡ length (levelAt (tree P M) (suc levels)))
+      × (length (levelAt (tree P M) (suc levels)) ≤ length (levelAt (tree P M) 1))
+  level-nodes levels span h e =
+      let X : List Bool = levelBits P M (suc levels) in
+      let size = length-levelOver P (layerAbove (P .limit) levels span) X (sym e) (size-kind (P .limit) (suc levels)) in
+      (sym (ap length (level-is levels span h) ∙ size), levels-narrow P M levels)
 
   -- and one level more of the list of levels
-  next-levels : (levels : ℕ) → levels < length (tree P M) → take (suc levels) (tree P M) ≡ take levels (tree P M) ++ (levelAt (tree P M) (suc levels) ∷ [])
+  next-levels : (levels : ℕ) → levels < length (tree P M)
+      → take (suc levels) (tree P M) ≡ take levels (tree P M) ++ (levelAt (tree P M) (suc levels) ∷ [])
   next-levels levels h = take-suc (tree P M) levels [] h
 
-  next-nodes : (levels : ℕ) → levels < length (tree P M) → flatten (take (suc levels) (tree P M)) ≡ flatten (take levels (tree P M)) ++ levelAt (tree P M) (suc levels)
+  next-nodes : (levels : ℕ) → levels < length (tree P M)
+      → flatten (take (suc levels) (tree P M)) ≡ flatten (take levels (tree P M)) ++ levelAt (tree P M) (suc levels)
   unfolding flatten
   next-nodes levels h =
       ap flatten (next-levels levels h) ∙ flatten-append (take levels (tree P M)) (levelAt (tree P M) (suc levels) ∷ [])
@@ -119,13 +131,16 @@ module _ (P : Params) (M : List Bool) where
   -- the bits of the level above are those of the words that its outputs are written to
   next-bits : (levels : ℕ) (vs : List ℕ) → suc levels < length (tree P M)
       → (length (levelBits P M (suc (suc levels))) ≡ outputBits * length (levelAt (tree P M) (suc levels)))
-      × (bitsOf 64 (take (16 * length (levelAt (tree P M) (suc levels))) (over P (levelAt (tree P M) (suc levels)) vs)) ≡ levelBits P M (suc (suc levels)))
+      × (bitsOf 64 (take (16 * length (levelAt (tree P M) (suc levels))) (over P (levelAt (tree P M) (suc levels)) vs))
+      ≡ levelBits P M (suc (suc levels)))
   next-bits levels vs h =
       let ns : List Node = levelAt (tree P M) (suc levels) in
       let sized : Sized (P .rounds) ns =
-      subst (Sized (P .rounds)) (sym (tree-parallel P M (suc levels) (omega arith) (omega (arith, levels-height P (P .limit) 1 M)) (omega arith)))
+      subst (Sized (P .rounds))
+      (sym (tree-parallel P M (suc levels) (omega arith) (omega (arith, levels-height P (P .limit) 1 M)) (omega arith)))
       (parallel-sized P (suc levels) (eqb (blocks blockBits (length (levelBits P M (suc levels)))) 1) (levelBits P M (suc levels))) in
-      (length-joined P sized, ap (bitsOf 64) (take-at (levelOutputs P ns) (drop (16 * length ns) vs) (16 * length ns) (length-levelOutputs P ns)) ∙ outputs-bits P ns sized)
+      let front = take-at (levelOutputs P ns) (drop (16 * length ns) vs) (16 * length ns) (length-levelOutputs P ns) in
+      (length-joined P sized, ap (bitsOf 64) front ∙ outputs-bits P ns sized)
 
 -- ---- after so many levels
 
@@ -138,7 +153,8 @@ pub record Done (P : Params) (m : Piece) (ws₀ log₀ : List ℕ) (levels : ℕ
   pub sameLog : length log ≡ length log₀
   pub place : at ≡ 2 * length (flatten (take levels (tree P (pieceBits m))))
   pub inputs : levels < length (tree P (pieceBits m)) → bits ≡ length (levelBits P (pieceBits m) (suc levels))
-  pub found : levels < length (tree P (pieceBits m)) → source m ws (levelAbove (P .limit) levels bits) ≡ levelBits P (pieceBits m) (suc levels)
+  pub found : levels < length (tree P (pieceBits m))
+      → source (m .bytes) ws (layerAbove (P .limit) levels (spanAbove m bits)) ≡ levelBits P (pieceBits m) (suc levels)
   pub made : 0 < levels → bits ≡ outputBits * length (levelAt (tree P (pieceBits m)) levels)
 
 -- no part of the levels has more nodes than all
@@ -175,68 +191,79 @@ module _ (P : Params) (m : Piece) (ws₀ log₀ : List ℕ) (fits : Fits m) wher
     made = λ h. absurd (omega arith);
   }
 
-  module _ (levels : ℕ) (ws log : List ℕ) (at bits : ℕ) (d : Done P m ws₀ log₀ levels ws log at bits) (h : levels < length (tree P (pieceBits m))) (room : wordsUsed (tree P (pieceBits m)) ≤ length ws₀) where
-    abbrev l : Level
-    l = levelAbove (P .limit) levels bits
+  module _ (levels : ℕ) (ws log : List ℕ) (at bits : ℕ) (d : Done P m ws₀ log₀ levels ws log at bits)
+      (h : levels < length (tree P (pieceBits m))) (room : wordsUsed (tree P (pieceBits m)) ≤ length ws₀) where
+    abbrev l : Layer
+    l = layerAbove (P .limit) levels (spanAbove m bits)
 
-    count : (blocks (sizeOf (P .limit) (suc levels)) bits ≡ length (levelAt T (suc levels))) × (length (levelAt T (suc levels)) ≤ length (levelAt T 1))
-    count = level-nodes P (pieceBits m) levels bits h (d .inputs h)
+    count : (nodesIn l ≡ length (levelAt T (suc levels))) × (length (levelAt T (suc levels)) ≤ length (levelAt T 1))
+    count = level-nodes P (pieceBits m) levels (spanAbove m bits) h (d .inputs h)
 
     -- the next level's bits are there
-    pub next-source : Source m ws l
-    next-source = record { message = fits; first = first; above = above; whole = whole (size-kind (P .limit) (suc levels)) }
+    pub next-source : Source (m .bytes) ws l
+    next-source = record { message = message; above = above; whole = whole (size-kind (P .limit) (suc levels)) }
       where
-        first : suc levels ≡ 1 → bits ≡ m .count
-        first e =
+        message : suc levels ≡ 1 → Fits (pieceOf (m .bytes) (m .start) bits)
+        message e =
             let z : levels ≡ 0 = omega arith in
-            d .inputs h ∙ ap (λ (k : ℕ). length (levelBits P (pieceBits m) (suc k))) z ∙ length-pieceBits m fits
+            let all : bits ≡ m .count =
+            d .inputs h ∙ ap (λ (k : ℕ). length (levelBits P (pieceBits m) (suc k))) z ∙ length-pieceBits m fits in
+            rw all fits
 
         above : (suc levels ≡ 1 → ⊥) → (bits % 64 ≡ 0) × (bits ≤ 64 * length ws)
         above e =
             let some : 0 < levels = omega (arith, e) in
             (omega (arith, d .made some), omega (arith, d .made some, narrow P (pieceBits m) levels some, d .sameWords))
 
-        whole : (sizeOf (P .limit) (suc levels) ≡ blockBits) ⊎ (sizeOf (P .limit) (suc levels) ≡ sequentialBits) → sizeOf (P .limit) (suc levels) % 64 ≡ 0
+        whole : (sizeOf (P .limit) (suc levels) ≡ blockBits) ⊎ (sizeOf (P .limit) (suc levels) ≡ sequentialBits)
+            → sizeOf (P .limit) (suc levels) % 64 ≡ 0
         whole (inl e) = rw e
         whole (inr e) = rw e
 
     -- its nodes can be made, and logged
     pub next-fitting : m .count < 2 ^ 64 → length (tree P (pieceBits m)) ≤ mostLevels → Fitting ws l
-    next-fitting b t = record {
-      counted = record {
-        kind = size-kind (P .limit) (suc levels);
-        low = omega arith;
-        nodes = omega (arith, count, first-level P (pieceBits m), first-small (P .limit) (length (pieceBits m)) (omega (arith, length-pieceBits m fits)));
-      };
-      room = omega (arith, count, d .sameWords);
-    }
+    next-fitting b t =
+        let few = first-small (P .limit) (length (pieceBits m)) (omega (arith, length-pieceBits m fits)) in
+        record {
+          counted = record {
+            kind = size-kind (P .limit) (suc levels);
+            low = omega arith;
+            nodes = omega (arith, count, first-level P (pieceBits m), few);
+          };
+          room = omega (arith, count, d .sameWords);
+        }
 
-    pub next-log : 2 * length (flatten (tree P (pieceBits m))) ≤ length log₀ → at + 2 * blocks (l .size) (l .bits) ≤ length log
+    pub next-log : 2 * length (flatten (tree P (pieceBits m))) ≤ length log₀ → at + 2 * nodesIn l ≤ length log
     next-log r =
-        omega (arith, count .0, d .place, d .sameLog, nodes-part (suc levels) (tree P (pieceBits m)), ap length (next-nodes P (pieceBits m) levels h) ∙ length-append (flatten (take levels T)) (levelAt T (suc levels)))
+        let more = ap length (next-nodes P (pieceBits m) levels h) ∙ length-append (flatten (take levels T)) (levelAt T (suc levels)) in
+        omega (arith, count .0, d .place, d .sameLog, nodes-part (suc levels) (tree P (pieceBits m)), more)
 
     -- the level is made
-    pub done-more : (ws′ log′ : List ℕ) → ws′ ≡ over P (levelOver P l (source m ws l)) ws
-        → log′ ≡ put at (2 * blocks (l .size) (l .bits)) log (nodeLog (levelOver P l (source m ws l))) → length log′ ≡ length log
-        → Done P m ws₀ log₀ (levels + 1) ws′ log′ (at + 2 * blocks (l .size) (l .bits)) (outputBits * blocks (l .size) (l .bits))
-    done-more ws′ log′ ew el same = subst (λ (k : ℕ). Done P m ws₀ log₀ k ws′ log′ (at + 2 * blocks (l .size) (l .bits)) (outputBits * blocks (l .size) (l .bits))) (sym (add-one levels)) made
+    pub done-more : (ws′ log′ : List ℕ) → ws′ ≡ layerOver P (m .bytes) l ws
+        → log′ ≡ put at (2 * nodesIn l) log (nodeLog (layerNodes P l (source (m .bytes) ws l))) → length log′ ≡ length log
+        → Done P m ws₀ log₀ (levels + 1) ws′ log′ (at + 2 * nodesIn l) (outputBits * nodesIn l)
+    done-more ws′ log′ ew el same =
+        subst (λ (k : ℕ). Done P m ws₀ log₀ k ws′ log′ (at + 2 * nodesIn l) (outputBits * nodesIn l)) (sym (add-one levels)) made
       where
         ns : List Node
         ns = levelAt (tree P (pieceBits m)) (suc levels)
 
-        is : levelOver P (levelAbove (P .limit) levels bits) (source m ws (levelAbove (P .limit) levels bits)) ≡ levelAt (tree P (pieceBits m)) (suc levels)
-        is = ap (levelOver P (levelAbove (P .limit) levels bits)) (d .found h) ∙ sym (level-is P (pieceBits m) levels bits h)
+        is : layerNodes P l (source (m .bytes) ws l) ≡ levelAt (tree P (pieceBits m)) (suc levels)
+        is = ap (layerNodes P l) (d .found h) ∙ sym (level-is P (pieceBits m) levels (spanAbove m bits) h)
 
         words : ws′ ≡ over P (levelAt (tree P (pieceBits m)) (suc levels)) ws
         words = ew ∙ ap (λ (x : List Node). over P x ws) is
 
-        nodes : length (flatten (take (suc levels) (tree P (pieceBits m)))) ≡ length (flatten (take levels (tree P (pieceBits m)))) + length (levelAt (tree P (pieceBits m)) (suc levels))
-        nodes = ap length (next-nodes P (pieceBits m) levels h) ∙ length-append (flatten (take levels (tree P (pieceBits m)))) (levelAt (tree P (pieceBits m)) (suc levels))
+        nodes : length (flatten (take (suc levels) (tree P (pieceBits m))))
+            ≡ length (flatten (take levels (tree P (pieceBits m)))) + length (levelAt (tree P (pieceBits m)) (suc levels))
+        nodes =
+            ap length (next-nodes P (pieceBits m) levels h)
+            ∙ length-append (flatten (take levels (tree P (pieceBits m)))) (levelAt (tree P (pieceBits m)) (suc levels))
 
-        logged : log′ ≡ put 0 (at + 2 * blocks (l .size) (l .bits)) log₀ (nodeLog (flatten (take (suc levels) (tree P (pieceBits m)))))
+        logged : log′ ≡ put 0 (at + 2 * nodesIn l) log₀ (nodeLog (flatten (take (suc levels) (tree P (pieceBits m)))))
         logged =
             let before : List Node = flatten (take levels T) in
-            let n : ℕ = 2 * blocks (l .size) (l .bits) in
+            let n : ℕ = 2 * nodesIn l in
             el
             ∙ ap (λ (x : List Node). put at n log (nodeLog x)) is
             ∙ ap (λ (x : List ℕ). put at n x (nodeLog ns)) (d .logs)
@@ -244,17 +271,19 @@ module _ (P : Params) (m : Piece) (ws₀ log₀ : List ℕ) (fits : Fits m) wher
             ∙ put-put 0 at n log₀ (nodeLog before) (nodeLog ns) (omega arith) (length-nodeLog before ∙ sym (d .place))
             ∙ ap (put 0 (at + n) log₀) (sym (ap nodeLog (next-nodes P (pieceBits m) levels h) ∙ nodeLog-append before ns))
 
-        made : Done P m ws₀ log₀ (suc levels) ws′ log′ (at + 2 * blocks (l .size) (l .bits)) (outputBits * blocks (l .size) (l .bits))
+        made : Done P m ws₀ log₀ (suc levels) ws′ log′ (at + 2 * nodesIn l) (outputBits * nodesIn l)
         made = record {
           most = omega arith;
-          outputs = words ∙ ap (over P ns) (d .outputs) ∙ sym (laid-snoc P (take levels T) ns ws₀) ∙ ap (λ (G : List (List Node)). laid P G ws₀) (sym (next-levels P (pieceBits m) levels h));
+          outputs =
+              words ∙ ap (over P ns) (d .outputs) ∙ sym (laid-snoc P (take levels T) ns ws₀)
+              ∙ ap (λ (G : List (List Node)). laid P G ws₀) (sym (next-levels P (pieceBits m) levels h));
           sameWords = ap length words ∙ length-over P ns ws (omega (arith, count .1, d .sameWords)) ∙ d .sameWords;
           logs = logged;
           sameLog = same ∙ d .sameLog;
           place = omega (arith, count .0, d .place, nodes);
           inputs = λ g. ap (λ (k : ℕ). outputBits * k) (count .0) ∙ sym (next-bits P (pieceBits m) levels ws g .0);
           found = λ g.
-              let k : outputBits * blocks (l .size) (l .bits) / 64 ≡ 16 * length ns = omega (arith, count .0) in
+              let k : outputBits * nodesIn l / 64 ≡ 16 * length ns = omega (arith, count .0) in
               rw (ne-eqb (suc (suc levels)) 1 (λ e. omega arith), k, words) (next-bits P (pieceBits m) levels ws g .1);
           made = λ g. ap (λ (k : ℕ). outputBits * k) (count .0);
         }
@@ -274,11 +303,14 @@ pub record AllMade (P : Params) (M : List Bool) (ws₀ log₀ ws log : List ℕ)
   pub there : 16 * nodes ≤ length ws
 
 -- the parameters in other words
-pub made-by : {P Q : Params} {M : List Bool} {ws₀ log₀ ws log : List ℕ} {nodes : ℕ} → P ≡ Q → AllMade P M ws₀ log₀ ws log nodes → AllMade Q M ws₀ log₀ ws log nodes
+pub made-by : {P Q : Params} {M : List Bool} {ws₀ log₀ ws log : List ℕ} {nodes : ℕ} → P ≡ Q → AllMade P M ws₀ log₀ ws log nodes
+    → AllMade Q M ws₀ log₀ ws log nodes
 made-by {P} {Q} {M} {ws₀} {log₀} {ws} {log} {nodes} e made = subst (λ (R : Params). AllMade R M ws₀ log₀ ws log nodes) e made
 
-pub done-all : (P : Params) (m : Piece) (ws₀ log₀ : List ℕ) (levels : ℕ) (ws log : List ℕ) (at bits : ℕ) → Done P m ws₀ log₀ levels ws log at bits
-    → levels ≡ length (tree P (pieceBits m)) → wordsUsed (tree P (pieceBits m)) ≤ length ws₀ → (nodes : ℕ) → (0 < levels → bits ≡ outputBits * nodes)
+pub done-all : (P : Params) (m : Piece) (ws₀ log₀ : List ℕ) (levels : ℕ) (ws log : List ℕ) (at bits : ℕ)
+    → Done P m ws₀ log₀ levels ws log at bits
+    → levels ≡ length (tree P (pieceBits m)) → wordsUsed (tree P (pieceBits m)) ≤ length ws₀ → (nodes : ℕ)
+    → (0 < levels → bits ≡ outputBits * nodes)
     → AllMade P (pieceBits m) ws₀ log₀ ws log nodes
 done-all P m ws₀ log₀ levels ws log at bits d e room nodes n =
     let T : List (List Node) = tree P (pieceBits m) in
@@ -291,45 +323,45 @@ done-all P m ws₀ log₀ levels ws log at bits d e room nodes n =
       there = omega (arith, n some, d .made some, d .sameWords, narrow P (pieceBits m) levels some);
     }
 
--- ---- in the terms of the code, whose parameters are numbers and the words of K
+-- ---- in the terms of the code, which has K beside the parameters
 
-module _ (k : List ℕ) (params : declared.Params) where
-  pub top-is : (m : Piece) → Fits m → topLevel (params .limit) (m .count) ≡ length (tree (paramsFrom k params) (pieceBits m))
+module _ (keyed : Keyed) where
+  abbrev Q : Params
+  Q = treeParams keyed
+
+  pub top-is : (m : Piece) → Fits m → topLevel (keyed .params .limit) (m .count) ≡ length (tree Q (pieceBits m))
   top-is m f =
-      ap (λ (n : ℕ). topLevel n (m .count)) (sym (limit-from k params))
-      ∙ ap (topLevel (paramsFrom k params .limit)) (sym (length-pieceBits m f))
-      ∙ top-height (paramsFrom k params) (pieceBits m)
+      ap (λ (n : ℕ). topLevel n (m .count)) (sym (limit-of keyed))
+      ∙ ap (topLevel (Q .limit)) (sym (length-pieceBits m f))
+      ∙ top-height Q (pieceBits m)
 
   -- what the next turn of the loop needs and gives
-  pub record Turn (m : Piece) (ws₀ log₀ : List ℕ) (levels : ℕ) (ws log : List ℕ) (at : ℕ) (level : Level) : Type 0 where
-    pub there : Source m ws level
-    pub fitting : Fitting ws level
-    pub logRoom : at + 2 * blocks (level .size) (level .bits) ≤ length log
-    pub more : (ws′ log′ : List ℕ) → ws′ ≡ over (paramsFrom k params) (levelOver (paramsFrom k params) level (source m ws level)) ws
-        → log′ ≡ put at (2 * blocks (level .size) (level .bits)) log (nodeLog (levelOver (paramsFrom k params) level (source m ws level))) → length log′ ≡ length log
-        → Done (paramsFrom k params) m ws₀ log₀ (levels + 1) ws′ log′ (at + 2 * blocks (level .size) (level .bits)) (outputBits * blocks (level .size) (level .bits))
+  pub record Turn (m : Piece) (ws₀ log₀ : List ℕ) (levels : ℕ) (ws log : List ℕ) (at : ℕ) (layer : Layer) : Type 0 where
+    pub there : Source (m .bytes) ws layer
+    pub fitting : Fitting ws layer
+    pub logRoom : at + 2 * nodesIn layer ≤ length log
+    pub more : (ws′ log′ : List ℕ) → ws′ ≡ layerOver Q (m .bytes) layer ws
+        → log′ ≡ put at (2 * nodesIn layer) log (nodeLog (layerNodes Q layer (source (m .bytes) ws layer))) → length log′ ≡ length log
+        → Done Q m ws₀ log₀ (levels + 1) ws′ log′ (at + 2 * nodesIn layer) (outputBits * nodesIn layer)
 
   -- the levels that are done, and the next one if there is one
   pub record Going (m : Piece) (ws₀ log₀ : List ℕ) (top levels : ℕ) (ws log : List ℕ) (at bits : ℕ) : Type 0 where
-    pub done : Done (paramsFrom k params) m ws₀ log₀ levels ws log at bits
-    pub next : levels < top → Turn m ws₀ log₀ levels ws log at (levelAbove (params .limit) levels bits)
+    pub done : Done Q m ws₀ log₀ levels ws log at bits
+    pub next : levels < top → Turn m ws₀ log₀ levels ws log at (layerAbove (keyed .params .limit) levels (spanAbove m bits))
 
   pub going : (m : Piece) (ws₀ log₀ : List ℕ) (top levels : ℕ) (ws log : List ℕ) (at bits : ℕ) → Fits m → m .count < 2 ^ 64
-      → Room (paramsFrom k params) (pieceBits m) ws₀ log₀ → (top ≡ topLevel (params .limit) (m .count)) × (top ≤ mostLevels)
-      → Done (paramsFrom k params) m ws₀ log₀ levels ws log at bits → Going m ws₀ log₀ top levels ws log at bits
+      → Room Q (pieceBits m) ws₀ log₀ → (top ≡ topLevel (keyed .params .limit) (m .count)) × (top ≤ mostLevels)
+      → Done Q m ws₀ log₀ levels ws log at bits → Going m ws₀ log₀ top levels ws log at bits
   going m ws₀ log₀ top levels ws log at bits f b room t d = record { done = d; next = next }
     where
-      P : Params
-      P = paramsFrom k params
-
-      next : levels < top → Turn m ws₀ log₀ levels ws log at (levelAbove (params .limit) levels bits)
+      next : levels < top → Turn m ws₀ log₀ levels ws log at (layerAbove (keyed .params .limit) levels (spanAbove m bits))
       next h =
-          let tall : top ≡ length (tree P (pieceBits m)) = t .0 ∙ top-is m f in
-          let here : levels < length (tree P (pieceBits m)) = omega arith in
-          subst (λ (n : ℕ). Turn m ws₀ log₀ levels ws log at (levelAbove n levels bits)) (limit-from k params)
+          let tall : top ≡ length (tree Q (pieceBits m)) = t .0 ∙ top-is m f in
+          let here : levels < length (tree Q (pieceBits m)) = omega arith in
+          subst (λ (n : ℕ). Turn m ws₀ log₀ levels ws log at (layerAbove n levels (spanAbove m bits))) (limit-of keyed)
           (record {
-            there = next-source P m ws₀ log₀ f levels ws log at bits d here (room .words);
-            fitting = next-fitting P m ws₀ log₀ f levels ws log at bits d here (room .words) b (omega (arith, t .1));
-            logRoom = next-log P m ws₀ log₀ f levels ws log at bits d here (room .words) (room .logWords);
-            more = done-more P m ws₀ log₀ f levels ws log at bits d here (room .words);
+            there = next-source Q m ws₀ log₀ f levels ws log at bits d here (room .words);
+            fitting = next-fitting Q m ws₀ log₀ f levels ws log at bits d here (room .words) b (omega (arith, t .1));
+            logRoom = next-log Q m ws₀ log₀ f levels ws log at bits d here (room .words) (room .logWords);
+            more = done-more Q m ws₀ log₀ f levels ws log at bits d here (room .words);
           })

@@ -1,8 +1,8 @@
-pub mod Line
-pub mod LineExamples
+pub mod Decides
+pub mod Digits
 pub mod Fold
 pub mod FoldLaws
-pub mod Digits
-pub mod Numbers
 pub mod Keys
-pub mod Decides
+pub mod Line
+pub mod LineExamples
+pub mod Numbers

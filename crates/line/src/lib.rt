@@ -2,7 +2,8 @@
 // fixed memory. No function asks anything of a state: the contracts hold of every value that a State may have.
 ghost use mathlib.Core.Path.{_≡_};
 ghost use mathlib.Core.Option.{some};
-ghost use Rattle.line.specs.Fold.{nextField, pushNumber, putByte, pushKey, start, spaceOf, pushAt, stepOf, readingOf, readFields, keyBytesIn};
+ghost use Rattle.line.specs.Fold.{nextField, pushNumber, putByte, pushKey, start, spaceOf, pushAt, stepOf};
+ghost use Rattle.line.specs.Fold.{readingOf, readFields, keyBytesIn};
 
 // The rounds that a line names: `-` for the default, or a number.
 pub enum Rounds {

@@ -23,10 +23,12 @@ fn line_state(line: &[u8]) -> State
     s
 }
 
-// The key is a part of the bytes that are kept.
+// The key's bytes are a part of those that are kept.
 fn write_key(kept: [u8; Key::KEPT], n: usize)
     requires { ⌜ n ≤ keptBytes ⌝ }
 {
+    io::print_decimal(STDOUT_FILENO, n as u64);
+    io::write_all(STDOUT_FILENO, b":");
     test_print::bytes(&kept[..n]);
 }
 
@@ -39,6 +41,15 @@ fn write_rounds(rounds: Rounds) {
             io::print_decimal(STDOUT_FILENO, r);
         }
     }
+}
+
+fn write_numbers(d: u64, limit: u64, rounds: Rounds) {
+    io::print_decimal(STDOUT_FILENO, d);
+    io::write_all(STDOUT_FILENO, b" ");
+    io::print_decimal(STDOUT_FILENO, limit);
+    io::write_all(STDOUT_FILENO, b" ");
+    write_rounds(rounds);
+    io::write_all(STDOUT_FILENO, b" ");
 }
 
 fn write_reading(s: State) {
@@ -54,14 +65,7 @@ fn write_reading(s: State) {
             rounds,
             key_bytes,
         } => {
-            io::print_decimal(STDOUT_FILENO, d);
-            io::write_all(STDOUT_FILENO, b" ");
-            io::print_decimal(STDOUT_FILENO, limit);
-            io::write_all(STDOUT_FILENO, b" ");
-            write_rounds(rounds);
-            io::write_all(STDOUT_FILENO, b" ");
-            io::print_decimal(STDOUT_FILENO, key_bytes as u64);
-            io::write_all(STDOUT_FILENO, b":");
+            write_numbers(d, limit, rounds);
             write_key(bytes, key_bytes);
         }
     }

@@ -2,6 +2,9 @@ pub mod And
 pub mod Append
 pub mod Below
 pub mod BelowLaws
+pub mod Cut
+pub mod CutExamples
+pub mod CutLaws
 pub mod Flatten
 pub mod Part
 pub mod PartLaws

@@ -17,7 +17,10 @@ pub extern "C" fn md6_hash(
     rounds: u64,
     digest: &mut [u8],
 ) -> u64
-    ensures { λ n. ⌜ (let h : Hashed = hashOf (record { bytes = now (message .entry); start = start; count = bits }) (record { key = now (key .entry); d = d; limit = limit; rounds = rounds }) (now (digest .entry)) in (n ≡ h .number) × (now (digest .exit) ≡ h .digest)) ⌝ }
+    ensures { λ n. ⌜ (let h : Hashed = hashOf (record { bytes = now (message .entry); start = start; count = bits })
+        (record { key = now (key .entry); d = d; limit = limit; rounds = rounds })
+        (now (digest .entry)) in
+        (n ≡ h .number) × (now (digest .exit) ≡ h .digest)) ⌝ }
 {
     let answer = hash::hash(message, start, bits, key, d, limit, rounds, digest);
     answer.number
@@ -37,7 +40,16 @@ pub extern "C" fn md6_layers(
     log: &mut [u64],
     digest: &mut [u8],
 ) -> refusals::Answer
-    ensures { λ o. ⌜ record { number = o .number; count = o .count; words = now (words .exit); log = now (log .exit); digest = now (digest .exit) } ≡ layersOf (record { bytes = now (message .entry); start = start; count = bits }) (record { key = now (key .entry); d = d; limit = limit; rounds = rounds }) (now (words .entry)) (now (log .entry)) (now (digest .entry)) ⌝ }
+    ensures { λ o. ⌜ record {
+      number = o .number;
+      count = o .count;
+      words = now (words .exit);
+      log = now (log .exit);
+      digest = now (digest .exit);
+    }
+        ≡ layersOf (record { bytes = now (message .entry); start = start; count = bits })
+        (record { key = now (key .entry); d = d; limit = limit; rounds = rounds })
+        (now (words .entry)) (now (log .entry)) (now (digest .entry)) ⌝ }
 {
     layers::layers(
         message,
@@ -94,7 +106,8 @@ pub extern "C" fn md6_open(
     limit: u64,
     rounds: u64,
 ) -> refusals::Answer
-    ensures { λ o. ⌜ record { number = o .number; count = o .count; area = now (area .exit) } ≡ openOf (now (area .entry)) (record { key = now (key .entry); d = d; limit = limit; rounds = rounds }) ⌝ }
+    ensures { λ o. ⌜ record { number = o .number; count = o .count; area = now (area .exit) }
+        ≡ openOf (now (area .entry)) (record { key = now (key .entry); d = d; limit = limit; rounds = rounds }) ⌝ }
 {
     stream::open(area, key, d, limit, rounds)
 }
@@ -108,7 +121,8 @@ pub extern "C" fn md6_feed(
     bits: u64,
     log: &mut [u64],
 ) -> refusals::Answer
-    ensures { λ o. ⌜ record { number = o .number; count = o .count; area = now (area .exit); log = now (log .exit) } ≡ feedOf (now (area .entry)) (record { bytes = now (piece .entry); start = start; count = bits }) (now (log .entry)) ⌝ }
+    ensures { λ o. ⌜ record { number = o .number; count = o .count; area = now (area .exit); log = now (log .exit) }
+        ≡ feedOf (now (area .entry)) (record { bytes = now (piece .entry); start = start; count = bits }) (now (log .entry)) ⌝ }
 {
     stream::feed(area, piece, start, bits, log)
 }
@@ -116,7 +130,14 @@ pub extern "C" fn md6_feed(
 // Ends a stream.
 #[no_mangle]
 pub extern "C" fn md6_end(area: &mut [u64], digest: &mut [u8], log: &mut [u64]) -> refusals::Answer
-    ensures { λ o. ⌜ record { number = o .number; count = o .count; area = now (area .exit); digest = now (digest .exit); log = now (log .exit) } ≡ endOf (now (area .entry)) (now (digest .entry)) (now (log .entry)) ⌝ }
+    ensures { λ o. ⌜ record {
+      number = o .number;
+      count = o .count;
+      area = now (area .exit);
+      digest = now (digest .exit);
+      log = now (log .exit);
+    }
+        ≡ endOf (now (area .entry)) (now (digest .entry)) (now (log .entry)) ⌝ }
 {
     stream::end(area, digest, log)
 }
@@ -124,7 +145,8 @@ pub extern "C" fn md6_end(area: &mut [u64], digest: &mut [u8], log: &mut [u64]) 
 // Writes the digest that an end would, and leaves the stream open as it is.
 #[no_mangle]
 pub extern "C" fn md6_preview(area: &[u64], digest: &mut [u8]) -> refusals::Answer
-    ensures { λ o. ⌜ record { number = o .number; count = o .count; digest = now (digest .exit) } ≡ previewOf (now (area .entry)) (now (digest .entry)) ⌝ }
+    ensures { λ o. ⌜ record { number = o .number; count = o .count; digest = now (digest .exit) }
+        ≡ previewOf (now (area .entry)) (now (digest .entry)) ⌝ }
 {
     stream::preview(area, digest)
 }
@@ -132,7 +154,8 @@ pub extern "C" fn md6_preview(area: &[u64], digest: &mut [u8]) -> refusals::Answ
 // Ends a stream if the given digest is the one that a preview would write.
 #[no_mangle]
 pub extern "C" fn md6_close(area: &mut [u64], digest: &[u8], log: &mut [u64]) -> refusals::Answer
-    ensures { λ o. ⌜ record { number = o .number; count = o .count; area = now (area .exit); log = now (log .exit) } ≡ closeOf (now (area .entry)) (now (digest .entry)) (now (log .entry)) ⌝ }
+    ensures { λ o. ⌜ record { number = o .number; count = o .count; area = now (area .exit); log = now (log .exit) }
+        ≡ closeOf (now (area .entry)) (now (digest .entry)) (now (log .entry)) ⌝ }
 {
     stream::close(area, digest, log)
 }
@@ -148,7 +171,8 @@ pub extern "C" fn md6_log_words(area: &[u64], bits: u64) -> refusals::Answer
 // Writes a stream as text.
 #[no_mangle]
 pub extern "C" fn md6_write(area: &[u64], text: &mut [u8]) -> refusals::Answer
-    ensures { λ o. ⌜ record { number = o .number; count = o .count; text = now (text .exit) } ≡ writeOf (now (area .entry)) (now (text .entry)) ⌝ }
+    ensures { λ o. ⌜ record { number = o .number; count = o .count; text = now (text .exit) }
+        ≡ writeOf (now (area .entry)) (now (text .entry)) ⌝ }
 {
     text::write(area, text)
 }
@@ -156,7 +180,8 @@ pub extern "C" fn md6_write(area: &[u64], text: &mut [u8]) -> refusals::Answer
 // Reads a text into an area.
 #[no_mangle]
 pub extern "C" fn md6_read(area: &mut [u64], text: &[u8]) -> refusals::Answer
-    ensures { λ o. ⌜ record { number = o .number; count = o .count; area = now (area .exit) } ≡ readOf (now (area .entry)) (now (text .entry)) ⌝ }
+    ensures { λ o. ⌜ record { number = o .number; count = o .count; area = now (area .exit) }
+        ≡ readOf (now (area .entry)) (now (text .entry)) ⌝ }
 {
     text::read(area, text)
 }

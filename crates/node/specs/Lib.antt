@@ -1,4 +1,4 @@
-pub mod Words
-pub mod WordLaws
-pub mod NodeLaws
 pub mod DigestLaws
+pub mod NodeLaws
+pub mod WordLaws
+pub mod Words

@@ -23,16 +23,18 @@ block-made before rest lb lr =
     paste-at before rest (replicate 48 0) 16 (length rest) lb refl ∙ rw lr refl in
     ap (λ (w : List ℕ). paste w 16 rest (length rest)) a ∙ b ∙ ap (λ (w : List ℕ). before ++ w) (append-nil rest)
 
--- Q, K, U, V and the block are written one after the other
+-- Q and K are written to a window that holds nothing
+pub key-put : (k : List ℕ) → length k ≡ 8 → paste (paste (replicate 89 0) 0 Q (length Q)) 15 k (length k) ≡ (Q ++ k) ++ replicate 66 0
+key-put k h = paste-at Q k (replicate 74 0) 15 (length k) refl refl ∙ rw h (sym (append-assoc Q k (replicate 66 0)))
+
+-- U, V and the block are written after them
 pub window-made : (k block : List ℕ) (u v : ℕ) → length k ≡ 8 → length block ≡ 64
-    → paste (set (set (paste (paste (replicate 89 0) 0 Q (length Q)) 15 k (length k)) 23 u) 24 v) 25 block (length block) ≡ windowOf k u v block
+    → paste (set (set ((Q ++ k) ++ replicate 66 0) 23 u) 24 v) 25 block (length block) ≡ windowOf k u v block
 window-made k block u v hk hb =
     let p : List ℕ = Q ++ k in
     let lp : length p ≡ 23 = simp length-append (omega arith) in
     let lu : length (p ++ (u ∷ [])) ≡ 24 = simp length-append (omega (arith, lp)) in
     let lv : length ((p ++ (u ∷ [])) ++ (v ∷ [])) ≡ 25 = simp length-append (omega (arith, lu)) in
-    let a : paste (paste (replicate 89 0) 0 Q (length Q)) 15 k (length k) ≡ p ++ replicate 66 0 =
-    paste-at Q k (replicate 74 0) 15 (length k) refl refl ∙ rw hk (sym (append-assoc Q k (replicate 66 0))) in
     let b : set (p ++ replicate 66 0) 23 u ≡ (p ++ (u ∷ [])) ++ replicate 65 0 =
     set-at p 0 (replicate 65 0) u 23 lp ∙ sym (append-assoc p (u ∷ []) (replicate 65 0)) in
     let c : set ((p ++ (u ∷ [])) ++ replicate 65 0) 24 v ≡ ((p ++ (u ∷ [])) ++ (v ∷ [])) ++ replicate 64 0 =
@@ -44,8 +46,7 @@ window-made k block u v hk hb =
     ∙ append-assoc p (u ∷ []) (v ∷ (block ++ []))
     ∙ append-assoc Q k (u ∷ v ∷ (block ++ []))
     ∙ ap (λ (w : List ℕ). Q ++ (k ++ (u ∷ v ∷ w))) (append-nil block) in
-    ap (λ (w : List ℕ). paste (set (set w 23 u) 24 v) 25 block (length block)) a
-    ∙ ap (λ (w : List ℕ). paste (set w 24 v) 25 block (length block)) b
+    ap (λ (w : List ℕ). paste (set w 24 v) 25 block (length block)) b
     ∙ ap (λ (w : List ℕ). paste w 25 block (length block)) c
     ∙ d
     ∙ e

@@ -12,8 +12,8 @@ use Rattle.bits.specs.BitsLaws.{bitsOf-zeros}
 use Rattle.tree.specs.Tree.{Params, words, blockBits}
 use Rattle.bits.specs.Piece.{Piece, pieceBits}
 use Rattle.node.specs.Words.{nodeWords}
-use Rattle.shape.specs.Shape.{held, blockPadding}
-use Rattle.nodes.specs.Value.{messagePart, joinedValues, childWords, blockFrom, nodeBlock, value}
+use Rattle.shape.specs.Shape.{taken, blockPadding}
+use Rattle.nodes.specs.Value.{messagePart, joinedValues, childWords, blockFrom, value, levelValues, nodeBlock}
 use Rattle.tree.specs.Count.{levelNodes}
 use Rattle.bits.specs.PieceLaws.{Fits, length-pieceBits}
 use Rattle.shape.specs.ShapeLaws.{leaf-index}
@@ -30,7 +30,7 @@ take-min (suc a) (suc b) (x ∷ l) = let e : min (suc a) (suc b) ≡ suc (min a 
 
 -- w zero words, filled with the message bits of the node at an index, from a bit of the bytes on
 pub filled-part : (m : Piece) (w size index from n : ℕ) → w * 64 ≡ size → size * index ≤ m .count → Fits m
-    → from ≡ m .start + size * index → n ≡ held size (m .count) index
+    → from ≡ m .start + size * index → n ≡ taken size (m .count) index
     → filled (replicate w 0) 0 (m .bytes) from n ≡ words w (messagePart size (pieceBits m) index)
 unfolding filled
 filled-part m w size index from n e h g ef en =
@@ -46,7 +46,7 @@ filled-part m w size index from n e h g ef en =
     ap (λ (k : ℕ). take size (drop (size * index) (take k D))) b
     ∙ ap (take size) (drop-take (size * index) (m .count - size * index) D)
     ∙ take-min size (m .count - size * index) (drop (size * index) D)
-    ∙ rw (en, ef) (ap (take (held size (m .count) index)) (drop-drop (size * index) (m .start) B)) in
+    ∙ rw (en, ef) (ap (take (taken size (m .count) index)) (drop-drop (size * index) (m .start) B)) in
     let p : paste (bitsOf 64 (replicate w 0)) 0 (drop from B) n ≡ take n (drop from B) ++ replicate (size - n) false =
     rw (zs, z, r) in
     let q : messagePart size (take (m .count) D) index ≡ take n (drop from B) ++ replicate (size - n) false = rw (t, lp, en) in
@@ -54,7 +54,7 @@ filled-part m w size index from n e h g ef en =
 
 -- ---- a leaf
 
-pub leaf-filled : (m : Piece) (index n : ℕ) → Fits m → index < levelNodes (m .count) 1 → n ≡ held blockBits (m .count) index
+pub leaf-filled : (m : Piece) (index n : ℕ) → Fits m → index < levelNodes (m .count) 1 → n ≡ taken blockBits (m .count) index
     → filled (replicate 64 0) 0 (m .bytes) (8 * (512 * index) + m .start) n ≡ words 64 (messagePart blockBits (pieceBits m) index)
 leaf-filled m index n g i en =
     filled-part m 64 blockBits index (8 * (512 * index) + m .start) n refl (leaf-index (m .count) index i) g (omega arith) en
@@ -103,14 +103,14 @@ unfolding blockFrom
 block-leaf P M level index e = rw e
 
 pub block-above : (P : Params) (m : Piece) (level index n : ℕ) → 1 < level → Fits m
-    → n ≡ held 4 (levelNodes (m .count) (level - 1)) index
-    → childWords (λ j. value P (pieceBits m) (level - 1) j 0) 4 (4 * index) n ≡ nodeBlock P (pieceBits m) level index
+    → n ≡ taken 4 (levelNodes (m .count) (level - 1)) index
+    → childWords (levelValues P (pieceBits m) (level - 1)) 4 (4 * index) n ≡ nodeBlock P (pieceBits m) level index
 unfolding blockFrom
 block-above P m zero index n h g en = absurd (omega arith)
 block-above P m (suc zero) index n h g en = absurd (omega arith)
 block-above P m (suc (suc l)) index n h g en =
     let e : suc (suc l) - 1 ≡ suc l = omega arith in
-    let k : n ≡ held 4 (levelNodes (m .count) (suc l)) index = rw e at en in
+    let k : n ≡ taken 4 (levelNodes (m .count) (suc l)) index = rw e at en in
     rw (length-pieceBits m g, k)
 
 -- the value of a node, from its block
@@ -123,10 +123,16 @@ value-made P m (suc l) index z block h g eb =
     let e : suc l - 1 ≡ l = omega arith in
     rw (eb, e, length-pieceBits m g)
 
--- every value has 16 words
-pub value-length : (P : Params) (M : List Bool) (level index z : ℕ) → 0 < level → length (value P M level index z) ≡ 16
-value-length P M zero index z g = absurd (omega arith)
-value-length P M (suc l) index z g = length-value P M l index z
+-- and that of a leaf, with the padding bits and the block that were worked out for it
+pub leaf-made : (P : Params) (m : Piece) (index z p : ℕ) (block : List ℕ) → Fits m → p ≡ blockPadding (m .count) 1 index
+    → block ≡ words 64 (messagePart blockBits (pieceBits m) index) → nodeWords P 1 index z p block ≡ value P (pieceBits m) 1 index z
+leaf-made P m index z p block g ep eb =
+    rw ep (value-made P m 1 index z block (omega arith) g (eb ∙ block-leaf P (pieceBits m) 1 index refl))
+
+-- the values of a level have 16 words each
+pub length-values : (P : Params) (M : List Bool) (level : ℕ) → 0 < level → (index : ℕ) → length (levelValues P M level index) ≡ 16
+length-values P M zero h index = absurd (omega arith)
+length-values P M (suc l) h index = length-value P M l index 0
 
 -- one child more is put behind those that are there
 pub child-put : (f : ℕ → List ℕ) (room a j : ℕ) (ws made : List ℕ) → ((i : ℕ) → length (f i) ≡ 16) → j < room

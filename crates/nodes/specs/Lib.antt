@@ -1,5 +1,5 @@
+pub mod BlockLaws
+pub mod NodeByNode
+pub mod SequentialLaws
 pub mod Value
 pub mod ValueLaws
-pub mod NodeByNode
-pub mod BlockLaws
-pub mod SequentialLaws

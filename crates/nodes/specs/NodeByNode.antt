@@ -18,8 +18,8 @@ use Rattle.tree.specs.TreeLaws.{above, lastOnly, chainAt, chainAt-zero, chainAt
 use Rattle.tree.specs.Places.{no-node, index-below, root-place}
 use Rattle.tree.specs.Count.{levelNodes, levelNodes-one, levelNodes-some}
 use Rattle.node.specs.Words.{nodeWords}
-use Rattle.shape.specs.Shape.{held, sequentialNodes, sequentialPadding, topFrom}
-use Rattle.nodes.specs.Value.{messagePart, joinedValues, childWords, value, sequentialWords, chain, valueAt, rootValue}
+use Rattle.shape.specs.Shape.{taken, sequentialNodes, sequentialPadding, topFrom}
+use Rattle.nodes.specs.Value.{messagePart, joinedValues, childWords, value, levelValues, sequentialWords, chain, lastChained, valueAt, rootValue}
 use Rattle.shape.specs.ShapeLaws.{levelNodes-outputs}
 use Rattle.nodes.specs.ValueLaws.{pad-part, joined-zero, joined-cons, length-joinedValues, below-joinedValues, joined-part, value-one, value-suc, length-value, below-value, chain-zero, chain-suc, length-chain, below-chain}
 use Rattle.node.specs.WordLaws.{output-words}
@@ -36,15 +36,15 @@ part-words n size p X j e h g =
 
 -- a block of q values of nodes below
 child-part : (f : ℕ → List ℕ) (q c i : ℕ) → ((j : ℕ) → length (f j) ≡ 16) → ((j : ℕ) → Below (2 ^ 64) (f j)) → q * i ≤ c
-    → words (16 * q) (messagePart (1024 * q) (bitsOf 64 (joinedValues f 0 c)) i) ≡ childWords f q (q * i) (held q c i)
+    → words (16 * q) (messagePart (1024 * q) (bitsOf 64 (joinedValues f 0 c)) i) ≡ childWords f q (q * i) (taken q c i)
 child-part f q c i len low h =
     let W : List ℕ = joinedValues f 0 c in
-    let n : ℕ = held q c i in
+    let n : ℕ = taken q c i in
     let lW : length W ≡ 16 * c = length-joinedValues f 0 c len in
     let lB : length (bitsOf 64 W) ≡ 1024 * c = length-bitsOf 64 W ∙ omega arith in
     let a : 1024 * q * i ≡ 16 * (q * i) * 64 = omega arith in
     let b : 1024 * q ≡ 16 * q * 64 = omega arith in
-    let p : 1024 * q - held (1024 * q) (length (bitsOf 64 W)) i ≡ 16 * (q - n) * 64 = rw lB (omega arith) in
+    let p : 1024 * q - taken (1024 * q) (length (bitsOf 64 W)) i ≡ 16 * (q - n) * 64 = rw lB (omega arith) in
     let d : drop (1024 * q * i) (bitsOf 64 W) ≡ bitsOf 64 (drop (16 * (q * i)) W) =
     ap (λ (k : ℕ). drop k (bitsOf 64 W)) a ∙ bitsOf-drop 64 (16 * (q * i)) W in
     let t : take (1024 * q) (drop (1024 * q * i) (bitsOf 64 W)) ≡ bitsOf 64 (joinedValues f (q * i) n) =
@@ -100,7 +100,8 @@ module _ (P : Params) (M : List Bool) where
   blocks-inputs : (h : ℕ) → blocks blockBits (length (inputs P M h)) ≡ levelNodes (length M) (suc h)
   unfolding inputs
   blocks-inputs zero = sym (levelNodes-one (length M))
-  blocks-inputs (suc h) = rw (length-joined-parallel P (suc h) false (inputs P M h), blocks-inputs h) (sym (levelNodes-outputs (length M) h))
+  blocks-inputs (suc h) =
+      rw (length-joined-parallel P (suc h) false (inputs P M h), blocks-inputs h) (sym (levelNodes-outputs (length M) h))
 
   length-inputs : (h : ℕ) → length (inputs P M (suc h)) ≡ outputBits * levelNodes (length M) (suc h)
   unfolding inputs
@@ -116,42 +117,50 @@ module _ (P : Params) (M : List Bool) where
 
   -- the bits of the level above
   inputs-above : (h : ℕ) → NodeValues h
-      → inputs P M (suc h) ≡ bitsOf 64 (joinedValues (λ j. value P M (suc h) j 0) 0 (levelNodes (length M) (suc h)))
+      → inputs P M (suc h) ≡ bitsOf 64 (joinedValues (levelValues P M (suc h)) 0 (levelNodes (length M) (suc h)))
   unfolding inputs
   inputs-above h f =
       let X : List Bool = inputs P M h in
       let ns : List Node = parallel P (suc h) false X in
       let l : length ns ≡ levelNodes (length M) (suc h) = length-parallel P (suc h) false X ∙ blocks-inputs h in
-      joined-outputs (output (P .rounds)) (λ j. value P M (suc h) j 0) ns 0
+      joined-outputs (output (P .rounds)) (levelValues P M (suc h)) ns 0
       (λ j n e.
       let b : j < length ns = index-below ns j n e in
       let at = parallel-at P (suc h) false X j (omega (arith, length-parallel P (suc h) false X)) in
       let s : levelNode h j 0 ≡ n = same-node (levelNode h j 0) n (sym at ∙ e) in
       let z : 0 + j ≡ j = omega arith in
       ap (output (P .rounds)) (sym s) ∙ f j 0 (omega arith) ∙ ap (λ (x : ℕ). bitsOf 64 (value P M (suc h) x 0)) (sym z))
-      ∙ ap (λ (n : ℕ). bitsOf 64 (joinedValues (λ j. value P M (suc h) j 0) 0 n)) l
+      ∙ ap (λ (n : ℕ). bitsOf 64 (joinedValues (levelValues P M (suc h)) 0 n)) l
+
+  -- the words that node j of the next level cuts out of those bits, where a node takes q children
+  children-words : (h q j : ℕ) → NodeValues h
+      → (let c : ℕ = levelNodes (length M) (suc h) in
+      let size : ℕ = outputBits * q in
+      let p : ℕ = padding size (outputBits * c) in
+      size * j ≤ outputBits * c → size * j + size ≤ outputBits * c + p → q * j ≤ c
+      → words (16 * q) (drop (size * j) (padded size (inputs P M (suc h)))) ≡ childWords (levelValues P M (suc h)) q (q * j) (taken q c j))
+  children-words h q j values inside enough below =
+      let X : List Bool = inputs P M (suc h) in
+      let l : length X ≡ outputBits * levelNodes (length M) (suc h) = length-inputs h in
+      part-words (16 * q) (outputBits * q) (padding (outputBits * q) (length X)) X j (omega arith) (rw l inside) (rw l enough)
+      ∙ ap (λ (Y : List Bool). words (16 * q) (messagePart (outputBits * q) Y j)) (inputs-above h values)
+      ∙ child-part (levelValues P M (suc h)) q _ j (λ k. length-value P M h k 0) (λ k. below-value P M h k 0) below
 
   -- node j at level h + 1 has the value that is worked out for it
   node-values : (h : ℕ) → NodeValues h
   unfolding inputs
   node-values zero j z i =
       let b : j < blocks blockBits (length M) = rw (levelNodes-one (length M)) at i in
-      let e : blockBits * suc j - length M ≡ blockBits - held blockBits (length M) j = omega arith in
+      let e : blockBits * suc j - length M ≡ blockBits - taken blockBits (length M) j = omega arith in
       let w = part-words 64 blockBits (padding blockBits (length M)) M j refl (omega arith) (omega arith) in
       output-same P 1 j z _ _ _ _ (length-numbers 64 64 _) e w ∙ ap (bitsOf 64) (sym (value-one P M j z))
   node-values (suc h) j z i =
-      let f : ℕ → List ℕ = λ j. value P M (suc h) j 0 in
       let c : ℕ = levelNodes (length M) (suc h) in
-      let X : List Bool = inputs P M (suc h) in
       let b : j < blocks blockBits (outputBits * c) = rw (levelNodes-outputs (length M) h) at i in
-      let l : length X ≡ outputBits * c = length-inputs h in
-      let e : blockBits * suc j - length X ≡ outputBits * (4 - held 4 c j) = rw l (omega (arith, levelNodes-some (length M) h)) in
-      let w : words 64 (drop (blockBits * j) (padded blockBits X)) ≡ words 64 (messagePart blockBits X j) =
-      part-words 64 blockBits (padding blockBits (length X)) X j refl (rw l (omega (arith, levelNodes-some (length M) h))) (rw l (omega (arith, levelNodes-some (length M) h))) in
-      let v : words 64 (messagePart blockBits X j) ≡ childWords f 4 (4 * j) (held 4 c j) =
-      ap (λ (Y : List Bool). words 64 (messagePart blockBits Y j)) (inputs-above h (node-values h))
-      ∙ child-part f 4 c j (λ k. length-value P M h k 0) (λ k. below-value P M h k 0) (omega (arith, levelNodes-some (length M) h)) in
-      output-same P (suc (suc h)) j z _ _ _ _ (length-numbers 64 64 _) e (w ∙ v) ∙ ap (bitsOf 64) (sym (value-suc P M h j z))
+      let some-c : 1 ≤ c = levelNodes-some (length M) h in
+      let e : blockBits * suc j - length (inputs P M (suc h)) ≡ outputBits * (4 - taken 4 c j) = rw (length-inputs h) (omega arith) in
+      let w = children-words h 4 j (node-values h) (omega arith) (omega arith) (omega arith) in
+      output-same P (suc (suc h)) j z _ _ _ _ (length-numbers 64 64 _) e w ∙ ap (bitsOf 64) (sym (value-suc P M h j z))
 
   -- ---- the sequential level
 
@@ -169,18 +178,10 @@ module _ (P : Params) (M : List Bool) where
   sequential-part zero j i =
       (omega arith, part-words 48 sequentialBits (padding sequentialBits (length M)) M j refl (omega arith) (omega arith), λ q. omega arith)
   sequential-part (suc h) j i =
-      let f : ℕ → List ℕ = λ j. value P M (suc h) j 0 in
       let c : ℕ = levelNodes (length M) (suc h) in
-      let X : List Bool = inputs P M (suc h) in
-      let l : length X ≡ outputBits * c = length-inputs h in
       let some-c : 1 ≤ c = levelNodes-some (length M) h in
-      let e : sequentialBits * suc j - length X ≡ outputBits * (3 - held 3 c j) = rw l (omega arith) in
-      let w : words 48 (drop (sequentialBits * j) (padded sequentialBits X)) ≡ words 48 (messagePart sequentialBits X j) =
-      part-words 48 sequentialBits (padding sequentialBits (length X)) X j refl (rw l (omega arith)) (rw l (omega arith)) in
-      let v : words 48 (messagePart sequentialBits X j) ≡ childWords f 3 (3 * j) (held 3 c j) =
-      ap (λ (Y : List Bool). words 48 (messagePart sequentialBits Y j)) (inputs-above h (node-values h))
-      ∙ child-part f 3 c j (λ k. length-value P M h k 0) (λ k. below-value P M h k 0) (omega arith) in
-      (e, w ∙ v, λ q. omega arith)
+      let e : sequentialBits * suc j - length (inputs P M (suc h)) ≡ outputBits * (3 - taken 3 c j) = rw (length-inputs h) (omega arith) in
+      (e, children-words h 3 j (node-values h) (omega arith) (omega arith) (omega arith), λ q. omega arith)
 
   module _ (l : ℕ) where
     abbrev sequentialInput : List Bool
@@ -203,20 +204,24 @@ module _ (P : Params) (M : List Bool) where
     chain-values (suc j) i =
         let s = sequential-part l j (omega arith) in
         let z : 0 + j ≡ j = omega arith in
-        let o : digit (eqb (suc j) (sequentialNodes l (length M))) ≡ 0 = rw (ne-eqb (suc j) (sequentialNodes l (length M)) (λ e. omega arith)) refl in
+        let o : digit (eqb (suc j) (sequentialNodes l (length M))) ≡ 0 =
+        rw (ne-eqb (suc j) (sequentialNodes l (length M)) (λ e. omega arith)) refl in
         let c : words 16 (chainAt P (suc l) 0 noChain sequentialInput j) ≡ chain P l M j =
         ap (words 16) (chain-values j (omega arith)) ∙ chain-value j in
         let B : List ℕ = words 16 (chainAt P (suc l) 0 noChain sequentialInput j) ++ words 48 (drop (sequentialBits * j) sequentialInput) in
         let g : B ≡ chain P l M j ++ sequentialWords P l M j = rw (c, s .1) in
         let v : chain P l M (suc j) ≡ nodeWords P (suc l) j 0 0 (chain P l M j ++ sequentialWords P l M j) =
         chain-suc P M l j ∙ rw (o, s .2 i) in
-        chainAt-suc P (suc l) 0 noChain sequentialInput j ∙ rw z (output-same P (suc l) j 0 0 0 B _ (length-seqBlock P _ _) refl g) ∙ ap (bitsOf 64) (sym v)
+        chainAt-suc P (suc l) 0 noChain sequentialInput j
+        ∙ rw z (output-same P (suc l) j 0 0 0 B _ (length-seqBlock P _ _) refl g)
+        ∙ ap (bitsOf 64) (sym v)
 
     sequential-values : (j : ℕ) (a : Node) → getElem? (sequential P (suc l) (inputs P M l)) j ≡ some a
         → output (P .rounds) a ≡ bitsOf 64 (chain P l M (suc j))
     sequential-values j a e =
         let X : List Bool = inputs P M l in
-        let b : j < blocks sequentialBits (length X) = omega (arith, index-below (sequential P (suc l) X) j a e, length-sequential P (suc l) X) in
+        let b : j < blocks sequentialBits (length X) =
+        omega (arith, index-below (sequential P (suc l) X) j a e, length-sequential P (suc l) X) in
         let n : sequentialNodes l (length M) ≡ blocks sequentialBits (length X) = sequential-nodes l in
         let s = sequential-part l j (omega arith) in
         let at = sequential-at P (suc l) X j b in
@@ -224,7 +229,8 @@ module _ (P : Params) (M : List Bool) where
         last-flag (blocks sequentialBits (length X)) j ∙ ap (λ (k : ℕ). digit (eqb (suc j) k)) (sym n) in
         let c : words 16 (chainAt P (suc l) 0 noChain sequentialInput j) ≡ chain P l M j =
         ap (words 16) (chain-values j (omega arith)) ∙ chain-value j in
-        let g : words 16 (chainAt P (suc l) 0 noChain sequentialInput j) ++ words 48 (drop (sequentialBits * j) sequentialInput) ≡ chain P l M j ++ sequentialWords P l M j =
+        let g : words 16 (chainAt P (suc l) 0 noChain sequentialInput j) ++ words 48 (drop (sequentialBits * j) sequentialInput)
+        ≡ chain P l M j ++ sequentialWords P l M j =
         rw (c, s .1) in
         ap (output (P .rounds)) (sym (same-node _ a (sym at ∙ e)))
         ∙ rw f (output-same P (suc l) j (digit (eqb (suc j) (sequentialNodes l (length M)))) _ _ _ _ (length-seqBlock P _ _) (s .0) g)
@@ -237,7 +243,8 @@ module _ (P : Params) (M : List Bool) where
       → output (P .rounds) a ≡ bitsOf 64 (value P M (suc h) i (digit alone))
   parallel-values h alone i a e =
       let X : List Bool = inputs P M h in
-      let b : i < blocks blockBits (length X) = omega (arith, index-below (parallel P (suc h) alone X) i a e, length-parallel P (suc h) alone X) in
+      let b : i < blocks blockBits (length X) =
+      omega (arith, index-below (parallel P (suc h) alone X) i a e, length-parallel P (suc h) alone X) in
       let s : levelNode h i (digit alone) ≡ a = same-node _ a (sym (parallel-at P (suc h) alone X i b) ∙ e) in
       ap (output (P .rounds)) (sym s) ∙ node-values h i (digit alone) (omega (arith, blocks-inputs h))
 
@@ -249,6 +256,10 @@ module _ (P : Params) (M : List Bool) where
   value-sequential : (index : ℕ) → valueAt P (P .limit) M (suc (P .limit)) index ≡ chain P (P .limit) M (suc index)
   unfolding valueAt
   value-sequential index = rw (lt-ltb (P .limit) (suc (P .limit)) (omega arith))
+
+  -- whether a level has one node
+  flag : (h : ℕ) (b : Bool) → eqb (blocks blockBits (length (inputs P M h))) 1 ≡ b → eqb (levelNodes (length M) (suc h)) 1 ≡ b
+  flag h b q = rw (← (blocks-inputs h)) q
 
   -- the levels from h + 1 up, of which n may be parallel
   levels-values : (n h : ℕ) → h + n ≡ P .limit → (k i : ℕ) (a : Node) → nodeAt (levels P n (suc h) (inputs P M h)) (suc k) i ≡ some a
@@ -264,16 +275,14 @@ module _ (P : Params) (M : List Bool) where
       X : List Bool
       X = inputs P M h
 
-      flag : (b : Bool) → eqb (blocks blockBits (length (inputs P M h))) 1 ≡ b → eqb (levelNodes (length M) (suc h)) 1 ≡ b
-      flag b q = rw (← (blocks-inputs h)) q
-
       first : (b : Bool) → eqb (blocks blockBits (length (inputs P M h))) 1 ≡ b → getElem? (parallel P (suc h) b (inputs P M h)) i ≡ some a
           → output (P .rounds) a ≡ bitsOf 64 (valueAt P (P .limit) M (suc h + 0) i)
       first b q w =
           let z : suc h + 0 ≡ suc h = omega arith in
-          parallel-values h b i a w ∙ rw (z, value-parallel (suc h) i b (omega arith) (flag b q))
+          parallel-values h b i a w ∙ rw (z, value-parallel (suc h) i b (omega arith) (flag h b q))
 
-      go : (b : Bool) → eqb (blocks blockBits (length (inputs P M h))) 1 ≡ b → (k : ℕ) → nodeAt (above P n (suc h) b (inputs P M h)) (suc k) i ≡ some a
+      go : (b : Bool) → eqb (blocks blockBits (length (inputs P M h))) 1 ≡ b
+          → (k : ℕ) → nodeAt (above P n (suc h) b (inputs P M h)) (suc k) i ≡ some a
           → ((k i : ℕ) (a : Node) → nodeAt (levels P n (suc (suc h)) (inputs P M (suc h))) (suc k) i ≡ some a
           → output (P .rounds) a ≡ bitsOf 64 (valueAt P (P .limit) M (suc (suc h) + k) i))
           → output (P .rounds) a ≡ bitsOf 64 (valueAt P (P .limit) M (suc h + k) i)
@@ -287,13 +296,18 @@ module _ (P : Params) (M : List Bool) where
   -- the root, with its level
   abbrev rootFrom : ℕ → List ℕ
   rootFrom top =
-      cond (ltb (P .limit) top) (chain P (P .limit) M (sequentialNodes (P .limit) (length M))) (value P M top 0 1)
+      cond (ltb (P .limit) top) (lastChained P (P .limit) M) (value P M top 0 1)
 
-  levels-root : (n h : ℕ) → h + n ≡ P .limit → output (P .rounds) (rootOf (levels P n (suc h) (inputs P M h))) ≡ bitsOf 64 (rootFrom (topFrom (length M) n (suc h)))
+  abbrev RootValue : ℕ → ℕ → Type 0
+  RootValue n h =
+      output (P .rounds) (rootOf (levels P n (suc h) (inputs P M h))) ≡ bitsOf 64 (rootFrom (topFrom (length M) n (suc h)))
+
+  levels-root : (n h : ℕ) → h + n ≡ P .limit → RootValue n h
   unfolding topFrom
   levels-root zero h t =
       let s : h ≡ P .limit = omega arith in
-      rw (s, lt-ltb (P .limit) (suc (P .limit)) (omega arith)) (last-of (sequentialNodes (P .limit) (length M)) (sequential-nodes (P .limit)))
+      rw (s, lt-ltb (P .limit) (suc (P .limit)) (omega arith))
+      (last-of (sequentialNodes (P .limit) (length M)) (sequential-nodes (P .limit)))
     where
       S : List Node
       S = sequential P (suc (P .limit)) (inputs P M (P .limit))
@@ -306,23 +320,21 @@ module _ (P : Params) (M : List Bool) where
           (root-place (S ∷ []) 1 j (refl, e ∙ sym (length-sequential P (suc (P .limit)) (inputs P M (P .limit)))))
   levels-root (suc n) h t = go (eqb (blocks blockBits (length (inputs P M h))) 1) refl (levels-root n (suc h) (omega arith))
     where
-      flag : (b : Bool) → eqb (blocks blockBits (length (inputs P M h))) 1 ≡ b → eqb (levelNodes (length M) (suc h)) 1 ≡ b
-      flag b q = rw (← (blocks-inputs h)) q
-
-      go : (b : Bool) → eqb (blocks blockBits (length (inputs P M h))) 1 ≡ b
-          → output (P .rounds) (rootOf (levels P n (suc (suc h)) (inputs P M (suc h)))) ≡ bitsOf 64 (rootFrom (topFrom (length M) n (suc (suc h))))
-          → output (P .rounds) (rootOf (levels P (suc n) (suc h) (inputs P M h))) ≡ bitsOf 64 (rootFrom (topFrom (length M) (suc n) (suc h)))
+      go : (b : Bool) → eqb (blocks blockBits (length (inputs P M h))) 1 ≡ b → RootValue n (suc h) → RootValue (suc n) h
       go true q up =
           let N : List Node = parallel P (suc h) true (inputs P M h) in
           let one : blocks blockBits (length (inputs P M h)) ≡ 1 = eqb-true _ 1 q in
           let l : length N ≡ 1 = length-parallel P (suc h) true (inputs P M h) ∙ one in
-          rw (levels-one P n (suc h) (inputs P M h) one, flag true q, le-ltb (P .limit) (suc h) (omega arith))
+          rw (levels-one P n (suc h) (inputs P M h) one, flag h true q, le-ltb (P .limit) (suc h) (omega arith))
           (parallel-values h true 0 (rootOf (N ∷ [])) (root-place (N ∷ []) 1 0 (refl, sym l)))
       go false q up =
-          let more : 1 < blocks blockBits (length (inputs P M h)) = omega (arith, eqb-false (blocks blockBits (length (inputs P M h))) 1 q) in
+          let more : 1 < blocks blockBits (length (inputs P M h)) =
+          omega (arith, eqb-false (blocks blockBits (length (inputs P M h))) 1 q) in
           let Y : List Bool = joinedOutputs P (parallel P (suc h) false (inputs P M h)) in
           let T : List (List Node) = levels P n (suc (suc h)) Y in
-          rw (levels-more P n (suc h) (inputs P M h) more, flag false q, rootOf-cons (parallel P (suc h) false (inputs P M h)) T (levels-some P n (suc (suc h)) Y))
+          let root : rootOf (parallel P (suc h) false (inputs P M h) ∷ T) ≡ rootOf T =
+          rootOf-cons (parallel P (suc h) false (inputs P M h)) T (levels-some P n (suc (suc h)) Y) in
+          rw (levels-more P n (suc h) (inputs P M h) more, flag h false q, root)
           (rw (inputs-suc P M h) at up)
 
   -- the theorem: the node at a place of the levels has as output the bits of the value worked out for that place
@@ -346,7 +358,8 @@ module _ (P : Params) (M : List Bool) where
       z : ℕ
       z = digit (eqb (levelNodes (length M) (suc h)) 1)
 
-      go : (b : Bool) → (let v : List ℕ = cond b (chain P (P .limit) M (suc index)) (value P M (suc h) index z) in words 16 (bitsOf 64 v) ≡ v)
+      go : (b : Bool)
+          → (let v : List ℕ = cond b (chain P (P .limit) M (suc index)) (value P M (suc h) index z) in words 16 (bitsOf 64 v) ≡ v)
       go true = chain-value (P .limit) (suc index)
       go false = numbers-exact 64 16 (below-value P M h index z) (length-value P M h index z)
 

@@ -12,8 +12,8 @@ use Rattle.bits.specs.Bits.{digit, filled}
 use Rattle.tree.specs.Tree.{Params, words, sequentialBits}
 use Rattle.bits.specs.Piece.{Piece, pieceBits}
 use Rattle.node.specs.Words.{nodeWords}
-use Rattle.shape.specs.Shape.{held, sequentialNodes, sequentialPadding, topLevel}
-use Rattle.nodes.specs.Value.{messagePart, childWords, value, sequentialWords, chain, rootValue}
+use Rattle.shape.specs.Shape.{taken, sequentialNodes, sequentialPadding, topLevel}
+use Rattle.nodes.specs.Value.{messagePart, childWords, value, levelValues, sequentialWords, chained, chain, lastChained, rootValue}
 use Rattle.tree.specs.Count.{levelNodes}
 use Rattle.shape.specs.ShapeLaws.{message-index}
 use Rattle.nodes.specs.ValueLaws.{chain-suc}
@@ -23,7 +23,7 @@ use Rattle.nodes.specs.BlockLaws.{filled-part}
 
 -- ---- words
 
-pub message-filled : (m : Piece) (index n : ℕ) → Fits m → index < sequentialNodes 0 (m .count) → n ≡ held sequentialBits (m .count) index
+pub message-filled : (m : Piece) (index n : ℕ) → Fits m → index < sequentialNodes 0 (m .count) → n ≡ taken sequentialBits (m .count) index
     → filled (replicate 48 0) 0 (m .bytes) (8 * (384 * index) + m .start) n ≡ words 48 (messagePart sequentialBits (pieceBits m) index)
 message-filled m index n g i en =
     filled-part m 48 sequentialBits index (8 * (384 * index) + m .start) n refl (message-index (m .count) index i) g (omega arith) en
@@ -34,8 +34,8 @@ unfolding sequentialWords
 words-message P limit M index e = rw e
 
 pub words-children : (P : Params) (limit : ℕ) (m : Piece) (index n : ℕ) → 0 < limit → Fits m
-    → n ≡ held 3 (levelNodes (m .count) limit) index
-    → childWords (λ j. value P (pieceBits m) limit j 0) 3 (3 * index) n ≡ sequentialWords P limit (pieceBits m) index
+    → n ≡ taken 3 (levelNodes (m .count) limit) index
+    → childWords (levelValues P (pieceBits m) limit) 3 (3 * index) n ≡ sequentialWords P limit (pieceBits m) index
 unfolding sequentialWords
 words-children P zero m index n h g en = absurd (omega arith)
 words-children P (suc l) m index n h g en = rw (length-pieceBits m g, en)
@@ -46,25 +46,32 @@ rest-made rest l = paste-at [] rest (replicate 48 0) 0 (length rest) refl refl �
 
 -- ---- the chain
 
-pub chain-more : (P : Params) (limit : ℕ) (m : Piece) (index z : ℕ) (last : List ℕ) → Fits m
-    → z ≡ digit (eqb (suc index) (sequentialNodes limit (m .count)))
-    → last ≡ chain P limit (pieceBits m) index
-    → nodeWords P (limit + 1) index z (sequentialPadding limit (m .count) index) (last ++ sequentialWords P limit (pieceBits m) index)
-    ≡ chain P limit (pieceBits m) (index + 1)
-chain-more P limit m index z last g ez el =
-    let M : List Bool = pieceBits m in
-    let l : length M ≡ m .count = length-pieceBits m g in
+-- the value of a node, from its block
+pub chained-made : (P : Params) (limit : ℕ) (m : Piece) (index z p : ℕ) (before block : List ℕ) → Fits m
+    → p ≡ sequentialPadding limit (m .count) index → block ≡ before ++ sequentialWords P limit (pieceBits m) index
+    → nodeWords P (limit + 1) index z p block ≡ chained P limit (pieceBits m) index z before
+chained-made P limit m index z p before block g ep eb =
     let s : limit + 1 ≡ suc limit = omega arith in
+    rw (s, ep, eb, length-pieceBits m g)
+
+-- the chain goes on
+pub chain-more : (P : Params) (limit : ℕ) (m : Piece) (index z : ℕ) (last : List ℕ) → Fits m
+    → z ≡ digit (eqb (suc index) (sequentialNodes limit (m .count))) → last ≡ chain P limit (pieceBits m) index
+    → chained P limit (pieceBits m) index z last ≡ chain P limit (pieceBits m) (index + 1)
+chain-more P limit m index z last g ez el =
     let t : index + 1 ≡ suc index = omega arith in
-    let e : chain P limit M (suc index)
-    ≡ nodeWords P (suc limit) index (digit (eqb (suc index) (sequentialNodes limit (m .count)))) (sequentialPadding limit (m .count) index) (chain P limit M index ++ sequentialWords P limit M index) =
-    chain-suc P M limit index ∙ rw l in
-    rw (s, t, ez, el) (sym e)
+    let e : z ≡ digit (eqb (suc index) (sequentialNodes limit (length (pieceBits m)))) = rw (length-pieceBits m g) ez in
+    rw (t, e, el) (sym (chain-suc P (pieceBits m) limit index))
+
+-- and ends
+pub chain-all : (P : Params) (limit : ℕ) (m : Piece) (n : ℕ) (last : List ℕ) → Fits m → n ≡ sequentialNodes limit (m .count)
+    → last ≡ chain P limit (pieceBits m) n → last ≡ lastChained P limit (pieceBits m)
+chain-all P limit m n last g en el = rw (el, en, length-pieceBits m g)
 
 -- ---- the root
 
 pub root-chain : (P : Params) (limit : ℕ) (m : Piece) → Fits m → limit < topLevel limit (m .count)
-    → chain P limit (pieceBits m) (sequentialNodes limit (m .count)) ≡ rootValue P limit (pieceBits m)
+    → lastChained P limit (pieceBits m) ≡ rootValue P limit (pieceBits m)
 unfolding rootValue
 root-chain P limit m g h = rw (length-pieceBits m g, lt-ltb limit (topLevel limit (m .count)) h)
 

@@ -11,18 +11,18 @@ use Rattle.bits.specs.Piece.{Piece}
 use Rattle.bits.specs.PieceLaws.{Fits}
 use Rattle.tree.specs.Tree.{Params, words, blockBits, sequentialBits}
 use Rattle.tree.specs.Count.{levelNodes}
-use Rattle.refusals.specs.declared.Params as declared
-use Rattle.shape.specs.Shape.{held, blockPadding, sequentialNodes, sequentialPadding, topLevel}
+use Rattle.shape.specs.Shape.{taken, blockPadding, sequentialNodes, sequentialPadding, topLevel}
 use Rattle.node.specs.Words.{nodeWords, Ready}
+use Rattle.node.specs.declared.Keyed.{Keyed}
 
 -- what the code that works out values is given: what every node needs, and a message that has its bits
-pub record Given (message : Piece) (k : List ℕ) (params : declared.Params) (constants : List ℕ) : Type 0 where
-  pub ready : Ready k params constants
+pub record Given (message : Piece) (keyed : Keyed) (constants : List ℕ) : Type 0 where
+  pub ready : Ready keyed constants
   pub enough : Fits message
 
 -- the message bits that a node at an index takes, and zero bits after them
 abbrev pub messagePart : ℕ → List Bool → ℕ → List Bool
-messagePart size M index = take size (drop (size * index) M) ++ replicate (size - held size (length M) index) false
+messagePart size M index = take size (drop (size * index) M) ++ replicate (size - taken size (length M) index) false
 
 -- the values f of n nodes from an index on, joined
 unfoldable pub joinedValues : (ℕ → List ℕ) → ℕ → ℕ → List ℕ
@@ -38,7 +38,7 @@ childWords f room index n = joinedValues f index n ++ replicate (16 * (room - n)
 unfoldable pub blockFrom : (ℕ → List ℕ) → List Bool → ℕ → ℕ → List ℕ
 blockFrom f M zero index = []
 blockFrom f M (suc zero) index = words 64 (messagePart blockBits M index)
-blockFrom f M (suc (suc level)) index = childWords f 4 (4 * index) (held 4 (levelNodes (length M) (suc level)) index)
+blockFrom f M (suc (suc level)) index = childWords f 4 (4 * index) (taken 4 (levelNodes (length M) (suc level)) index)
 
 -- the value of the node at a parallel level and an index; z is 1 at the root
 unfoldable pub value : Params → List Bool → ℕ → ℕ → ℕ → List ℕ
@@ -46,9 +46,13 @@ value P M zero index z = []
 value P M (suc level) index z =
     nodeWords P (suc level) index z (blockPadding (length M) (suc level) index) (blockFrom (λ j. value P M level j 0) M (suc level) index)
 
--- the block of that node
+-- the values of the nodes of a parallel level that are children of others, so that none is the root
+abbrev pub levelValues : Params → List Bool → ℕ → ℕ → List ℕ
+levelValues P M level index = value P M level index 0
+
+-- the block of the node at a parallel level and an index
 abbrev pub nodeBlock : Params → List Bool → ℕ → ℕ → List ℕ
-nodeBlock P M level index = blockFrom (λ j. value P M (level - 1) j 0) M level index
+nodeBlock P M level index = blockFrom (levelValues P M (level - 1)) M level index
 
 -- ---- the sequential level, above so many parallel ones
 
@@ -56,14 +60,21 @@ nodeBlock P M level index = blockFrom (λ j. value P M (level - 1) j 0) M level 
 unfoldable pub sequentialWords : Params → ℕ → List Bool → ℕ → List ℕ
 sequentialWords P zero M index = words 48 (messagePart sequentialBits M index)
 sequentialWords P (suc level) M index =
-    childWords (λ j. value P M (suc level) j 0) 3 (3 * index) (held 3 (levelNodes (length M) (suc level)) index)
+    childWords (levelValues P M (suc level)) 3 (3 * index) (taken 3 (levelNodes (length M) (suc level)) index)
+
+-- the value of the node at an index and with z, from the chain before it
+abbrev pub chained : Params → ℕ → List Bool → ℕ → ℕ → List ℕ → List ℕ
+chained P limit M index z before =
+    nodeWords P (suc limit) index z (sequentialPadding limit (length M) index) (before ++ sequentialWords P limit M index)
 
 -- the chain after n nodes: 16 zero words, and then the value of the node before; z is 1 at the last
 unfoldable pub chain : Params → ℕ → List Bool → ℕ → List ℕ
 chain P limit M zero = replicate 16 0
-chain P limit M (suc index) =
-    nodeWords P (suc limit) index (digit (eqb (suc index) (sequentialNodes limit (length M)))) (sequentialPadding limit (length M) index)
-    (chain P limit M index ++ sequentialWords P limit M index)
+chain P limit M (suc index) = chained P limit M index (digit (eqb (suc index) (sequentialNodes limit (length M)))) (chain P limit M index)
+
+-- the value of the level's last node
+abbrev pub lastChained : Params → ℕ → List Bool → List ℕ
+lastChained P limit M = chain P limit M (sequentialNodes limit (length M))
 
 -- ---- the whole tree
 
@@ -76,4 +87,4 @@ valueAt P limit M level index =
 unfoldable pub rootValue : Params → ℕ → List Bool → List ℕ
 rootValue P limit M =
     let top : ℕ = topLevel limit (length M) in
-    cond (ltb limit top) (chain P limit M (sequentialNodes limit (length M))) (value P M top 0 1)
+    cond (ltb limit top) (lastChained P limit M) (value P M top 0 1)

@@ -8,19 +8,18 @@ use Prim.Native.Nat.{ℕ, zero, suc, _+_, _-_, _*_, _^_, _≤_, _<_, min}
 use native.Mathlib.Omega.{arith}
 use borrow.Author.Tests.{leb-true, leb-false}
 use lib.Dec.{eqb, leb}
-use lib.ListN.{length, take, drop, replicate, length-append, length-drop, length-replicate}
+use lib.ListN.{length, take, drop, replicate, length-append, length-drop}
 use lib.Seq.{take-append-le, drop-append-le, take-append-add, take-all, take-at, drop-at}
 use Rattle.lists.specs.Replicate.{take-replicate}
 use Rattle.lists.specs.Below.{Below, none}
 use Rattle.lists.specs.BelowLaws.{below-append, below-zeros}
 use Rattle.bits.specs.Bits.{digit}
-use Rattle.bits.specs.BitsLaws.{length-numbers}
-use Rattle.tree.specs.Tree.{Params, words, blockBits, sequentialBits, outputBits}
+use Rattle.tree.specs.Tree.{Params, words, blockBits, outputBits}
 use Rattle.tree.specs.Count.{levelNodes}
 use Rattle.node.specs.Words.{nodeWords}
 use Rattle.node.specs.WordLaws.{length-nodeWords, below-nodeWords}
-use Rattle.shape.specs.Shape.{held, blockPadding, sequentialNodes, sequentialPadding}
-use Rattle.nodes.specs.Value.{messagePart, joinedValues, childWords, blockFrom, value, sequentialWords, chain}
+use Rattle.shape.specs.Shape.{taken, blockPadding, sequentialNodes}
+use Rattle.nodes.specs.Value.{messagePart, joinedValues, childWords, blockFrom, value, levelValues, chained, chain}
 
 -- so many elements from n on, of a list that zeros follow
 pub pad-part : {A : Type 0} (s n q : ℕ) (M : List A) (z : A) → n ≤ length M → n + s ≤ length M + q
@@ -69,7 +68,8 @@ joined-add f a m zero =
 joined-add f a m (suc n) =
     let e : m + suc n ≡ suc (m + n) = omega arith in
     let g : a + (m + n) ≡ a + m + n = omega arith in
-    rw (e, joined-suc f a (m + n), joined-suc f (a + m) n, joined-add f a m n, g) (append-assoc (joinedValues f a m) (joinedValues f (a + m) n) (f (a + m + n)))
+    rw (e, joined-suc f a (m + n), joined-suc f (a + m) n, joined-add f a m n, g)
+    (append-assoc (joinedValues f a m) (joinedValues f (a + m) n) (f (a + m + n)))
 
 pub joined-cons : (f : ℕ → List ℕ) (a n : ℕ) → joinedValues f a (suc n) ≡ f a ++ joinedValues f (suc a) n
 unfolding joinedValues
@@ -91,16 +91,17 @@ below-joinedValues f a (suc n) h =
 
 -- the values that a node at index i takes, of c nodes below it and q at most
 pub joined-part : (f : ℕ → List ℕ) (q c i : ℕ) → ((j : ℕ) → length (f j) ≡ 16) → q * i ≤ c
-    → take (16 * q) (drop (16 * (q * i)) (joinedValues f 0 c)) ≡ joinedValues f (q * i) (held q c i)
+    → take (16 * q) (drop (16 * (q * i)) (joinedValues f 0 c)) ≡ joinedValues f (q * i) (taken q c i)
 joined-part f q c i h g =
     let a : ℕ = q * i in
-    let n : ℕ = held q c i in
+    let n : ℕ = taken q c i in
     let e : c ≡ a + (n + (c - a - n)) = omega arith in
     let z : 0 + a ≡ a = omega arith in
     let s : joinedValues f 0 c ≡ joinedValues f 0 a ++ (joinedValues f a n ++ joinedValues f (a + n) (c - a - n)) =
     ap (joinedValues f 0) e ∙ joined-add f 0 a (n + (c - a - n)) ∙ rw (z, joined-add f a n (c - a - n)) in
     let d : drop (16 * a) (joinedValues f 0 c) ≡ joinedValues f a n ++ joinedValues f (a + n) (c - a - n) =
-    ap (drop (16 * a)) s ∙ drop-at (joinedValues f 0 a) (joinedValues f a n ++ joinedValues f (a + n) (c - a - n)) (16 * a) (length-joinedValues f 0 a h) in
+    ap (drop (16 * a)) s
+    ∙ drop-at (joinedValues f 0 a) (joinedValues f a n ++ joinedValues f (a + n) (c - a - n)) (16 * a) (length-joinedValues f 0 a h) in
     ap (take (16 * q)) d ∙ ends q a n f h (c - a - n) (omega arith)
   where
     -- either the node is full, or no value is left
@@ -120,13 +121,14 @@ joined-part f q c i h g =
 
 module _ (P : Params) (M : List Bool) where
   pub value-one : (index z : ℕ)
-      → value P M 1 index z ≡ nodeWords P 1 index z (blockBits - held blockBits (length M) index) (words 64 (messagePart blockBits M index))
+      → value P M 1 index z ≡ nodeWords P 1 index z (blockBits - taken blockBits (length M) index) (words 64 (messagePart blockBits M index))
   unfolding value blockPadding blockFrom
   value-one index z = refl
 
   pub value-suc : (h index z : ℕ)
-      → value P M (suc (suc h)) index z
-      ≡ nodeWords P (suc (suc h)) index z (outputBits * (4 - held 4 (levelNodes (length M) (suc h)) index)) (childWords (λ j. value P M (suc h) j 0) 4 (4 * index) (held 4 (levelNodes (length M) (suc h)) index))
+      → (let n : ℕ = taken 4 (levelNodes (length M) (suc h)) index in
+      value P M (suc (suc h)) index z
+      ≡ nodeWords P (suc (suc h)) index z (outputBits * (4 - n)) (childWords (levelValues P M (suc h)) 4 (4 * index) n))
   unfolding value blockPadding blockFrom
   value-suc h index z = refl
 
@@ -136,7 +138,7 @@ module _ (P : Params) (M : List Bool) where
 
   pub chain-suc : (limit index : ℕ)
       → chain P limit M (suc index)
-      ≡ nodeWords P (suc limit) index (digit (eqb (suc index) (sequentialNodes limit (length M)))) (sequentialPadding limit (length M) index) (chain P limit M index ++ sequentialWords P limit M index)
+      ≡ chained P limit M index (digit (eqb (suc index) (sequentialNodes limit (length M)))) (chain P limit M index)
   unfolding chain
   chain-suc limit index = refl
 
@@ -150,14 +152,6 @@ module _ (P : Params) (M : List Bool) where
   pub below-value : (h index z : ℕ) → Below (2 ^ 64) (value P M (suc h) index z)
   unfolding value
   below-value h index z = below-nodeWords P (suc h) index z _ _
-
-  pub length-sequentialWords : (limit index : ℕ) → length (sequentialWords P limit M index) ≡ 48
-  unfolding sequentialWords
-  length-sequentialWords zero index = length-numbers 64 48 (messagePart sequentialBits M index)
-  length-sequentialWords (suc h) index =
-      let n : ℕ = held 3 (levelNodes (length M) (suc h)) index in
-      simp (length-append, length-replicate)
-      (omega (arith, length-joinedValues (λ j. value P M (suc h) j 0) (3 * index) n (λ j. length-value h j 0)))
 
   pub length-chain : (limit index : ℕ) → length (chain P limit M index) ≡ 16
   length-chain limit zero = rw (chain-zero P M limit)

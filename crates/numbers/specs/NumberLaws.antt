@@ -1,25 +1,26 @@
--- Laws: the numbers that refuse calls on an area, as the code tests them: for an open first the parameters, and for the others first the
--- area, and then the rest for an open area, whose word 14 tells how many nodes were made already.
+-- Laws: the numbers that refuse calls on an area, as the code tests them: first the area, and then the
+-- rest for an open area, whose word 14 tells how many nodes were made already.
 use mathlib.Core.Path.{_≡_, refl, sym, ap, _∙_}
-use mathlib.Core.Bool.{Bool, true, false, not}
+use mathlib.Core.Bool.{Bool, true, false, not, cond}
 use mathlib.Core.List.{List, [], _∷_, _++_}
 use Prim.Native.Nat.{ℕ, zero, suc, _+_, _-_, _*_, _/_, _^_, _≤_, _<_}
 use native.Mathlib.Omega.{arith}
 use borrow.Author.Tests.{ltb-true, ltb-false, lt-ltb, le-ltb}
-use lib.Dec.{ltb}
+use lib.Dec.{eqb, ltb}
 use lib.ListN.{length, getD, replicate, length-replicate}
 use Rattle.lists.specs.Same.{same}
 use Rattle.bits.specs.Piece.{Piece, pieceBits, refusedBits}
 use Rattle.tree.specs.Tree.{digestBytes}
 use Rattle.tree.specs.Sizes.{treeNodes}
-use Rattle.refusals.specs.Refusals.{firstRefusal, outputTest}
+use Rattle.refusals.specs.Refusals.{firstRefusal, outputTest, logTest}
 use Rattle.refusals.specs.RefusalLaws.{without, passed, first-part, second-part}
-use Rattle.calls.specs.Area.{totalOf, compressionsOf, openCount, paramsOf}
-use Rattle.calls.specs.Calls.{fedBits, closedBy, feedNumber, endNumber, logWordsNumber, openTests, totalTest, logTest, feedTests, endTests, previewNumber, nodesDigest, closeTests, closeNumber}
+use Rattle.calls.specs.Area.{ownWords, phaseOf, totalOf, compressionsOf, openCount, paramsOf}
+use Rattle.calls.specs.Calls.{fedBits, lastNodesOf, feedNumber, endNumber, logWordsNumber, areaTests, openTests, totalTest, feedTests, endTests, previewNumber, nodesDigest, closeTests, closeNumber}
 use Rattle.calls.specs.CallLaws.{OpenArea, LogWordsPassed, open-area, open-tests, total-passed}
-use Rattle.calls.specs.Accepts.{closed-count}
+use Rattle.calls.specs.Accepts.{last-count}
 use Rattle.calls.specs.LogWords.{piece-nodes}
 use Rattle.calls.specs.AreaLaws.{limit-word}
+use Rattle.area.specs.SoundLaws.{LongSound}
 use Rattle.climb.specs.OpenArea.{open-done, open-range, size-read}
 use Rattle.piece.specs.PieceLaws.{made-count, openCount-le}
 
@@ -34,17 +35,27 @@ part-number xs ys w = by (firstRefusal xs) refl
 
 -- ---- the area's number, or that of the later tests for an open area
 
+-- 7, or 10 if the area is long enough and sound
+pub area-refused : {n : ℕ} (area : List ℕ) → n ≡ firstRefusal (areaTests area) → (n ≡ 0 → ⊥) → n ≡ firstRefusal (openTests area)
+area-refused area e h = e ∙ first-part (areaTests area) ((eqb (phaseOf area) 2, 10) ∷ []) (λ z. h (e ∙ z))
+
+pub area-phase : {b : Bool} (area : List ℕ) → LongSound area → eqb (phaseOf area) 2 ≡ b → cond b 10 0 ≡ firstRefusal (openTests area)
+area-phase area s p = rw (le-ltb (length area) (ownWords area) (s .long), s .is-sound, p)
+
 -- the area's number is 0
 pub area-passed : {n : ℕ} (area : List ℕ) → n ≡ firstRefusal (openTests area) → n ≡ 0 → OpenArea area
 area-passed area e z = open-area area (passed (openTests area) refl (sym e ∙ z))
 
 -- n, the area's number, decides a call's; if it is 0, the later tests do
-pub record Decided (n later whole : ℕ) : Type 0 where
+pub record Decided (area : List ℕ) (n later whole : ℕ) : Type 0 where
+  pub opened : n ≡ 0 → OpenArea area
   pub by-area : (n ≡ 0 → ⊥) → n ≡ whole
   pub by-later : n ≡ 0 → later ≡ whole
 
-decided : {n : ℕ} (area : List ℕ) (later : List (Bool × ℕ)) → n ≡ firstRefusal (openTests area) → Decided n (firstRefusal later) (firstRefusal (openTests area ++ later))
+decided : {n : ℕ} (area : List ℕ) (later : List (Bool × ℕ)) → n ≡ firstRefusal (openTests area)
+    → Decided area n (firstRefusal later) (firstRefusal (openTests area ++ later))
 decided area later e = record {
+  opened = area-passed area e;
   by-area = λ h. e ∙ first-part (openTests area) later (λ z. h (e ∙ z));
   by-later = λ z. sym (open-tests (area-passed area e z) later);
 }
@@ -58,7 +69,7 @@ total-fits total bits e z = total-passed total bits (passed (totalTest total bit
 -- ---- log words told
 
 pub logWords-decided : {n : ℕ} (area : List ℕ) (bits : ℕ) → n ≡ firstRefusal (openTests area)
-    → Decided n (firstRefusal (totalTest (totalOf area) bits ∷ [])) (logWordsNumber area bits)
+    → Decided area n (firstRefusal (totalTest (totalOf area) bits ∷ [])) (logWordsNumber area bits)
 unfolding logWordsNumber
 logWords-decided area bits = decided area (totalTest (totalOf area) bits ∷ [])
 
@@ -77,7 +88,7 @@ abbrev pub openFeedNumber : List ℕ → Piece → List ℕ → ℕ
 openFeedNumber area piece log = firstRefusal (feedTests (totalOf area) (length (fedBits area (pieceBits piece) .nodes)) piece log)
 
 pub feed-decided : {n : ℕ} (area : List ℕ) (piece : Piece) (log : List ℕ) → n ≡ firstRefusal (openTests area)
-    → Decided n (openFeedNumber area piece log) (feedNumber area piece log)
+    → Decided area n (openFeedNumber area piece log) (feedNumber area piece log)
 unfolding feedNumber
 feed-decided area piece log = decided area (feedTests (totalOf area) (length (fedBits area (pieceBits piece) .nodes)) piece log)
 
@@ -116,43 +127,43 @@ digest-small {area} o = rw (size-read area) (omega (arith, open-range o .dHigh))
 -- ---- an end
 
 abbrev pub openEndNumber : List ℕ → List ℕ → List ℕ → ℕ
-openEndNumber area out log = firstRefusal (endTests (paramsOf area .d) (length (closedBy area)) out log)
+openEndNumber area out log = firstRefusal (endTests (paramsOf area .d) (length (lastNodesOf area)) out log)
 
-pub end-decided : {n : ℕ} (area out log : List ℕ) → n ≡ firstRefusal (openTests area) → Decided n (openEndNumber area out log) (endNumber area out log)
+pub end-decided : {n : ℕ} (area out log : List ℕ) → n ≡ firstRefusal (openTests area) → Decided area n (openEndNumber area out log) (endNumber area out log)
 unfolding endNumber
-end-decided area out log = decided area (endTests (paramsOf area .d) (length (closedBy area)) out log)
+end-decided area out log = decided area (endTests (paramsOf area .d) (length (lastNodesOf area)) out log)
 
 -- the ways that the code takes with an open area
 module _ {n : ℕ} (area out log : List ℕ) (e : n ≡ firstRefusal (outputTest (digestBytes (paramsOf area .d)) out ∷ [])) where
   pub end-output : (n ≡ 0 → ⊥) → n ≡ openEndNumber area out log
   end-output h =
-      e ∙ first-part (outputTest (digestBytes (paramsOf area .d)) out ∷ []) (logTest (length (closedBy area)) log ∷ []) (λ z. h (e ∙ z))
+      e ∙ first-part (outputTest (digestBytes (paramsOf area .d)) out ∷ []) (logTest (length (lastNodesOf area)) log ∷ []) (λ z. h (e ∙ z))
 
-  pub end-log : {nodes : ℕ} → n ≡ 0 → nodes ≡ length (closedBy area) → firstRefusal (logTest nodes log ∷ []) ≡ openEndNumber area out log
+  pub end-log : {nodes : ℕ} → n ≡ 0 → nodes ≡ length (lastNodesOf area) → firstRefusal (logTest nodes log ∷ []) ≡ openEndNumber area out log
   end-log z q =
       let output : List (Bool × ℕ) = outputTest (digestBytes (paramsOf area .d)) out ∷ [] in
-      rw q (sym (second-part output (logTest (length (closedBy area)) log ∷ []) (passed output refl (sym e ∙ z))))
+      rw q (sym (second-part output (logTest (length (lastNodesOf area)) log ∷ []) (passed output refl (sym e ∙ z))))
 
 -- ---- a preview and a close
 
 pub preview-decided : {n : ℕ} (area out : List ℕ) → n ≡ firstRefusal (openTests area)
-    → Decided n (firstRefusal (outputTest (digestBytes (paramsOf area .d)) out ∷ [])) (previewNumber area out)
+    → Decided area n (firstRefusal (outputTest (digestBytes (paramsOf area .d)) out ∷ [])) (previewNumber area out)
 unfolding previewNumber
 preview-decided area out = decided area (outputTest (digestBytes (paramsOf area .d)) out ∷ [])
 
 abbrev pub openCloseNumber : List ℕ → List ℕ → List ℕ → ℕ
-openCloseNumber area figure log = firstRefusal (closeTests (length (closedBy area)) (nodesDigest area (closedBy area)) figure log)
+openCloseNumber area figure log = firstRefusal (closeTests (length (lastNodesOf area)) (nodesDigest area (lastNodesOf area)) figure log)
 
-pub close-decided : {n : ℕ} (area figure log : List ℕ) → n ≡ firstRefusal (openTests area) → Decided n (openCloseNumber area figure log) (closeNumber area figure log)
+pub close-decided : {n : ℕ} (area figure log : List ℕ) → n ≡ firstRefusal (openTests area) → Decided area n (openCloseNumber area figure log) (closeNumber area figure log)
 unfolding closeNumber
-close-decided area figure log = decided area (closeTests (length (closedBy area)) (nodesDigest area (closedBy area)) figure log)
+close-decided area figure log = decided area (closeTests (length (lastNodesOf area)) (nodesDigest area (lastNodesOf area)) figure log)
 
 -- the way that the code takes with an open area: whether the log is short, and whether the digest is the figure
-pub close-numbers : {n nodes : ℕ} {short equal : Bool} {digest : List ℕ} (area figure log : List ℕ) → short ≡ logTest nodes log .0 → nodes ≡ length (closedBy area)
-    → equal ≡ same digest figure → digest ≡ nodesDigest area (closedBy area) → n ≡ firstRefusal ((short, 8) ∷ (not equal, 14) ∷ [])
+pub close-numbers : {n nodes : ℕ} {short equal : Bool} {digest : List ℕ} (area figure log : List ℕ) → short ≡ logTest nodes log .0 → nodes ≡ length (lastNodesOf area)
+    → equal ≡ same digest figure → digest ≡ nodesDigest area (lastNodesOf area) → n ≡ firstRefusal ((short, 8) ∷ (not equal, 14) ∷ [])
     → n ≡ openCloseNumber area figure log
 close-numbers area figure log s m q d e = e ∙ rw (s, m, q, d) refl
 
 -- the nodes that an end would make: those of the whole tree, without those that were made
-pub count-left : {area : List ℕ} → OpenArea area → totalOf area < 2 ^ 64 → length (closedBy area) + compressionsOf area ≡ treeNodes (getD area 4 0) (totalOf area)
-count-left {area} o h = ap (λ (x : ℕ). length (closedBy area) + x) (open-done o) ∙ rw (limit-word area) at (closed-count area h)
+pub count-left : {area : List ℕ} → OpenArea area → totalOf area < 2 ^ 64 → length (lastNodesOf area) + compressionsOf area ≡ treeNodes (getD area 4 0) (totalOf area)
+count-left {area} o h = ap (λ (x : ℕ). length (lastNodesOf area) + x) (open-done o) ∙ rw (limit-word area) at (last-count area h)

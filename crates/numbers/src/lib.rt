@@ -1,15 +1,14 @@
-// The numbers that refuse calls on an area: an open, a feed, an end, a preview, a close and the telling of log words. The nodes that
-// would be made are known from the totals, before any is.
+// The numbers that refuse calls on an area: a feed, an end, a preview and the telling of log words, and what a close tests. The nodes
+// that would be made are known from the totals, before any is.
 ghost use mathlib.Core.Path.{_≡_};
 ghost use mathlib.Core.Bool.{false};
 ghost use mathlib.Core.List.{[], _∷_};
-ghost use lib.Dec.{ltb};
 ghost use lib.ListN.{length, replicate};
 ghost use Rattle.bits.specs.PieceLaws.{spanned};
 ghost use Rattle.tree.specs.Tree.{digestBytes};
-ghost use Rattle.refusals.specs.Refusals.{firstRefusal, outputTest};
+ghost use Rattle.refusals.specs.Refusals.{firstRefusal, outputTest, logTest};
 ghost use Rattle.calls.specs.Area.{paramsOf};
-ghost use Rattle.calls.specs.Calls.{openTests, totalTest, logTest, fedBits, closedBy, feedNumber, endNumber, previewNumber, logWordsNumber};
+ghost use Rattle.calls.specs.Calls.{openTests, totalTest, fedBits, lastNodesOf, feedNumber, endNumber, previewNumber, logWordsNumber};
 ghost use Rattle.calls.specs.CallLaws.{LogWordsPassed};
 ghost use Rattle.climb.specs.OpenArea.{OpenArea};
 ghost use Rattle.numbers.specs.NumberLaws.{openFeedNumber, openEndNumber};
@@ -17,29 +16,13 @@ use area::Area;
 use area::count;
 use bits::Span;
 
-// For an open: the number that refuses its parameters, then 7 for an area of too few words, and otherwise 0.
-pub fn opening_number(range: u64, few: bool) -> u64
-    ensures { λ r. ⌜ r ≡ firstRefusal ((ltb 0 range, range) ∷ (few, 7) ∷ []) ⌝ }
-{
-    let unfit = 0 < range;
-    if unfit {
-        return range; // 1 to 4 first
-    }
-    if few {
-        return 7; // few words
-    }
-    0
-}
-
 // 7 for an area that is short or unsound, 10 for one that has ended, and otherwise 0.
 pub fn area_number(area: &[u64]) -> u64
     ensures { λ r. ⌜ r ≡ firstRefusal (openTests (now (area .entry))) ⌝ }
 {
-    if area::is_short(area) {
-        return 7; // short
-    }
-    if !area::is_sound(area) {
-        return 7; // unsound
+    let number = area::sound_number(area);
+    if number != 0 {
+        return number;
     }
     if area[Area::PHASE] == 2 {
         return 10;
@@ -122,7 +105,7 @@ pub fn log_words_number(area: &[u64], bits: u64) -> u64
 // How many nodes the end of an open area makes: those of the whole tree that are not made yet.
 pub fn nodes_left(area: &[u64]) -> u64
     requires { ⌜ OpenArea (now area) ⌝ }
-    ensures { λ r. ⌜ r ≡ length (closedBy (now (area .entry))) ⌝ }
+    ensures { λ r. ⌜ r ≡ length (lastNodesOf (now (area .entry))) ⌝ }
 {
     shape::tree_nodes(area[Area::LIMIT], area[Area::TOTAL]) - area[Area::DONE]
 }
@@ -132,7 +115,7 @@ pub fn digest_bytes(area: &[u64]) -> usize
     requires { ⌜ OpenArea (now area) ⌝ }
     ensures { λ r. ⌜ r ≡ digestBytes (paramsOf (now (area .entry)) .d) ⌝ }
 {
-    ((area[Area::D] + 7) / 8) as usize
+    node::digest::digest_bytes(area[Area::D]) as usize
 }
 
 // 9 for an output that is shorter than an open area's digest, and otherwise 0.
@@ -178,17 +161,4 @@ pub fn preview_number(area: &[u64], digest: &[u8]) -> u64
         return number;
     }
     output_number(area, digest)
-}
-
-// For a close of an open area: 8 for a short log, then 14 for a figure that differs, and otherwise 0.
-pub fn open_close_number(short: bool, differs: bool) -> u64
-    ensures { λ r. ⌜ r ≡ firstRefusal ((short, 8) ∷ (differs, 14) ∷ []) ⌝ }
-{
-    if short {
-        return 8; // the log first
-    }
-    if differs {
-        return 14;
-    }
-    0
 }

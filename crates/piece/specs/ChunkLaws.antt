@@ -14,54 +14,59 @@ use Rattle.bits.specs.Bits.{bitsOf, filled}
 use Rattle.bits.specs.FilledLaws.{length-filled}
 use Rattle.bits.specs.Piece.{Piece, pieceBits}
 use Rattle.bits.specs.PieceLaws.{Fits, length-pieceBits}
-use Rattle.tree.specs.Tree.{Params, blockBits}
-use Rattle.refusals.specs.declared.Params as declared
+use Rattle.tree.specs.Tree.{Params, blockBits, nodeLog}
 use Rattle.calls.specs.Area.{headWords, blockWords, Long, paramsOf, levelWords, levelsUp, levelsOf, withLevels, heldBits}
-use Rattle.calls.specs.Calls.{Made, feedBits, nodeLog}
+use Rattle.calls.specs.Calls.{Made, feedBits}
 use Rattle.calls.specs.Machine
 use Rattle.calls.specs.AreaLaws.{length-levelWords}
 use Rattle.calls.specs.FeedLaws.{feedBits-append, withLevels-same}
 use Rattle.calls.specs.Widths.{Wide, wide-levels, wide-bits}
 use Rattle.climb.specs.Levels.{withLevel, levels-split, with-first}
-use Rattle.node.specs.Words.{paramsFrom, Ready}
-use Rattle.climb.specs.MakeLaws.{limit-from}
+use Rattle.node.specs.declared.Keyed.{Keyed}
+use Rattle.node.specs.Words.{treeParams, Ready}
+use Rattle.node.specs.WordLaws.{limit-of}
 use Rattle.climb.specs.ReceiveLaws.{made}
 use Rattle.climb.specs.Left.{Left, left-length, left-params, left-long, left-levels, left-again, left-then}
 use Rattle.climb.specs.FlushLaws.{flushed, firstOf, restOf, flushedTwo, wide-next, wide-flushed, wide-two, FlushingTwo}
+use Rattle.piece.specs.declared.Source.{Source}
 use Rattle.piece.specs.FeedSteps.{sizeOf, baseOf, nextOf, partBits, freeOf, roomOf, free-place, room-full, next-one, next-two, next-some, held-le, chunk, full-chunk, full-two}
 
 -- ---- what the code needs, and what it leaves
 
--- bits of a piece, from a bit of a byte on, for an area
-pub record Part (area bytes : List ℕ) (byte bit count : ℕ) : Type 0 where
+-- the first bit of a piece that comes next
+abbrev pub firstBit : Source → ℕ
+firstBit source = 8 * source .byte + source .bit
+
+-- bits of a piece for an area
+pub record Part (area bytes : List ℕ) (source : Source) : Type 0 where
   pub long : Long area
-  pub low : bit < 8
-  pub inside : 8 * byte + bit + count ≤ 8 * length bytes
+  pub low : source .bit < 8
+  pub inside : firstBit source + source .count ≤ 8 * length bytes
 
 -- what they make of its levels after T bits
-abbrev pub fedPart : List ℕ → declared.Params → ℕ → List ℕ → ℕ → ℕ → ℕ → List ℕ → Made
-fedPart key params T bytes byte bit count area = feedBits (paramsFrom key params) T (partBits bytes (8 * byte + bit) count) (levelsOf area)
+abbrev pub fedPart : Keyed → ℕ → List ℕ → Source → List ℕ → Made
+fedPart keyed T bytes source area = feedBits (treeParams keyed) T (partBits bytes (firstBit source) (source .count)) (levelsOf area)
 
 -- a chunk: those that level 1 takes at once
-pub record Chunk (key : List ℕ) (params : declared.Params) (constants : List ℕ) (T : ℕ) (area bytes : List ℕ) (byte bit count : ℕ) (log : List ℕ) (at : ℕ) : Type 0 where
-  pub ready : Ready key params constants
-  pub part : Part area bytes byte bit count
-  pub own : paramsOf area .limit ≡ params .limit
-  pub some : 1 ≤ count
-  pub most : count ≤ roomOf (params .limit) T
-  pub room : at + 2 * length (fedPart key params T bytes byte bit count area .nodes) ≤ length log
+pub record Chunk (keyed : Keyed) (constants : List ℕ) (T : ℕ) (area bytes : List ℕ) (source : Source) (log : List ℕ) (at : ℕ) : Type 0 where
+  pub ready : Ready keyed constants
+  pub part : Part area bytes source
+  pub own : paramsOf area .limit ≡ keyed .params .limit
+  pub some : 1 ≤ source .count
+  pub most : source .count ≤ roomOf (keyed .params .limit) T
+  pub room : at + 2 * length (fedPart keyed T bytes source area .nodes) ≤ length log
 
 -- all bits of a piece, and what they make
-abbrev pub fedWhole : List ℕ → declared.Params → ℕ → Piece → List ℕ → Made
-fedWhole key params T piece area = feedBits (paramsFrom key params) T (pieceBits piece) (levelsOf area)
+abbrev pub fedWhole : Keyed → ℕ → Piece → List ℕ → Made
+fedWhole keyed T piece area = feedBits (treeParams keyed) T (pieceBits piece) (levelsOf area)
 
-pub record Whole (key : List ℕ) (params : declared.Params) (constants : List ℕ) (T : ℕ) (area : List ℕ) (piece : Piece) (log : List ℕ) : Type 0 where
-  pub ready : Ready key params constants
+pub record Whole (keyed : Keyed) (constants : List ℕ) (T : ℕ) (area : List ℕ) (piece : Piece) (log : List ℕ) : Type 0 where
+  pub ready : Ready keyed constants
   pub long : Long area
-  pub own : paramsOf area .limit ≡ params .limit
+  pub own : paramsOf area .limit ≡ keyed .params .limit
   pub bits : Fits piece
   pub total : T + piece .count < 2 ^ 64
-  pub room : 2 * length (fedWhole key params T piece area .nodes) ≤ length log
+  pub room : 2 * length (fedWhole keyed T piece area .nodes) ≤ length log
 
 -- ---- a chunk
 
@@ -73,23 +78,23 @@ first-left : {area area′ ws : List ℕ} (log : List ℕ) (at : ℕ) → Long a
     → Left (firstNow ws area) area log at area′ log at
 first-left {area} {ws = ws} log at long size e = record { levels = e ∙ sym (with-first area ws long size); logged = refl; next = omega arith }
 
-module _ {area bytes : List ℕ} {byte bit count : ℕ} (part : Part area bytes byte bit count) (below : Below (2 ^ 64) area)
-    (key : List ℕ) (params : declared.Params) (T : ℕ) where
-  pub chunk-free : {area′ : List ℕ} {free : ℕ} (log : List ℕ) (at : ℕ) → free ≡ freeOf (params .limit) T → count ≤ free
-      → area′ ≡ withLevel area 1 (filled (levelWords area 1) (blockBits - free) bytes (8 * byte + bit) count)
-      → Left (fedPart key params T bytes byte bit count area) area log at area′ log at
+module _ {area bytes : List ℕ} {source : Source} (part : Part area bytes source) (below : Below (2 ^ 64) area) (keyed : Keyed) (T : ℕ) where
+  pub chunk-free : {area′ : List ℕ} {free : ℕ} (log : List ℕ) (at : ℕ) → free ≡ freeOf (keyed .params .limit) T → source .count ≤ free
+      → area′ ≡ withLevel area 1 (filled (levelWords area 1) (blockBits - free) bytes (firstBit source) (source .count))
+      → Left (fedPart keyed T bytes source area) area log at area′ log at
   chunk-free log at f g ea =
-      let P : Params = paramsFrom key params in
-      let limit : ℕ = params .limit in
-      let same : P .limit ≡ limit = limit-from key params in
-      let from : ℕ = 8 * byte + bit in
+      let P : Params = treeParams keyed in
+      let limit : ℕ = keyed .params .limit in
+      let same : P .limit ≡ limit = limit-of keyed in
+      let from : ℕ = firstBit source in
+      let count : ℕ = source .count in
       let ws : List ℕ = levelWords area 1 in
       let place : ℕ = baseOf limit + heldBits (sizeOf limit) T in
       let size : length ws ≡ blockWords = length-levelWords area 1 (part .long) (omega arith) in
       let fits : heldBits (sizeOf (P .limit)) T + count ≤ sizeOf (P .limit) = rw same (omega (arith, held-le limit T)) in
       let e = ap (λ (x : ℕ). withLevel area 1 (filled ws (blockBits - x) bytes from count)) f
       ∙ ap (λ (x : ℕ). withLevel area 1 (filled ws x bytes from count)) (free-place limit T) in
-      let c : fedPart key params T bytes byte bit count area ≡ firstNow (filled ws place bytes from count) area =
+      let c : fedPart keyed T bytes source area ≡ firstNow (filled ws place bytes from count) area =
       ap (feedBits P T (partBits bytes from count)) (levels-split area)
       ∙ chunk P count T from ws bytes (levelsUp area 2) (below-take blockWords (below-drop headWords below)) size fits (part .inside)
       ∙ rw same in
@@ -97,8 +102,8 @@ module _ {area bytes : List ℕ} {byte bit count : ℕ} (part : Part area bytes 
 
 -- ---- a chunk that comes to a full level 1
 
-abbrev flushedNow : List ℕ → declared.Params → ℕ → List ℕ → Made
-flushedNow key params T area = flushed (paramsFrom key params) (params .limit) T (levelsOf area)
+abbrev flushedNow : Keyed → ℕ → List ℕ → Made
+flushedNow keyed T area = flushed (treeParams keyed) (keyed .params .limit) T (levelsOf area)
 
 -- bits put into level 1 after what was made of it
 after-filled : {F X : Made} {area log : List ℕ} {at : ℕ} {area₁ log₁ area′ : List ℕ} {at₁ : ℕ} (bytes : List ℕ) (place from count : ℕ) → Long area → Wide (paramsOf area .limit) (F .levels)
@@ -118,82 +123,87 @@ after-filled {F} {area = area} {log} {at} {area₁} bytes place from count long 
       next = omega (arith, l .next, ap (λ (x : Made). at + 2 * length (x .nodes)) is);
     }
 
-module _ {key : List ℕ} {params : declared.Params} {constants : List ℕ} {T : ℕ} {area bytes : List ℕ} {byte bit count : ℕ} {log : List ℕ} {at : ℕ}
-    (c : Chunk key params constants T area bytes byte bit count log at) (full : freeOf (params .limit) T ≤ 0) where
+module _ {keyed : Keyed} {constants : List ℕ} {T : ℕ} {area bytes : List ℕ} {source : Source} {log : List ℕ} {at : ℕ}
+    (c : Chunk keyed constants T area bytes source log at) (full : freeOf (keyed .params .limit) T ≤ 0) where
   abbrev Q : Params
-  Q = paramsFrom key params
+  Q = treeParams keyed
 
-  same : Q .limit ≡ params .limit
-  same = limit-from key params
+  abbrev from : ℕ
+  from = firstBit source
 
-  held : heldBits (sizeOf (params .limit)) T ≡ sizeOf (params .limit)
-  held = omega (arith, held-le (params .limit) T)
+  abbrev count : ℕ
+  count = source .count
 
-  fits : count ≤ nextOf (params .limit)
-  fits = omega (arith, room-full (params .limit) T full, c .most)
+  same : Q .limit ≡ keyed .params .limit
+  same = limit-of keyed
+
+  held : heldBits (sizeOf (keyed .params .limit)) T ≡ sizeOf (keyed .params .limit)
+  held = omega (arith, held-le (keyed .params .limit) T)
+
+  fits : count ≤ nextOf (keyed .params .limit)
+  fits = omega (arith, room-full (keyed .params .limit) T full, c .most)
 
   own-levels : Wide (paramsOf area .limit) (levelsOf area)
   own-levels = wide-levels area (c .part .long)
 
   -- one node is made
   module _ (less : count ≤ blockBits) where
-    full-is : fedPart key params T bytes byte bit count area
-        ≡ (let F : Made = flushedNow key params T area in made (filled (firstOf (F .levels)) (baseOf (params .limit)) bytes (8 * byte + bit) count ∷ restOf (F .levels)) (F .nodes))
+    full-is : fedPart keyed T bytes source area
+        ≡ (let F : Made = flushedNow keyed T area in made (filled (firstOf (F .levels)) (baseOf (keyed .params .limit)) bytes from count ∷ restOf (F .levels)) (F .nodes))
     full-is =
-        let from : ℕ = 8 * byte + bit in
         ap (feedBits Q T (partBits bytes from count)) (levels-split area)
-        ∙ full-chunk Q count T from (levelWords area 1) bytes (levelsUp area 2) (rw same held) (c .some) (rw same (next-one (params .limit) fits less)) (c .part .inside)
+        ∙ full-chunk Q count T from (levelWords area 1) bytes (levelsUp area 2) (rw same held) (c .some)
+        (rw same (next-one (keyed .params .limit) fits less)) (c .part .inside)
         ∙ rw (same, levels-split area)
 
-    pub chunk-room : at + 2 * length (flushedNow key params T area .nodes) ≤ length log
+    pub chunk-room : at + 2 * length (flushedNow keyed T area .nodes) ≤ length log
     chunk-room = omega (arith, c .room, ap (λ (x : Made). at + 2 * length (x .nodes)) full-is)
 
-    module _ {area₁ log₁ : List ℕ} {at₁ : ℕ} (l : Left (flushedNow key params T area) area log at area₁ log₁ at₁) where
-      wide-one : Wide (paramsOf area .limit) (flushedNow key params T area .levels)
-      wide-one = wide-flushed Q (params .limit) T (levelsOf area) own-levels
+    module _ {area₁ log₁ : List ℕ} {at₁ : ℕ} (l : Left (flushedNow keyed T area) area log at area₁ log₁ at₁) where
+      wide-one : Wide (paramsOf area .limit) (flushedNow keyed T area .levels)
+      wide-one = wide-flushed Q (keyed .params .limit) T (levelsOf area) own-levels
 
       pub flushed-long : Long area₁
       flushed-long = left-long (c .part .long) wide-one l
 
-      pub chunk-full : {area′ : List ℕ} {place : ℕ} → place ≡ baseOf (params .limit)
-          → area′ ≡ withLevel area₁ 1 (filled (levelWords area₁ 1) place bytes (8 * byte + bit) count)
-          → Left (fedPart key params T bytes byte bit count area) area log at area′ log₁ at₁
+      pub chunk-full : {area′ : List ℕ} {place : ℕ} → place ≡ baseOf (keyed .params .limit)
+          → area′ ≡ withLevel area₁ 1 (filled (levelWords area₁ 1) place bytes from count)
+          → Left (fedPart keyed T bytes source area) area log at area′ log₁ at₁
       chunk-full ep ef =
-          after-filled bytes (baseOf (params .limit)) (8 * byte + bit) count (c .part .long) wide-one l full-is
-          (ef ∙ ap (λ (x : ℕ). withLevel area₁ 1 (filled (levelWords area₁ 1) x bytes (8 * byte + bit) count)) ep)
+          after-filled bytes (baseOf (keyed .params .limit)) from count (c .part .long) wide-one l full-is
+          (ef ∙ ap (λ (x : ℕ). withLevel area₁ 1 (filled (levelWords area₁ 1) x bytes from count)) ep)
 
   -- two nodes are made
   module _ (more : blockBits < count) where
-    parallel : (1 ≤ params .limit) × (sizeOf (params .limit) ≡ blockBits)
-    parallel = next-two (params .limit) fits more
+    parallel : (1 ≤ keyed .params .limit) × (sizeOf (keyed .params .limit) ≡ blockBits)
+    parallel = next-two (keyed .params .limit) fits more
 
     held-two : heldBits blockBits T ≡ blockBits
     held-two = rw (parallel .1) at held
 
     pub two-most : count - blockBits ≤ blockBits
-    two-most = omega (arith, fits, next-some (params .limit) (parallel .0))
+    two-most = omega (arith, fits, next-some (keyed .params .limit) (parallel .0))
 
     -- the block that level 1 holds, and the one that comes next
     abbrev first : List ℕ
     first = levelWords area 1
 
     abbrev second : List ℕ
-    second = filled first 0 bytes (8 * byte + bit) blockBits
+    second = filled first 0 bytes from blockBits
 
     first-size : length first ≡ blockWords
     first-size = length-levelWords area 1 (c .part .long) (omega arith)
 
     second-size : length second ≡ blockWords
-    second-size = length-filled first 0 bytes (8 * byte + bit) blockBits ∙ first-size
+    second-size = length-filled first 0 bytes from blockBits ∙ first-size
 
     -- what comes of them
     abbrev both : Made
-    both = flushedTwo Q (params .limit) T first (second ∷ levelsUp area 2)
+    both = flushedTwo Q (keyed .params .limit) T first (second ∷ levelsUp area 2)
 
-    two-is : fedPart key params T bytes byte bit count area
-        ≡ made (filled (firstOf (both .levels)) 0 bytes (8 * byte + bit + blockBits) (count - blockBits) ∷ restOf (both .levels)) (both .nodes)
+    two-is : fedPart keyed T bytes source area
+        ≡ made (filled (firstOf (both .levels)) 0 bytes (from + blockBits) (count - blockBits) ∷ restOf (both .levels)) (both .nodes)
     two-is =
-        let from : ℕ = 8 * byte + bit in
         let e : count ≡ blockBits + (count - blockBits) = omega arith in
         ap (λ (n : ℕ). feedBits Q T (partBits bytes from n) (levelsOf area)) e
         ∙ ap (feedBits Q T (partBits bytes from (blockBits + (count - blockBits)))) (levels-split area)
@@ -211,10 +221,10 @@ module _ {key : List ℕ} {params : declared.Params} {constants : List ℕ} {T :
       stood-long : Long area₁
       stood-long = left-long (c .part .long) wide-stood stood
 
-      both-now : flushedTwo Q (params .limit) T copy (levelsOf area₁) ≡ both
+      both-now : flushedTwo Q (keyed .params .limit) T copy (levelsOf area₁) ≡ both
       both-now = rw (h, left-levels (c .part .long) wide-stood stood) refl
 
-      pub two-flushing : FlushingTwo key params constants T copy area₁ log at
+      pub two-flushing : FlushingTwo keyed constants T copy area₁ log at
       two-flushing = record {
         parallel = record { ready = c .ready; long = stood-long; own = rw (left-params (c .part .long) wide-stood stood) (c .own); some = parallel .0 };
         full = held-two;
@@ -222,9 +232,9 @@ module _ {key : List ℕ} {params : declared.Params} {constants : List ℕ} {T :
         room = rw both-now (omega (arith, c .room, ap (λ (x : Made). at + 2 * length (x .nodes)) two-is));
       }
 
-      module _ {area₂ log₂ : List ℕ} {at₂ : ℕ} (l : Left (flushedTwo Q (params .limit) T copy (levelsOf area₁)) area₁ log at area₂ log₂ at₂) where
+      module _ {area₂ log₂ : List ℕ} {at₂ : ℕ} (l : Left (flushedTwo Q (keyed .params .limit) T copy (levelsOf area₁)) area₁ log at area₂ log₂ at₂) where
         wide-both : Wide (paramsOf area .limit) (both .levels)
-        wide-both = wide-two Q (params .limit) T first (second ∷ levelsUp area 2) first-size wide-stood
+        wide-both = wide-two Q (keyed .params .limit) T first (second ∷ levelsUp area 2) first-size wide-stood
 
         -- all of it, on the area as it was
         left-both : Left both area log at area₂ log₂ at₂
@@ -233,31 +243,28 @@ module _ {key : List ℕ} {params : declared.Params} {constants : List ℕ} {T :
         pub both-long : Long area₂
         both-long = left-long (c .part .long) wide-both left-both
 
-        pub chunk-two : {area′ : List ℕ} {from : ℕ} → from ≡ 8 * byte + bit + blockBits
-            → area′ ≡ withLevel area₂ 1 (filled (levelWords area₂ 1) 0 bytes from (count - blockBits))
-            → Left (fedPart key params T bytes byte bit count area) area log at area′ log₂ at₂
+        pub chunk-two : {area′ : List ℕ} {next : ℕ} → next ≡ from + blockBits
+            → area′ ≡ withLevel area₂ 1 (filled (levelWords area₂ 1) 0 bytes next (count - blockBits))
+            → Left (fedPart keyed T bytes source area) area log at area′ log₂ at₂
         chunk-two ep ef =
-            after-filled bytes 0 (8 * byte + bit + blockBits) (count - blockBits) (c .part .long) wide-both left-both two-is
+            after-filled bytes 0 (from + blockBits) (count - blockBits) (c .part .long) wide-both left-both two-is
             (ef ∙ ap (λ (x : ℕ). withLevel area₂ 1 (filled (levelWords area₂ 1) 0 bytes x (count - blockBits))) ep)
 
 -- ---- one chunk after the other
 
--- the byte and the bit at which a piece goes on after so many of its bits, without the sum of start and count, which may pass 2^64
-abbrev pub byteAfter : Piece → ℕ → ℕ
-byteAfter piece done = done / 8 + (piece .start + done % 8) / 8
+-- c bits of a piece after so many of its bits, without the sum of start and count, which may pass 2^64
+abbrev pub sourceAfter : Piece → ℕ → ℕ → Source
+sourceAfter piece done c = record { byte = done / 8 + (piece .start + done % 8) / 8; bit = (piece .start + done % 8) % 8; count = c }
 
-abbrev pub bitAfter : Piece → ℕ → ℕ
-bitAfter piece done = (piece .start + done % 8) % 8
-
-place-after : (piece : Piece) (done : ℕ) → 8 * byteAfter piece done + bitAfter piece done ≡ piece .start + done
-place-after piece done = omega arith
+place-after : (piece : Piece) (done c : ℕ) → firstBit (sourceAfter piece done c) ≡ piece .start + done
+place-after piece done c = omega arith
 
 -- the next bits of a piece, by byte and bit
 next-bits : (piece : Piece) (done c : ℕ) → done + c ≤ piece .count
-    → partBits (piece .bytes) (8 * byteAfter piece done + bitAfter piece done) c ≡ take c (drop done (pieceBits piece))
+    → partBits (piece .bytes) (firstBit (sourceAfter piece done c)) c ≡ take c (drop done (pieceBits piece))
 next-bits piece done c h =
     let B : List Bool = bitsOf 8 (piece .bytes) in
-    ap (λ (x : ℕ). take c (drop x B)) (place-after piece done)
+    ap (λ (x : ℕ). take c (drop x B)) (place-after piece done c)
     ∙ ap (take c) (sym (drop-drop done (piece .start) B))
     ∙ sym (take-drop-take (piece .count) done c (drop (piece .start) B) h)
 
@@ -282,10 +289,10 @@ feeding-none P T Y area log =
       };
     }
 
-module _ {key : List ℕ} {params : declared.Params} {constants : List ℕ} {T : ℕ} {piece : Piece} {area₀ log₀ area log : List ℕ} {at done : ℕ}
-    (w : Whole key params constants T area₀ piece log₀) (f : Feeding (paramsFrom key params) T (pieceBits piece) area₀ log₀ area log at done) where
+module _ {keyed : Keyed} {constants : List ℕ} {T : ℕ} {piece : Piece} {area₀ log₀ area log : List ℕ} {at done : ℕ}
+    (w : Whole keyed constants T area₀ piece log₀) (f : Feeding (treeParams keyed) T (pieceBits piece) area₀ log₀ area log at done) where
   abbrev P : Params
-  P = paramsFrom key params
+  P = treeParams keyed
 
   abbrev Y : List Bool
   Y = pieceBits piece
@@ -307,7 +314,7 @@ module _ {key : List ℕ} {params : declared.Params} {constants : List ℕ} {T :
 
   -- the next c bits
   abbrev coming : ℕ → Made
-  coming c = fedPart key params (T + done) (piece .bytes) (byteAfter piece done) (bitAfter piece done) c area
+  coming c = fedPart keyed (T + done) (piece .bytes) (sourceAfter piece done c) area
 
   next-is : (c : ℕ) → done + c ≤ piece .count → feedBits P T (take (done + c) Y) (levelsOf area₀) ≡ made (coming c .levels) (before .nodes ++ coming c .nodes)
   next-is c h =
@@ -316,8 +323,8 @@ module _ {key : List ℕ} {params : declared.Params} {constants : List ℕ} {T :
       ∙ feedBits-append P T (take done Y) (take c (drop done Y)) (levelsOf area₀)
       ∙ rw (length-take-le done Y (f .within), back, next-bits piece done c h)
 
-  pub next-chunk : {c : ℕ} → done + c ≤ piece .count → 1 ≤ c → c ≤ roomOf (params .limit) (T + done)
-      → Chunk key params constants (T + done) area (piece .bytes) (byteAfter piece done) (bitAfter piece done) c log at
+  pub next-chunk : {c : ℕ} → done + c ≤ piece .count → 1 ≤ c → c ≤ roomOf (keyed .params .limit) (T + done)
+      → Chunk keyed constants (T + done) area (piece .bytes) (sourceAfter piece done c) log at
   next-chunk {c} h some most =
       let A : Made = feedBits P T (take (done + c) Y) (levelsOf area₀) in
       let whole = ap (λ (x : List Bool). length (feedBits P T x (levelsOf area₀) .nodes)) (sym (take-append-drop (done + c) Y))
@@ -326,7 +333,7 @@ module _ {key : List ℕ} {params : declared.Params} {constants : List ℕ} {T :
       let some-nodes = ap (λ (x : Made). length (x .nodes)) (next-is c h) ∙ length-append (before .nodes) (coming c .nodes) in
       record {
         ready = w .ready;
-        part = record { long = longer; low = omega arith; inside = omega (arith, w .bits .inside, place-after piece done) };
+        part = record { long = longer; low = omega arith; inside = omega (arith, w .bits .inside, place-after piece done c) };
         own = rw kept (w .own);
         some = some;
         most = most;
@@ -337,7 +344,7 @@ module _ {key : List ℕ} {params : declared.Params} {constants : List ℕ} {T :
       → Feeding P T Y area₀ log₀ area′ log′ at′ (done + c)
   feeding-more c h F =
       let C : Made = coming c in
-      let s = wide-bits P (paramsOf area .limit) (T + done) (partBits (piece .bytes) (8 * byteAfter piece done + bitAfter piece done) c) (levelsOf area) (wide-levels area longer) in
+      let s = wide-bits P (paramsOf area .limit) (T + done) (partBits (piece .bytes) (firstBit (sourceAfter piece done c)) c) (levelsOf area) (wide-levels area longer) in
       let ll = ap length (F .logged) ∙ length-sets log at (nodeLog (C .nodes)) in
       record {
         within = omega (arith, size);
@@ -346,5 +353,5 @@ module _ {key : List ℕ} {params : declared.Params} {constants : List ℕ} {T :
         left = rw (next-is c h) (left-then (w .long) wide (f .left) F);
       }
 
-  pub feeding-all : piece .count ≤ done → Left (fedWhole key params T piece area₀) area₀ log₀ 0 area log at
+  pub feeding-all : piece .count ≤ done → Left (fedWhole keyed T piece area₀) area₀ log₀ 0 area log at
   feeding-all h = rw (take-all done Y (omega (arith, size))) at (f .left)

@@ -17,9 +17,9 @@ use Rattle.bits.specs.Piece.{pieceOf, pieceBits}
 use Rattle.bits.specs.Bits.{bitsOf, filled}
 use Rattle.bits.specs.BitsLaws.{length-bitsOf, numbers-below}
 use Rattle.bits.specs.FilledLaws.{length-filled, filled-below, filled-more}
-use Rattle.tree.specs.Tree.{Params, Node, node, output, blockBits, sequentialBits}
+use Rattle.tree.specs.Tree.{Params, Node, node, output, blockBits, sequentialBits, outWords}
 use Rattle.calls.specs.Area.{blockWords, emptyLevel, doneBlocks, heldBits}
-use Rattle.calls.specs.Calls.{Made, withBit, outWords, feedBit, feedBits}
+use Rattle.calls.specs.Calls.{Made, withBit, feedBit, feedBits}
 use Rattle.calls.specs.Blocks.{held-most, held-first}
 use Rattle.calls.specs.FeedLaws.{feedBits-append, withBits-filled, fill-parallel, fill-sequential}
 use Rattle.calls.specs.Machine

@@ -1,25 +1,25 @@
 -- Laws: of `fedBits` in Calls: what the code reads from an open area, and what it leaves there.
 use mathlib.Core.Path.{_≡_, refl, ap, _∙_}
 use mathlib.Core.Bool.{Bool}
-use mathlib.Core.List.{List, append-nil}
+use mathlib.Core.List.{List}
 use Prim.Native.Nat.{ℕ, zero, suc, _+_, _*_, _/_, _^_, _≤_, _<_}
 use native.Mathlib.Omega.{arith}
-use lib.ListN.{length, take, drop, getD, set, replicate, length-drop, length-set}
-use lib.Seq.{paste, length-take-le, take-all}
+use lib.ListN.{length, getD, set, length-set}
 use Rattle.bits.specs.Piece.{Piece, pieceBits}
 use Rattle.bits.specs.PieceLaws.{length-pieceBits}
-use Rattle.tree.specs.Tree.{blockBits}
-use Rattle.calls.specs.Area.{Long, totalOf, kOf, compressionsOf, paramsOf, levelsOf, withLevels, doneBlocks, openCount}
+use Rattle.tree.specs.Tree.{blockBits, logged}
+use Rattle.calls.specs.Area.{Long, totalOf, compressionsOf, paramsOf, levelsOf, withLevels, doneBlocks, openCount}
 use Rattle.calls.specs.AreaLaws.{limit-word}
-use Rattle.calls.specs.Calls.{Made, feedBits, fedBits, fedArea, logged}
+use Rattle.calls.specs.Calls.{Made, feedBits, fedBits, fedArea}
 use Rattle.calls.specs.CallLaws.{FeedPassed}
 use Rattle.calls.specs.WriteLaws.{set-withLevels}
 use Rattle.area.specs.CountLaws.{openAbove-le}
-use Rattle.node.specs.Words.{paramsFrom}
+use Rattle.node.specs.Words.{treeParams}
 use Rattle.climb.specs.ReceiveLaws.{log-written}
 use Rattle.climb.specs.Left.{Left}
-use Rattle.climb.specs.OpenArea.{OpenArea, numbered, open-done}
+use Rattle.climb.specs.OpenArea.{OpenArea, keyedOf, open-done}
 use Rattle.calls.specs.Accepts.{fed-count}
+use Rattle.piece.specs.declared.Source.{Source}
 use Rattle.piece.specs.FeedSteps.{partBits}
 use Rattle.piece.specs.ChunkLaws.{Part, fedPart, fedWhole}
 
@@ -32,28 +32,25 @@ made-count {area} o n Y l g =
 
 -- ---- what the code reads
 
--- K is copied out of the area
-pub key-copied : (area : List ℕ) → Long area → paste (replicate 8 0) 0 (take 8 (drop 6 area)) (length (take 8 (drop 6 area))) ≡ kOf area
-key-copied area long =
-    let l : length (take 8 (drop 6 area)) ≡ 8 = length-take-le 8 (drop 6 area) (rw length-drop (omega arith)) in
-    rw (l, take-all 8 (take 8 (drop 6 area)) (omega arith)) (append-nil (take 8 (drop 6 area)))
-
 -- what the code feeds is what the definition feeds
 pub fed-read : (area : List ℕ) (piece : Piece)
-    → fedWhole (kOf area) (numbered area) (totalOf area) piece area ≡ fedBits area (pieceBits piece)
-unfolding fedBits paramsFrom paramsOf
+    → fedWhole (keyedOf area) (totalOf area) piece area ≡ fedBits area (pieceBits piece)
+unfolding fedBits treeParams paramsOf
 fed-read area piece = refl
 
 -- and so are its bits from byte 0 and its start bit on
+abbrev pub wholeSource : Piece → Source
+wholeSource piece = record { byte = 0; bit = piece .start; count = piece .count }
+
 pub fed-start : (area : List ℕ) (piece : Piece)
-    → fedPart (kOf area) (numbered area) (totalOf area) (piece .bytes) 0 (piece .start) (piece .count) area ≡ fedBits area (pieceBits piece)
+    → fedPart (keyedOf area) (totalOf area) (piece .bytes) (wholeSource piece) area ≡ fedBits area (pieceBits piece)
 fed-start area piece =
     let e : 8 * 0 + piece .start ≡ piece .start = omega arith in
-    ap (λ (x : ℕ). feedBits (paramsFrom (kOf area) (numbered area)) (totalOf area) (partBits (piece .bytes) x (piece .count)) (levelsOf area)) e
+    ap (λ (x : ℕ). feedBits (treeParams (keyedOf area)) (totalOf area) (partBits (piece .bytes) x (piece .count)) (levelsOf area)) e
     ∙ fed-read area piece
 
 -- the whole piece, from its start bit on
-pub whole-part : {area log : List ℕ} {piece : Piece} → FeedPassed area piece log → Part area (piece .bytes) 0 (piece .start) (piece .count)
+pub whole-part : {area log : List ℕ} {piece : Piece} → FeedPassed area piece log → Part area (piece .bytes) (wholeSource piece)
 whole-part p = record { long = p .opened .long; low = omega (arith, p .bits .low); inside = omega (arith, p .bits .inside) }
 
 -- ---- what it leaves

@@ -10,7 +10,7 @@ use lib.ListN.{length, take, getD, length-append, length-drop}
 use Rattle.tree.specs.Tree.{Params, digestBytes}
 use Rattle.refusals.specs.Refusals.{answerOf}
 use Rattle.calls.specs.Area.{paramsOf}
-use Rattle.calls.specs.Calls.{Opened, Fed, Finished, openOf, feedOf, endOf}
+use Rattle.calls.specs.Calls.{Opened, AreaLog, Finished, openOf, feedOf, endOf}
 use Rattle.line.specs.Fold.{foldOf, readingOf}
 use Rattle.line.specs.declared.Reading.{Reading}
 use Rattle.line.specs.declared.Reading.the-variants.{Unreadable, Readable}
@@ -47,7 +47,7 @@ number-fits n = by (ltb n 10) refl
 fed-fits : (line : State) (area bytes : List ℕ) → Fits (fedStep line area bytes .text)
 unfolding fedStep
 fed-fits line area bytes =
-    let f : Fed = feedOf area (allBits bytes) emptyLog in
+    let f : AreaLog = feedOf area (allBits bytes) emptyLog in
     let e = ap (feedOf area (allBits bytes)) (sym zero-log) in
     answer-all (λ (s : Step). Fits (s .text)) (f .number) _ _
     (λ z. let r = feed-room line area bytes e z in rw (length-nodeLines (f .count) (f .log)) (omega arith))

@@ -13,11 +13,11 @@ use Rattle.lists.specs.Below.{none as no-reads, more}
 use Rattle.bits.specs.Bits.{numbers}
 use Rattle.constants.specs.Constants.{S, nextS}
 use Rattle.compress.specs.Compress.{stepped, word, grown, compressed}
-use Rattle.tree.specs.Tree.{mostLimit, keyWords, output, noChain}
+use Rattle.tree.specs.Tree.{mostLimit, keyWords, output, noChain, outWords}
 use Rattle.digits.specs.Digits.{hexDigits}
 use Rattle.calls.specs.Area.{areaWords, paramsOf, levelsOf, withLevels, emptyLevel, emptyLevels, sound}
-use Rattle.calls.specs.Calls.{withBit, outWords, receive, feedBit, feedBits, closeAbove, closing, openNumber, openedArea, openOf, fedBits, feedNumber, fedArea, feedOf, closedBy, endNumber, endedArea, digestOut, endOf}
-use Rattle.calls.specs.Terms.{enoughWords}
+use Rattle.calls.specs.Calls.{withBit, receive, feedBit, feedBits, lastAbove, lastNodes, openNumber, openedArea, openOf, fedBits, feedNumber, fedArea, feedOf, lastNodesOf, endNumber, endedArea, digestOut, endOf}
+use Rattle.calls.specs.Vocabulary.{enoughWords}
 use Rattle.line.specs.Line.{Line, lineOf}
 use Rattle.line.specs.Fold.{stepOf, readingOf}
 use Rattle.print.specs.Print.{nodeLine, nodeLines, digestLine}
@@ -124,7 +124,7 @@ cuts =
     ∷ []
 
 pub every-cut : map (λ (t : List (List ℕ) × List ℕ). written startOf used (t .0)) cuts ≡ map (λ (t : List (List ℕ) × List ℕ). t .1) cuts
-unfolding written takeOf lastOf fedStep openedStep endedStep stepOf readingOf refusedLine refusedNumber nodeLine nodeLines digestLine hexDigits enoughWords numbers keyWords output noChain compressed grown paramsOf levelsOf withLevels emptyLevel emptyLevels sound withBit outWords receive feedBit feedBits closeAbove closing openNumber openedArea openOf fedBits feedNumber fedArea feedOf closedBy endNumber endedArea digestOut endOf mathlib.Core.List.flatten
+unfolding written takeOf lastOf fedStep openedStep endedStep stepOf readingOf refusedLine refusedNumber nodeLine nodeLines digestLine hexDigits enoughWords numbers keyWords output noChain compressed grown paramsOf levelsOf withLevels emptyLevel emptyLevels sound withBit outWords receive feedBit feedBits lastAbove lastNodes openNumber openedArea openOf fedBits feedNumber fedArea feedOf lastNodesOf endNumber endedArea digestOut endOf mathlib.Core.List.flatten
 every-cut = refl
 
 -- the theorem's hypotheses hold of such an area and such reads

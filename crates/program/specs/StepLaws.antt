@@ -11,11 +11,12 @@ use lib.ListN.{length, take, getD, replicate}
 use Rattle.lists.specs.And.{and-parts}
 use Rattle.tree.specs.Tree.{Params, digestBytes}
 use Rattle.bits.specs.Piece.{pieceBits}
+use Rattle.refusals.specs.declared.Params as declared
 use Rattle.refusals.specs.Refusals.{firstRefusal, paramTests}
 use Rattle.refusals.specs.RefusalLaws.{answer-refused}
 use Rattle.calls.specs.Area.{totalOf, paramsOf}
-use Rattle.calls.specs.Calls.{Opened, Fed, Finished, openNumber, openOf, feedNumber, feedOf, endNumber, endOf, fedBits, closedBy, shortTest, openTests, feedTests, endTests}
-use Rattle.calls.specs.Terms.{enoughWords}
+use Rattle.calls.specs.Calls.{Opened, AreaLog, Finished, openNumber, openOf, feedNumber, feedOf, endNumber, endOf, fedBits, lastNodesOf, shortTest, openTests, feedTests, endTests}
+use Rattle.calls.specs.Vocabulary.{enoughWords}
 use Rattle.calls.specs.CallLaws.{open-number, open-refused, feed-number, feed-accepted, feed-refused, feed-passed, end-number, end-accepted, end-refused, end-passed}
 use Rattle.line.specs.Fold.{readingOf}
 use Rattle.line.specs.declared.Reading.the-variants.{Unreadable, Readable}
@@ -27,6 +28,10 @@ use Rattle.program.specs.Steps.{allBits, emptyLog, emptyDigest, Step, re
 use Rattle.program.specs.Taken.{Put, putOf, tookBy, tookOf, tookLastBy, tookLastOf}
 use Rattle.program.specs.declared.Phase.the-variants.{Line as InLine, Message as InMessage, Refused as IsRefused}
 use Rattle.program.specs.declared.Program.{Program}
+
+-- the parameters that the code opens a stream with: the key is the first of the bytes that a line keeps
+abbrev pub named : List ℕ → declared.Params → Params
+named kept params = record { key = take (params .keylen) kept; d = params .d; limit = params .limit; rounds = params .rounds }
 
 -- ---- refusals
 
@@ -56,7 +61,7 @@ refused-took line area out text a p = λ i. tookBy (record { phase = IsRefused; 
 module _ {number count : ℕ} {area′ log′ : List ℕ} (line : State) (area bytes : List ℕ)
     (e : record { number = number; count = count; area = area′; log = log′ } ≡ feedOf area (allBits bytes) (replicate 566 0)) where
   feed-is : number ≡ feedNumber area (allBits bytes) (replicate 566 0)
-  feed-is = ap (λ (o : Fed). o .number) e ∙ feed-number area (allBits bytes) (replicate 566 0)
+  feed-is = ap (λ (o : AreaLog). o .number) e ∙ feed-number area (allBits bytes) (replicate 566 0)
 
   pub feed-small : number < 100
   unfolding feedNumber
@@ -65,7 +70,7 @@ module _ {number count : ℕ} {area′ log′ : List ℕ} (line : State) (area b
   pub feed-room : number ≡ 0 → 2 * count ≤ 566
   feed-room z =
       let y = sym feed-is ∙ z in
-      let c = ap (λ (o : Fed). o .count) (e ∙ feed-accepted area (allBits bytes) (replicate 566 0) y) in
+      let c = ap (λ (o : AreaLog). o .count) (e ∙ feed-accepted area (allBits bytes) (replicate 566 0) y) in
       rw c (feed-passed area (allBits bytes) (replicate 566 0) y .room)
 
   is-fed : record { number = number; count = count; area = area′; log = log′ } ≡ feedOf area (allBits bytes) emptyLog
@@ -78,7 +83,7 @@ module _ {number count : ℕ} {area′ log′ : List ℕ} (line : State) (area b
   pub feed-refuses : {t : Put} (out : List ℕ) → (number ≡ 0 → ⊥) → t ≡ putOf (refusedNumber number) out →
       tookBy (record { phase = IsRefused; line = line }) area′ t ≡ tookOf (fedStep line area bytes) out
   feed-refuses out h p =
-      let a = ap (λ (o : Fed). o .area) (e ∙ sym (feed-refused area (allBits bytes) (replicate 566 0) number feed-is h)) in
+      let a = ap (λ (o : AreaLog). o .area) (e ∙ sym (feed-refused area (allBits bytes) (replicate 566 0) number feed-is h)) in
       refused-took line area out (refusedNumber number) a p ∙ ap (λ (s : Step). tookOf s out) (feed-step-refused h)
 
   feed-step : number ≡ 0 → record { program = record { phase = InMessage; line = line }; area = area′; text = nodeLines count log′ } ≡ fedStep line area bytes
@@ -124,7 +129,7 @@ module _ {number count : ℕ} {area′ digest′ log′ : List ℕ} (area : List
 
   pub end-small : number < 100
   unfolding endNumber
-  end-small = rw end-is (small-refusal (openTests area ++ endTests (paramsOf area .d) (length (closedBy area)) (replicate 64 0) (replicate 566 0)) refl)
+  end-small = rw end-is (small-refusal (openTests area ++ endTests (paramsOf area .d) (length (lastNodesOf area)) (replicate 64 0) (replicate 566 0)) refl)
 
   pub end-room : number ≡ 0 → 2 * count ≤ 566
   end-room z =
@@ -154,10 +159,12 @@ module _ {number count : ℕ} {area′ digest′ log′ : List ℕ} (area : List
   unfolding endedStep paramsOf
   end-step z = rw (← is-ended, z)
 
-  pub end-gives : {t : Put} (out : List ℕ) → number ≡ 0 → t ≡ putOf (nodeLines count log′ ++ digestLine (take (digestBytes (getD area 3 0)) digest′)) out →
-      tookLastBy area′ t ≡ tookLastOf (endedStep area) out
+  pub end-gives : {t : Put} {n : ℕ} (out : List ℕ) → number ≡ 0 → n ≡ digestBytes (getD area 3 0) →
+      t ≡ putOf (nodeLines count log′ ++ digestLine (take n digest′)) out → tookLastBy area′ t ≡ tookLastOf (endedStep area) out
   unfolding tookLastOf
-  end-gives out z p = ap (tookLastBy area′) p ∙ ap (λ (l : Last). tookLastOf l out) (end-step z)
+  end-gives out z e p =
+      ap (tookLastBy area′) (p ∙ ap (λ (n : ℕ). putOf (nodeLines count log′ ++ digestLine (take n digest′)) out) e)
+      ∙ ap (λ (l : Last). tookLastOf l out) (end-step z)
 
 -- ---- by the phase
 

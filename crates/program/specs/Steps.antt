@@ -8,8 +8,8 @@ use Rattle.bits.specs.Piece.{Piece, pieceOf}
 use Rattle.tree.specs.Tree.{Params, digestBytes}
 use Rattle.refusals.specs.Refusals.{answerOf}
 use Rattle.calls.specs.Area.{paramsOf}
-use Rattle.calls.specs.Calls.{Opened, Fed, Finished, openOf, feedOf, endOf}
-use Rattle.calls.specs.Terms.{enoughWords}
+use Rattle.calls.specs.Calls.{Opened, AreaLog, Finished, openOf, feedOf, endOf}
+use Rattle.calls.specs.Vocabulary.{enoughWords}
 use Rattle.line.specs.Fold.{start, foldOf, readingOf}
 use Rattle.line.specs.declared.State.{State}
 use Rattle.line.specs.declared.Reading.{Reading}
@@ -49,7 +49,7 @@ allBits bytes = pieceOf bytes 0 (8 * length bytes)
 -- bytes of the message: fed, and a line for each node made
 unfoldable pub fedStep : State → List ℕ → List ℕ → Step
 fedStep line area bytes =
-    let f : Fed = feedOf area (allBits bytes) emptyLog in
+    let f : AreaLog = feedOf area (allBits bytes) emptyLog in
     answerOf (f .number)
     record { program = record { phase = InMessage; line = line }; area = f .area; text = nodeLines (f .count) (f .log) }
     (λ k. refuse line area (refusedNumber k))

@@ -12,13 +12,13 @@ use Rattle.lists.specs.Below.{Below, more}
 use Rattle.lists.specs.Flatten.{flatten-append, map-append}
 use Rattle.bits.specs.Bits.{bitsOf}
 use Rattle.bits.specs.BitsLaws.{length-bitsOf, bitsOf-append, length-numbers}
-use Rattle.tree.specs.Tree.{Params, Node, order, digest, digestBytes}
+use Rattle.tree.specs.Tree.{Params, Node, order, digest, digestBytes, nodeLog, logged}
 use Rattle.bits.specs.Piece.{pieceBits}
-use Rattle.calls.specs.Calls.{nodeLog, logged, fedBits, feedNumber, fedArea, closedBy, endNumber, digestOut}
+use Rattle.calls.specs.Calls.{fedBits, feedNumber, fedArea, lastNodesOf, endNumber, digestOut}
 use Rattle.calls.specs.Marks.{settled}
 use Rattle.calls.specs.CallLaws.{feed-accepted, end-accepted, feed-number as feed-is, end-number as end-is}
-use Rattle.calls.specs.Stands.{Stands, FeedDone, feed-stands, end-closed}
-use Rattle.calls.specs.Terms.{enoughWords}
+use Rattle.calls.specs.Stands.{Stands, FeedDone, feed-stands, end-done}
+use Rattle.calls.specs.Vocabulary.{enoughWords}
 use Rattle.calls.specs.Accepts.{feed-tests, end-tests, end-nodes}
 use Rattle.calls.specs.LogWords.{log-enough, end-enough}
 use Rattle.line.specs.declared.State.{State}
@@ -66,24 +66,24 @@ module _ {P : Params} {M : List Bool} {area : List ℕ} (s : Stands P M area) wh
   end-number : endNumber area emptyDigest emptyLog ≡ 0
   end-number =
       first
-      ∙ not-eight (ltb (length emptyLog) (2 * length (closedBy area)))
+      ∙ not-eight (ltb (length emptyLog) (2 * length (lastNodesOf area)))
       (λ e. end-enough area emptyDigest emptyLog (log-room 0 (omega arith) .1) (end-is area emptyDigest emptyLog ∙ first ∙ e))
     where
-      first : endNumber area emptyDigest emptyLog ≡ cond (ltb (length emptyLog) (2 * length (closedBy area))) 8 0
+      first : endNumber area emptyDigest emptyLog ≡ cond (ltb (length emptyLog) (2 * length (lastNodesOf area))) 8 0
       first = end-tests s emptyDigest emptyLog ∙ rw (le-ltb 64 (digestBytes (P .d)) (omega (arith, s .head .valid .dHigh)))
 
   -- the last nodes and the digest, of a log and an output that the end wrote to
   end-lines : (out log : List ℕ)
-      → nodeLines (length (closedBy area)) (logged (closedBy area) log) ++ digestLine (take (digestBytes (P .d)) (digestOut area (closedBy area) out))
-      ≡ linesOf (closedBy area) ++ digestLine (digest P M)
+      → nodeLines (length (lastNodesOf area)) (logged (lastNodesOf area) log) ++ digestLine (take (digestBytes (P .d)) (digestOut area (lastNodesOf area) out))
+      ≡ linesOf (lastNodesOf area) ++ digestLine (digest P M)
   end-lines out log =
       rw (
-        log-lines (closedBy area) (drop (2 * length (closedBy area)) log),
-        end-closed P M area out s .digest,
+        log-lines (lastNodesOf area) (drop (2 * length (lastNodesOf area)) log),
+        end-done P M area out s .digest,
         take-at (digest P M) (drop (digestBytes (P .d)) out) (digestBytes (P .d)) (length-numbers 8 (digestBytes (P .d)) _),
       )
 
-  end-text : endedStep area .text ≡ linesOf (closedBy area) ++ digestLine (digest P M)
+  end-text : endedStep area .text ≡ linesOf (lastNodesOf area) ++ digestLine (digest P M)
   unfolding endedStep
   end-text = rw (end-accepted area emptyDigest emptyLog end-number, s .head .params) (end-lines emptyDigest emptyLog)
 
@@ -136,8 +136,8 @@ pub message : {P : Params} {M : List Bool} {area : List ℕ} (line : State) (rea
     → linesOf (settled (order P M)) ++ written (record { phase = InMessage; line = line }) area reads ≡ hashed P (M ++ bitsOf 8 (flatten reads))
 unfolding written takeOf flatten lastOf hashed
 message {P} {M} {area} line [] s b few =
-    let l : List ℕ = linesOf (closedBy area) in
-    rw (end-text s, append-nil M, end-nodes s, lines-append (settled (order P M)) (closedBy area))
+    let l : List ℕ = linesOf (lastNodesOf area) in
+    rw (end-text s, append-nil M, end-nodes s, lines-append (settled (order P M)) (lastNodesOf area))
     (sym (append-assoc (linesOf (settled (order P M))) l (digestLine (digest P M))))
 message {P} {M} {area} line (bytes ∷ reads) s (more h hs) few =
     let l = length-append bytes (flatten reads) in

@@ -1,11 +1,12 @@
 // The first line, and the stream that it opens.
 ghost use mathlib.Core.Path.{_≡_};
 ghost use Prim.Native.Nat.{_≤_};
-ghost use lib.ListN.{length, take};
+ghost use lib.ListN.{length};
 ghost use Rattle.line.specs.Fold.{keptBytes, readingOf};
 ghost use Rattle.program.specs.Printed.{firstLine, roundsFor};
 ghost use Rattle.program.specs.Steps.{bufferBytes, openedStep, lineStep, scanned};
 ghost use Rattle.program.specs.Taken.{textBytes, tookOf, scanOf};
+ghost use Rattle.program.specs.StepLaws.{named};
 use super::Phase;
 use super::Program;
 use super::Taken;
@@ -15,6 +16,7 @@ use line::Key;
 use line::Reading;
 use line::Rounds;
 use line::State;
+use refusals::Params;
 
 // The line as far as bytes tell it: whether byte 10 has ended it, and the place behind that byte.
 pub struct Scanned {
@@ -58,32 +60,24 @@ fn rounds_for(rounds: Rounds, d: u64, keylen: u64) -> u64
     }
 }
 
-// Opens a stream with these parameters and the first n of the bytes that a line keeps of its key, and feeds it what was read
-// behind the line.
+// Opens a stream with these parameters and the first of the bytes that a line keeps of its key, and feeds it what was read behind
+// the line.
 fn open_with(
     line: State,
     kept: [u8; Key::KEPT],
-    n: usize,
-    d: u64,
-    limit: u64,
-    rounds: u64,
+    params: Params,
     rest: &[u8],
     area: &mut [u64],
     out: &mut [u8],
 ) -> Taken
-    requires { ⌜ (n ≤ keptBytes) × (length (now rest) ≤ bufferBytes) × (textBytes ≤ length (now out)) ⌝ }
-    ensures { λ r. ⌜ record { program = r .program; count = r .count; area = now (area .exit); out = now (out .exit) } ≡ tookOf (openedStep line (now (area .entry)) (record { key = take n kept; d = d; limit = limit; rounds = rounds }) (now (rest .entry))) (now (out .entry)) ⌝ }
+    requires { ⌜ (params .keylen ≤ keptBytes) × (length (now rest) ≤ bufferBytes) × (textBytes ≤ length (now out)) ⌝ }
+    ensures { λ r. ⌜ record { program = r .program; count = r .count; area = now (area .exit); out = now (out .exit) }
+        ≡ tookOf (openedStep line (now (area .entry)) (named kept params) (now (rest .entry))) (now (out .entry)) ⌝ }
 {
-    let answer = stream::open(area, &kept[..n], d, limit, rounds);
+    let n = params.keylen as usize;
+    let answer = stream::open(area, &kept[..n], params.d, params.limit, params.rounds);
     if answer.number != 0 {
-        let count = put::refused_number(out, answer.number);
-        return Taken {
-            program: Program {
-                phase: Phase::Refused,
-                line,
-            },
-            count,
-        };
+        return message::refuse(line, answer.number, out);
     }
     message::feed(line, rest, area, out)
 }
@@ -91,7 +85,8 @@ fn open_with(
 // A line that has ended, and what was read behind it.
 fn open_line(line: State, rest: &[u8], area: &mut [u64], out: &mut [u8]) -> Taken
     requires { ⌜ (length (now rest) ≤ bufferBytes) × (textBytes ≤ length (now out)) ⌝ }
-    ensures { λ r. ⌜ record { program = r .program; count = r .count; area = now (area .exit); out = now (out .exit) } ≡ tookOf (lineStep (readingOf line) line (now (area .entry)) (now (rest .entry))) (now (out .entry)) ⌝ }
+    ensures { λ r. ⌜ record { program = r .program; count = r .count; area = now (area .exit); out = now (out .exit) }
+        ≡ tookOf (lineStep (readingOf line) line (now (area .entry)) (now (rest .entry))) (now (out .entry)) ⌝ }
 {
     match line.reading() {
         Reading::Unreadable => {
@@ -112,8 +107,9 @@ fn open_line(line: State, rest: &[u8], area: &mut [u64], out: &mut [u8]) -> Take
         } => {
             let key = line.key;
             let kept = key.bytes;
-            let r = rounds_for(rounds, d, key_bytes as u64);
-            open_with(line, kept, key_bytes, d, limit, r, rest, area, out)
+            let n = key_bytes as u64;
+            let params = Params::new(n, d, limit, rounds_for(rounds, d, n));
+            open_with(line, kept, params, rest, area, out)
         }
     }
 }
@@ -121,7 +117,8 @@ fn open_line(line: State, rest: &[u8], area: &mut [u64], out: &mut [u8]) -> Take
 // Bytes of the first line, and what was read behind it.
 pub fn take_line(line: State, bytes: &[u8], area: &mut [u64], out: &mut [u8]) -> Taken
     requires { ⌜ (length (now bytes) ≤ bufferBytes) × (textBytes ≤ length (now out)) ⌝ }
-    ensures { λ r. ⌜ record { program = r .program; count = r .count; area = now (area .exit); out = now (out .exit) } ≡ tookOf (scanned (firstLine (now (bytes .entry))) line (now (area .entry)) (now (bytes .entry))) (now (out .entry)) ⌝ }
+    ensures { λ r. ⌜ record { program = r .program; count = r .count; area = now (area .exit); out = now (out .exit) }
+        ≡ tookOf (scanned (firstLine (now (bytes .entry))) line (now (area .entry)) (now (bytes .entry))) (now (out .entry)) ⌝ }
 {
     let scanned = scan(line, bytes);
     let longer = scanned.line;

@@ -63,7 +63,8 @@ impl Program {
 // Takes the bytes that were read, whatever the program has come to.
 fn take_bytes(program: Program, bytes: &[u8], area: &mut [u64], out: &mut [u8]) -> Taken
     requires { ⌜ (length (now bytes) ≤ bufferBytes) × (textBytes ≤ length (now out)) ⌝ }
-    ensures { λ r. ⌜ record { program = r .program; count = r .count; area = now (area .exit); out = now (out .exit) } ≡ tookOf (takeOf program (now (area .entry)) (now (bytes .entry))) (now (out .entry)) ⌝ }
+    ensures { λ r. ⌜ record { program = r .program; count = r .count; area = now (area .exit); out = now (out .exit) }
+        ≡ tookOf (takeOf program (now (area .entry)) (now (bytes .entry))) (now (out .entry)) ⌝ }
 {
     let phase = program.phase;
     let line = program.line;
@@ -82,7 +83,8 @@ pub fn take(
     area: &mut [u64; Area::WORDS],
     out: &mut [u8; OUT],
 ) -> Taken
-    ensures { λ r. ⌜ record { program = r .program; count = r .count; area = now (area .exit); out = now (out .exit) } ≡ tookOf (takeOf program (now (area .entry)) (take n (now (buf .entry)))) (now (out .entry)) ⌝ }
+    ensures { λ r. ⌜ record { program = r .program; count = r .count; area = now (area .exit); out = now (out .exit) }
+        ≡ tookOf (takeOf program (now (area .entry)) (take n (now (buf .entry)))) (now (out .entry)) ⌝ }
 {
     let bytes: &[u8] = buf;
     if n < BUFFER {
@@ -93,7 +95,8 @@ pub fn take(
 
 // Ends the input, puts the last bytes to write at the front of out, and answers how many they are.
 pub fn finish(program: Program, area: &mut [u64; Area::WORDS], out: &mut [u8; OUT]) -> usize
-    ensures { λ r. ⌜ record { count = r; area = now (area .exit); out = now (out .exit) } ≡ tookLastOf (lastOf program (now (area .entry))) (now (out .entry)) ⌝ }
+    ensures { λ r. ⌜ record { count = r; area = now (area .exit); out = now (out .exit) }
+        ≡ tookLastOf (lastOf program (now (area .entry))) (now (out .entry)) ⌝ }
 {
     let phase = program.phase;
     match phase {

@@ -44,8 +44,10 @@ pub fn nodes(out: &mut [u8], log: &[u64], count: usize) -> usize
 
 // The lines of so many nodes of a log, and the line of the first n bytes of a digest.
 pub fn last(out: &mut [u8], log: &[u64], count: usize, digest: &[u8], n: usize) -> usize
-    requires { ⌜ (textBytes ≤ length (now out)) × (2 * count ≤ length (now log)) × (length (now log) ≤ 566) × (n ≤ length (now digest)) × (n ≤ 64) ⌝ }
-    ensures { λ r. ⌜ record { count = r; out = now (out .exit) } ≡ putOf (nodeLines count (now (log .entry)) ++ digestLine (take n (now (digest .entry)))) (now (out .entry)) ⌝ }
+    requires { ⌜ (textBytes ≤ length (now out)) × (2 * count ≤ length (now log)) × (length (now log) ≤ 566)
+        × (n ≤ length (now digest)) × (n ≤ 64) ⌝ }
+    ensures { λ r. ⌜ record { count = r; out = now (out .exit) }
+        ≡ putOf (nodeLines count (now (log .entry)) ++ digestLine (take n (now (digest .entry)))) (now (out .entry)) ⌝ }
 {
     let at = nodes(out, log, count);
     print::put_digest(&mut out[at..], digest, n);

@@ -1,8 +1,8 @@
--- Definitions: the order of refusals, what a call answers, and the tests that several calls share. Document 01, the table of numbers: each test stands beside
--- its number; number 5 has its test in bits/Piece.
+-- Definitions: the order of refusals, what a call answers, and the tests that several calls share. Document 01, the table of numbers:
+-- each test stands beside its number; number 5 has its test in bits/Piece.
 use mathlib.Core.Bool.{Bool, cond}
 use mathlib.Core.List.{List, [], _∷_, _++_}
-use Prim.Native.Nat.{ℕ, zero, suc}
+use Prim.Native.Nat.{ℕ, zero, suc, _*_}
 use lib.Dec.{ltb}
 use lib.ListN.{length}
 use Rattle.tree.specs.Tree.{Params, mostKeyBytes, mostDigestBits, mostLimit, mostRounds}
@@ -52,3 +52,7 @@ paramTests P = rangeTests (length (P .key)) (P .d) (P .limit) (P .rounds)
 -- "9, 0: output shorter than what is to be written"
 abbrev pub outputTest : ℕ → List ℕ → Bool × ℕ
 outputTest size out = (ltb (length out) size, 9)
+
+-- "8, 0: log shorter than 2 words a node made"
+abbrev pub logTest : ℕ → List ℕ → Bool × ℕ
+logTest nodes log = (ltb (length log) (2 * nodes), 8)

@@ -1,8 +1,8 @@
 // The parameters of a tree with their ranges, what a call answers, and the numbers that refuse parameters and bits.
 ghost use mathlib.Core.Path.{_≡_};
+ghost use mathlib.Core.List.{[], _∷_};
 ghost use Rattle.bits.specs.Piece.{refusedBits};
 ghost use Rattle.bits.specs.PieceLaws.{spanned};
-ghost use Rattle.tree.specs.Tree.{mostLevels};
 ghost use Rattle.refusals.specs.Refusals.{firstRefusal, sizeTests, rangeTests};
 use bits::Span;
 
@@ -37,13 +37,6 @@ impl Params {
             rounds,
         }
     }
-
-    // That the most levels are those of the definitions.
-    pub fn levels() -> u64
-        ensures { λ r. ⌜ r ≡ mostLevels ⌝ }
-    {
-        Params::LEVELS
-    }
 }
 
 // What a call answers: 0 and a count, or the number that refuses it and 0.
@@ -65,6 +58,19 @@ impl Answer {
     {
         Self { number: 0, count }
     }
+}
+
+// The number of the first of two tests that holds, in their order, and 0 if none does.
+pub fn first_of_two(first: bool, number: u64, second: bool, other: u64) -> u64
+    ensures { λ r. ⌜ r ≡ firstRefusal ((first, number) ∷ (second, other) ∷ []) ⌝ }
+{
+    if first {
+        return number;
+    }
+    if second {
+        return other;
+    }
+    0
 }
 
 // Whether number 5 refuses a piece: its start bit is above 7, or start and count together pass the bytes' bits. By division: their

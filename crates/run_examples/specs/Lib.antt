@@ -1,5 +1,5 @@
-pub mod RunTest
-pub mod WorkedRun
-pub mod RunExamples
 pub mod ReelTurn
 pub mod RefusalExamples
+pub mod RunExamples
+pub mod RunTest
+pub mod WorkedRun

@@ -10,9 +10,9 @@ use lib.ListN.{take, replicate}
 use Rattle.bits.specs.Bits.{bitsOf, numbers}
 use Rattle.bits.specs.Piece.{Piece, pieceOf}
 use Rattle.compress.specs.Compress.{grown, compressed}
-use Rattle.tree.specs.Tree.{Params, keyWords, output, noChain, digest, digestBytes}
+use Rattle.tree.specs.Tree.{Params, keyWords, output, noChain, digest, digestBytes, outWords}
 use Rattle.calls.specs.Area.{paramsOf, levelsOf, withLevels, emptyLevel, emptyLevels, sound}
-use Rattle.calls.specs.Calls.{Fed, withBit, outWords, receive, feedBit, feedBits, closeAbove, closing, openNumber, openedArea, openOf, fedBits, feedNumber, fedArea, feedOf, closedBy, endedArea, digestOut, previewNumber, previewOf, closeNumber, closeOf}
+use Rattle.calls.specs.Calls.{AreaLog, withBit, receive, feedBit, feedBits, lastAbove, lastNodes, openNumber, openedArea, openOf, fedBits, feedNumber, fedArea, feedOf, lastNodesOf, endedArea, digestOut, previewNumber, previewOf, closeNumber, closeOf}
 use Rattle.calls.specs.StreamExamples.{Row, rows, params, spare, ones}
 use Rattle.runs.specs.Runs.{feed, preview, close, unless, outcomeOf, roleOf, Run, Answered, answered, answersOf, Share, shareOf, joinedShares, shares}
 use Rattle.runs.specs.Statements.{piecesIn}
@@ -82,7 +82,7 @@ abbrev pub reelOutputs : List (List ℕ)
 reelOutputs = [] ∷ (0x5a ∷ 0x50 ∷ 9 ∷ []) ∷ [] ∷ [] ∷ (0xc3 ∷ 0xc0 ∷ 9 ∷ []) ∷ [] ∷ (9 ∷ 9 ∷ 9 ∷ []) ∷ []
 
 reel-computed : (computed reelExample ≡ expected reelExample) × (outputsIn reelAnswers ≡ reelOutputs)
-unfolding piecesIn numbers keyWords output noChain compressed grown paramsOf levelsOf withLevels emptyLevel emptyLevels sound withBit outWords receive feedBit feedBits closeAbove closing openNumber openedArea openOf fedBits feedNumber fedArea feedOf closedBy endedArea digestOut previewNumber previewOf closeNumber closeOf outcomeOf roleOf goesIf answered shareOf joinedShares shares mathlib.Core.List.flatten
+unfolding piecesIn numbers keyWords output noChain compressed grown paramsOf levelsOf withLevels emptyLevel emptyLevels sound withBit outWords receive feedBit feedBits lastAbove lastNodes openNumber openedArea openOf fedBits feedNumber fedArea feedOf lastNodesOf endedArea digestOut previewNumber previewOf closeNumber closeOf outcomeOf roleOf goesIf answered shareOf joinedShares shares mathlib.Core.List.flatten
 reel-computed = (refl, refl)
 
 pub reelRun : Run
@@ -106,7 +106,7 @@ unwritten = replicate 54 9
 abbrev previews : ℕ → List ℕ → List ℕ → List (List ℕ)
 previews bytes area [] = take bytes (previewOf area unwritten .digest) ∷ []
 previews bytes area (n ∷ ns) =
-    let f : Fed = feedOf area (ones n) spare in
+    let f : AreaLog = feedOf area (ones n) spare in
     take bytes (previewOf area unwritten .digest) ∷ unless (f .number) [] (previews bytes (f .area) ns)
 
 -- the digest of the message so far, by the tree
@@ -129,7 +129,7 @@ unfolding numbers keyWords output noChain compressed grown mathlib.Core.List.fla
 tree-digests = refl
 
 stream-previews : map (λ (w : Row). previews (digestBytes (w .d)) (openOf used (params w) .area) (w .pieces)) rows ≡ byHand
-unfolding numbers keyWords output noChain compressed grown paramsOf levelsOf withLevels emptyLevel emptyLevels sound withBit outWords receive feedBit feedBits closeAbove closing openNumber openedArea openOf fedBits feedNumber fedArea feedOf closedBy digestOut previewNumber previewOf mathlib.Core.List.flatten
+unfolding numbers keyWords output noChain compressed grown paramsOf levelsOf withLevels emptyLevel emptyLevels sound withBit outWords receive feedBit feedBits lastAbove lastNodes openNumber openedArea openOf fedBits feedNumber fedArea feedOf lastNodesOf digestOut previewNumber previewOf mathlib.Core.List.flatten
 stream-previews = refl
 
 pub previews-hold : map (λ (w : Row). previews (digestBytes (w .d)) (openOf used (params w) .area) (w .pieces)) rows

@@ -9,9 +9,9 @@ use lib.ListN.{take, set, replicate}
 use Rattle.bits.specs.Bits.{numbers}
 use Rattle.bits.specs.Piece.{pieceOf}
 use Rattle.compress.specs.Compress.{grown, compressed}
-use Rattle.tree.specs.Tree.{Params, mostLimit, keyWords, output, noChain}
+use Rattle.tree.specs.Tree.{Params, mostLimit, keyWords, output, noChain, outWords}
 use Rattle.calls.specs.Area.{areaWords, paramsOf, levelsOf, withLevels, emptyLevel, emptyLevels, sound}
-use Rattle.calls.specs.Calls.{withBit, outWords, receive, feedBit, feedBits, closeAbove, closing, openNumber, openedArea, openOf, fedBits, feedNumber, fedArea, feedOf, closedBy, endNumber, endedArea, digestOut, endOf, previewNumber, previewOf, closeNumber, closeOf, logWordsNumber, logWordsOf, areaWordsOf}
+use Rattle.calls.specs.Calls.{withBit, receive, feedBit, feedBits, lastAbove, lastNodes, openNumber, openedArea, openOf, fedBits, feedNumber, fedArea, feedOf, lastNodesOf, endNumber, endedArea, digestOut, endOf, previewNumber, previewOf, closeNumber, closeOf, logWordsNumber, logWordsOf, areaWordsOf}
 use Rattle.digits.specs.Digits.{hexDigits, speltWords}
 use Rattle.texts.specs.Text.{textWith, textOf, oldTextOf, speltHead, speltArea, writeNumber, writeOf, readableWith, readable, readArea, readNumber, readOf}
 use Rattle.lists.specs.Same.{same}
@@ -306,7 +306,7 @@ abbrev expected : List ℕ
 expected = map (λ (w : Row). w .1) rows
 
 computed : same answered expected ≡ true
-unfolding numbers keyWords output noChain compressed grown paramsOf levelsOf withLevels emptyLevel emptyLevels sound withBit outWords receive feedBit feedBits closeAbove closing openNumber openedArea openOf fedBits feedNumber fedArea feedOf closedBy endNumber endedArea digestOut endOf previewNumber previewOf closeNumber closeOf logWordsNumber logWordsOf areaWordsOf hexDigits textWith speltWords speltHead speltArea writeNumber writeOf readableWith readable readArea readNumber readOf hashNumber hashOf defaultRoundsOf mathlib.Core.List.flatten
+unfolding numbers keyWords output noChain compressed grown paramsOf levelsOf withLevels emptyLevel emptyLevels sound withBit outWords receive feedBit feedBits lastAbove lastNodes openNumber openedArea openOf fedBits feedNumber fedArea feedOf lastNodesOf endNumber endedArea digestOut endOf previewNumber previewOf closeNumber closeOf logWordsNumber logWordsOf areaWordsOf hexDigits textWith speltWords speltHead speltArea writeNumber writeOf readableWith readable readArea readNumber readOf hashNumber hashOf defaultRoundsOf mathlib.Core.List.flatten
 computed = refl
 
 pub rows-hold : map (λ (w : Row). w .0) rows ≡ map (λ (w : Row). w .1) rows

@@ -12,12 +12,12 @@ use lib.ListN.{take, replicate}
 use Rattle.bits.specs.Bits.{numbers}
 use Rattle.bits.specs.Piece.{Piece, pieceOf, pieceBits}
 use Rattle.compress.specs.Compress.{grown, compressed}
-use Rattle.tree.specs.Tree.{keyWords, output, noChain}
+use Rattle.tree.specs.Tree.{keyWords, output, noChain, outWords}
 use Rattle.calls.specs.Area.{areaWords, paramsOf, levelsOf, withLevels, emptyLevel, emptyLevels, sound}
-use Rattle.calls.specs.Calls.{withBit, outWords, receive, feedBit, feedBits, closeAbove, closing, openNumber, openedArea, openOf, fedBits, feedNumber, fedArea, feedOf, closedBy, endNumber, endedArea, digestOut, endOf, shown, levelOf}
+use Rattle.calls.specs.Calls.{withBit, receive, feedBit, feedBits, lastAbove, lastNodes, openNumber, openedArea, openOf, fedBits, feedNumber, fedArea, feedOf, lastNodesOf, endNumber, endedArea, digestOut, endOf, shown, levelOf}
 use Rattle.digits.specs.Digits.{hexDigits, line, speltWords}
 use Rattle.texts.specs.Text.{textWith, speltHead, speltArea, writeNumber, writeOf, readableWith, readable, readArea, readNumber, readOf}
-use Rattle.runs.specs.Runs.{Bytes, feed, end, show, write, read, readInto, outcomeOf, roleOf, Run, answered, Share, shareOf, joinedShares, shares}
+use Rattle.runs.specs.Runs.{Bytes, feed, end, show, write, readInto, outcomeOf, roleOf, Run, answered, Share, shareOf, joinedShares, shares}
 use Rattle.runs.specs.Statements.{piecesIn}
 use Rattle.run_examples.specs.RunTest.{lent, goesIf, other, zeros, Example, computed, expected, runOf, Gives, gives}
 use Rattle.lists.specs.Below.{none as nil}
@@ -138,7 +138,7 @@ endedExample = record {
 -- ---- both, by computing
 
 examples : (computed openExample ≡ expected openExample) × (computed endedExample ≡ expected endedExample)
-unfolding piecesIn numbers keyWords output noChain compressed grown paramsOf levelsOf withLevels emptyLevel emptyLevels sound withBit outWords receive feedBit feedBits closeAbove closing openNumber openedArea openOf fedBits feedNumber fedArea feedOf closedBy endNumber endedArea digestOut endOf shown levelOf hexDigits textWith speltWords speltHead speltArea writeNumber writeOf readableWith readable readArea readNumber readOf outcomeOf roleOf goesIf answered shareOf joinedShares shares mathlib.Core.List.flatten
+unfolding piecesIn numbers keyWords output noChain compressed grown paramsOf levelsOf withLevels emptyLevel emptyLevels sound withBit outWords receive feedBit feedBits lastAbove lastNodes openNumber openedArea openOf fedBits feedNumber fedArea feedOf lastNodesOf endNumber endedArea digestOut endOf shown levelOf hexDigits textWith speltWords speltHead speltArea writeNumber writeOf readableWith readable readArea readNumber readOf outcomeOf roleOf goesIf answered shareOf joinedShares shares mathlib.Core.List.flatten
 examples = (refl, refl)
 
 -- ---- the runs

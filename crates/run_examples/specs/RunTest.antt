@@ -13,9 +13,9 @@ use Rattle.lists.specs.Append.{cons-eq}
 use Rattle.lists.specs.Below.{Below, more, none as nil}
 use Rattle.lists.specs.And.{and-parts}
 use Rattle.bits.specs.Piece.{Piece}
-use Rattle.tree.specs.Tree.{Params, mostLimit, order, digest}
+use Rattle.tree.specs.Tree.{Params, mostLimit, order, digest, nodeLog}
 use Rattle.calls.specs.Area.{areaWords}
-use Rattle.calls.specs.Calls.{nodeLog, openOf}
+use Rattle.calls.specs.Calls.{openOf}
 use Rattle.lists.specs.Same.{same}
 use Rattle.lists.specs.SameLaws.{same-eq}
 use Rattle.runs.specs.Runs.{Bytes, Call, Outcome, outcomeOf, Role, between, writes, reads, outside, opens, roleOf, suspended, Allowed, Goes, Run, Answered, answered, Share, shares, answersOf, digestIn}

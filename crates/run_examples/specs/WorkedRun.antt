@@ -9,9 +9,9 @@ use lib.ListN.{replicate}
 use Rattle.bits.specs.Bits.{bitsOf, numbers}
 use Rattle.bits.specs.Piece.{Piece, pieceOf}
 use Rattle.compress.specs.Compress.{grown, compressed}
-use Rattle.tree.specs.Tree.{keyWords, output, noChain}
+use Rattle.tree.specs.Tree.{keyWords, output, noChain, outWords}
 use Rattle.calls.specs.Area.{paramsOf, levelsOf, withLevels, emptyLevel, emptyLevels, sound}
-use Rattle.calls.specs.Calls.{withBit, outWords, receive, feedBit, feedBits, closeAbove, closing, openNumber, openedArea, openOf, fedBits, feedNumber, fedArea, feedOf, closedBy, endNumber, endedArea, digestOut, endOf, shown, levelOf, logWordsNumber, logWordsOf}
+use Rattle.calls.specs.Calls.{withBit, receive, feedBit, feedBits, lastAbove, lastNodes, openNumber, openedArea, openOf, fedBits, feedNumber, fedArea, feedOf, lastNodesOf, endNumber, endedArea, digestOut, endOf, shown, levelOf, logWordsNumber, logWordsOf}
 use Rattle.digits.specs.Digits.{hexDigits, speltWords}
 use Rattle.texts.specs.Text.{textWith, speltHead, speltArea, writeNumber, writeOf, readableWith, readable, readArea, readNumber, readOf}
 use Rattle.runs.specs.Runs.{Bytes, Share, feed, end, show, logWords, write, read, readInto, reopen, outcomeOf, roleOf, Run, answered, shareOf, joinedShares, shares}
@@ -96,7 +96,7 @@ workedExample = record {
 }
 
 works : computed workedExample ≡ expected workedExample
-unfolding piecesIn numbers keyWords output noChain compressed grown paramsOf levelsOf withLevels emptyLevel emptyLevels sound withBit outWords receive feedBit feedBits closeAbove closing openNumber openedArea openOf fedBits feedNumber fedArea feedOf closedBy endNumber endedArea digestOut endOf shown levelOf logWordsNumber logWordsOf hexDigits textWith speltWords speltHead speltArea writeNumber writeOf readableWith readable readArea readNumber readOf outcomeOf roleOf goesIf answered shareOf joinedShares shares mathlib.Core.List.flatten
+unfolding piecesIn numbers keyWords output noChain compressed grown paramsOf levelsOf withLevels emptyLevel emptyLevels sound withBit outWords receive feedBit feedBits lastAbove lastNodes openNumber openedArea openOf fedBits feedNumber fedArea feedOf lastNodesOf endNumber endedArea digestOut endOf shown levelOf logWordsNumber logWordsOf hexDigits textWith speltWords speltHead speltArea writeNumber writeOf readableWith readable readArea readNumber readOf outcomeOf roleOf goesIf answered shareOf joinedShares shares mathlib.Core.List.flatten
 works = refl
 
 -- ---- what it gives

@@ -8,8 +8,7 @@ use Prim.Native.Nat.{ℕ, zero, suc}
 use lib.ListN.{length}
 use Rattle.bits.specs.Piece.{Piece, pieceBits, firstPart, secondPart}
 use Rattle.bits.specs.PieceLaws.{cut-bits}
-use Rattle.tree.specs.Tree.{Params, Node, order, digest}
-use Rattle.calls.specs.Calls
+use Rattle.tree.specs.Tree.{Params, Node, order, digest, nodeLog}
 use Rattle.calls.specs.Marks.{allNodes}
 use Rattle.collision.specs.Clash.{Different, RootsDiffer, Meeting}
 use Rattle.collision.specs.Collision.{collision}
@@ -46,7 +45,7 @@ same-runs a b e f s =
     ∙ sym (ended-nodes b f) in
     record {
       count = x .count ∙ ap (λ (ns : List Node). length ns) n ∙ sym (y .count);
-      log = x .log ∙ ap (λ (ns : List Node). Calls.nodeLog ns) n ∙ sym (y .log);
+      log = x .log ∙ ap (λ (ns : List Node). nodeLog ns) n ∙ sym (y .log);
       digest =
           x .digest (e .out) (e .is)
           ∙ ap (λ (P : Params). digest P (messageOf a)) p

@@ -34,7 +34,7 @@ demand3 r = by (run-fits r .1)
           valid = h .valid;
         }
     by (over g) =
-        let h = g .closed .head in
+        let h = g .ended .head in
         record {
           log = rw (g .output) (g .log);
           count = rw (g .output) (g .count ∙ sym (length-map (order P (messageOf r)) (λ (m : Mark). m .node)));
@@ -43,7 +43,7 @@ demand3 r = by (run-fits r .1)
           digest = λ out q. let s : out ≡ g .out = cc (g .output, q) in rw s (g .digest);
           long = rw (h .params) at (h .long);
           sound = at-sound (fits-at (over g));
-          phase = rw (g .output) (g .closed .phase);
+          phase = rw (g .output) (g .ended .phase);
           total = h .total;
           params = h .params;
           messageShort = h .short;

@@ -10,12 +10,11 @@ use lib.ListN.{length, take, drop}
 use lib.Seq.{take-all, take-at}
 use Rattle.bits.specs.BitsLaws.{length-numbers}
 use Rattle.bits.specs.Piece.{Piece}
-use Rattle.tree.specs.Tree.{Params, order, digest, digestBytes}
-use Rattle.calls.specs.Calls.{Opened, Fed, Finished, ClosedWith, openNumber, openOf, feedNumber, feedOf, endNumber, endOf, previewNumber, closeNumber, logWordsNumber}
-use Rattle.calls.specs.Calls
+use Rattle.tree.specs.Tree.{Params, order, digest, digestBytes, nodeLog}
+use Rattle.calls.specs.Calls.{Opened, AreaLog, Finished, openNumber, openOf, feedNumber, feedOf, endNumber, endOf, previewNumber, closeNumber, logWordsNumber}
 use Rattle.calls.specs.Marks.{allNodes, settled}
 use Rattle.calls.specs.CallLaws.{OpenArea, open-number, open-refused, feed-number, feed-refused, feed-passed, end-number, end-refused, end-passed, preview-number, close-number, close-refused, close-passed, logWords-number}
-use Rattle.calls.specs.Stands.{Stands, Closed}
+use Rattle.calls.specs.Stands.{Stands, HasEnded}
 use Rattle.calls.specs.Meets.{feed-one, end-one, close-one}
 use Rattle.texts.specs.Text.{Taken, textOf, writeNumber, readNumber, readOf}
 use Rattle.texts.specs.ReadLaws.{read-number, read-refused, write-number, written-text}
@@ -31,15 +30,15 @@ all-taken l n e = take-all n l (omega arith)
 -- an accepted feed: the area stands for a longer message, and the log goes on to the nodes that do not reach its last bit
 pub record Feeds (P : Params) (M : List Bool) (add : Share) (to : List ℕ) : Type 0 where
   pub stands : Stands P (M ++ add .bits) to
-  pub log : Calls.nodeLog (settled (order P (M ++ add .bits))) ≡ Calls.nodeLog (settled (order P M)) ++ add .log
+  pub log : nodeLog (settled (order P (M ++ add .bits))) ≡ nodeLog (settled (order P M)) ++ add .log
   pub count : length (settled (order P (M ++ add .bits))) ≡ length (settled (order P M)) + add .count
   pub output : add .output ≡ none
 
 -- an accepted end: the area has ended, the log goes on to all nodes, and the digest is the tree's
 pub record Ends (P : Params) (M : List Bool) (add : Share) (to : List ℕ) : Type 0 where
-  pub closed : Closed P M to
+  pub ended : HasEnded P M to
   pub bits : add .bits ≡ []
-  pub log : Calls.nodeLog (allNodes (order P M)) ≡ Calls.nodeLog (settled (order P M)) ++ add .log
+  pub log : nodeLog (allNodes (order P M)) ≡ nodeLog (settled (order P M)) ++ add .log
   pub count : length (order P M) ≡ length (settled (order P M)) + add .count
   pub out : List ℕ
   pub output : add .output ≡ some out
@@ -89,14 +88,14 @@ module _ (P : Params) (M : List Bool) (area : List ℕ) (text : Option (List ℕ
       c : Call
       c = feed piece log b t s w
 
-      f : Fed
+      f : AreaLog
       f = feedOf area piece log
 
       number : f .number ≡ feedNumber area piece log
       number = feed-number area piece log
 
       by : {e : Bool} (k : ℕ) → feedNumber area piece log ≡ k → At P M area e → Step P M area e text c
-      by (suc k) q at = refused c k (number ∙ q) (ap (λ (x : Fed). x .area) (sym (feed-refused area piece log (suc k) (sym q) (omega arith))))
+      by (suc k) q at = refused c k (number ∙ q) (ap (λ (x : AreaLog). x .area) (sym (feed-refused area piece log (suc k) (sym q) (omega arith))))
       by zero q (isOpen s) =
           let o = feed-one P M area piece log s (number ∙ q) in
           record {
@@ -122,7 +121,7 @@ module _ (P : Params) (M : List Bool) (area : List ℕ) (text : Option (List ℕ
       (λ q. end-passed area out log q .opened)
       (λ q s. let o = end-one P M area out log s (end-number area out log ∙ q) in
       record {
-        closed = o .closed;
+        ended = o .ended;
         bits = refl;
         log = o .log;
         count = o .count;
@@ -136,11 +135,11 @@ module _ (P : Params) (M : List Bool) (area : List ℕ) (text : Option (List ℕ
   unfolding outcomeOf
   close-step figure log b w =
       ending (close figure log b w) (closeNumber area figure log) (close-number area figure log)
-      (λ j q. ap (λ (x : ClosedWith). x .area) (sym (close-refused area figure log (suc j) (sym q) (omega arith))))
+      (λ j q. ap (λ (x : AreaLog). x .area) (sym (close-refused area figure log (suc j) (sym q) (omega arith))))
       (λ q. close-passed area figure log q .opened)
       (λ q s. let o = close-one P M area figure log s (close-number area figure log ∙ q) in
       record {
-        closed = o .closed;
+        ended = o .ended;
         bits = refl;
         log = o .log;
         count = o .count;

@@ -7,11 +7,10 @@ use Prim.Native.Nat.{ℕ}
 use native.Mathlib.Nat.{zero-add, add-zero, add-assoc}
 use native.Mathlib.Omega.{arith}
 use lib.ListN.{length, drop, length-append}
-use Rattle.tree.specs.Tree.{Params, order, digest, digestBytes}
+use Rattle.tree.specs.Tree.{Params, order, digest, digestBytes, nodeLog}
 use Rattle.calls.specs.Calls.{openOf, previewOf, closeOf}
-use Rattle.calls.specs.Calls
 use Rattle.calls.specs.Marks.{allNodes, settled}
-use Rattle.calls.specs.Stands.{settled-opened, Stands, Closed}
+use Rattle.calls.specs.Stands.{settled-opened, Stands, HasEnded}
 use Rattle.calls.specs.CallLaws.{preview-number, close-number}
 use Rattle.calls.specs.Accepts.{preview-ended, close-ended}
 use Rattle.calls.specs.Meets.{open-one, preview-one, close-one}
@@ -46,13 +45,13 @@ joined-assoc a b c =
 
 pub record Going (P : Params) (s : Share) (area : List ℕ) : Type 0 where
   pub stands : Stands P (s .bits) area
-  pub log : s .log ≡ Calls.nodeLog (settled (order P (s .bits)))
+  pub log : s .log ≡ nodeLog (settled (order P (s .bits)))
   pub count : s .count ≡ length (settled (order P (s .bits)))
   pub output : s .output ≡ none
 
 pub record Over (P : Params) (s : Share) (area : List ℕ) : Type 0 where
-  pub closed : Closed P (s .bits) area
-  pub log : s .log ≡ Calls.nodeLog (allNodes (order P (s .bits)))
+  pub ended : HasEnded P (s .bits) area
+  pub log : s .log ≡ nodeLog (allNodes (order P (s .bits)))
   pub count : s .count ≡ length (order P (s .bits))
   pub out : List ℕ
   pub output : s .output ≡ some out
@@ -64,13 +63,13 @@ pub data Fits (P : Params) (s : Share) (area : List ℕ) : Bool → Type 0 where
 
 pub fits-at : {P : Params} {s : Share} {area : List ℕ} {e : Bool} → Fits P s area e → At P (s .bits) area e
 fits-at (going g) = isOpen (g .stands)
-fits-at (over g) = hasEnded (g .closed)
+fits-at (over g) = hasEnded (g .ended)
 
 -- the same stream in another area
 moved-fits : {P : Params} {s : Share} {area to : List ℕ} {e : Bool} → Fits P s area e → At P (s .bits) to e → Fits P s to e
 moved-fits (going g) (isOpen t) = going record { stands = t; log = g .log; count = g .count; output = g .output }
 moved-fits (over g) (hasEnded t) = over record {
-  closed = t;
+  ended = t;
   log = g .log;
   count = g .count;
   out = g .out;
@@ -91,7 +90,7 @@ effect-fits {P = P} {s = s} {add = add} (going g) (fed d) = going record {
   output = rw (g .output) (d .output);
 }
 effect-fits {P = P} {s = s} {add = add} (going g) (ended d) = over record {
-  closed = rw (d .bits, append-nil (s .bits)) (d .closed);
+  ended = rw (d .bits, append-nil (s .bits)) (d .ended);
   log = rw (d .bits, append-nil (s .bits), g .log) (sym (d .log));
   count = rw (d .bits, append-nil (s .bits), g .count) (sym (d .count));
   out = d .out;
@@ -140,13 +139,13 @@ list-reached P s area text (c ∷ cs) f h g (b ∷ before) a after q =
 pub preview-fits : {P : Params} {s : Share} {area : List ℕ} {e : Bool} (out : List ℕ) → Fits P s area e → previewOf area out .number ≡ 0
     → previewOf area out .digest ≡ digest P (s .bits) ++ drop (digestBytes (P .d)) out
 preview-fits {P} {s} {area} out (going g) z = preview-one P (s .bits) area out (g .stands) z
-preview-fits {P} {s} {area} out (over g) z = absurd (omega (arith, preview-number area out, preview-ended (g .closed) out))
+preview-fits {P} {s} {area} out (over g) z = absurd (omega (arith, preview-number area out, preview-ended (g .ended) out))
 
 -- a close: its figure is that digest
 close-fits : {P : Params} {s : Share} {area : List ℕ} {e : Bool} (figure log : List ℕ) → Fits P s area e → closeOf area figure log .number ≡ 0
     → figure ≡ digest P (s .bits)
 close-fits {P} {s} {area} figure log (going g) z = close-one P (s .bits) area figure log (g .stands) z .digest
-close-fits {P} {s} {area} figure log (over g) z = absurd (omega (arith, close-number area figure log, close-ended (g .closed) figure log))
+close-fits {P} {s} {area} figure log (over g) z = absurd (omega (arith, close-number area figure log, close-ended (g .ended) figure log))
 
 -- ---- a run, from its accepted open
 

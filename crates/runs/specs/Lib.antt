@@ -1,9 +1,9 @@
-pub mod Runs
-pub mod RunLaws
-pub mod Suspend
+pub mod Corollaries
+pub mod Demand3
 pub mod Effects
 pub mod Induction
+pub mod RunLaws
+pub mod Runs
 pub mod Statements
-pub mod Demand3
+pub mod Suspend
 pub mod Table
-pub mod Corollaries

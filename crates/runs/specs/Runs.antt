@@ -10,7 +10,7 @@ use Rattle.lists.specs.Below.{Below}
 use Rattle.bits.specs.Piece.{Piece, pieceBits}
 use Rattle.tree.specs.Tree.{Params, digestBytes}
 use Rattle.refusals.specs.Refusals.{Told}
-use Rattle.calls.specs.Calls.{Opened, Fed, Finished, Previewed, ClosedWith, openOf, feedOf, endOf, previewOf, closeOf, levelOf, logWordsOf}
+use Rattle.calls.specs.Calls.{Opened, AreaLog, Finished, Previewed, openOf, feedOf, endOf, previewOf, closeOf, levelOf, logWordsOf}
 use Rattle.texts.specs.Text.{Written, Taken, writeOf, readOf}
 
 -- lent bytes and lent words
@@ -54,7 +54,7 @@ unless (suc n) refused accepted = refused
 -- "once it is accepted the next call gets that one".
 unfoldable pub outcomeOf : List ℕ → Call → Outcome
 outcomeOf area (feed piece log _ _ _ _) =
-    let f : Fed = feedOf area piece log in
+    let f : AreaLog = feedOf area piece log in
     record { number = f .number; count = f .count; area = f .area; log = f .log; output = [] }
 outcomeOf area (end digest log _ _) =
     let e : Finished = endOf area digest log in
@@ -63,7 +63,7 @@ outcomeOf area (preview digest _) =
     let p : Previewed = previewOf area digest in
     record { number = p .number; count = p .count; area = area; log = []; output = p .digest }
 outcomeOf area (close figure log _ _) =
-    let c : ClosedWith = closeOf area figure log in
+    let c : AreaLog = closeOf area figure log in
     record { number = c .number; count = c .count; area = c .area; log = c .log; output = [] }
 outcomeOf area (show level) = record { number = 0; count = 0; area = area; log = []; output = levelOf area level }
 outcomeOf area (logWords bits _) =

@@ -8,10 +8,10 @@ use mathlib.Core.List.{List, [], _∷_, _++_}
 use Prim.Native.Nat.{ℕ, _-_, _*_, _^_, _≤_, _<_}
 use lib.ListN.{length, drop}
 use Rattle.bits.specs.Piece.{Piece, pieceBits, firstPart, secondPart}
-use Rattle.tree.specs.Tree.{Params, Valid, Node, Mark, order, digestBytes, digest}
+use Rattle.tree.specs.Tree.{Params, Valid, Node, Mark, order, digestBytes, digest, nodeLog}
 use Rattle.refusals.specs.Refusals.{firstRefusal, paramTests, outputTest}
 use Rattle.calls.specs.Area.{areaLevels, areaWords, phaseOf, totalOf, paramsOf, levelWords, sound}
-use Rattle.calls.specs.Calls.{nodeLog, shortTest, totalTest, openOf, feedTests, feedOf, endTests, endOf, previewOf, closeTests, closeOf, levelOf, logWordsOf}
+use Rattle.calls.specs.Calls.{shortTest, totalTest, openOf, feedTests, feedOf, endTests, endOf, previewOf, closeTests, closeOf, levelOf, logWordsOf}
 use Rattle.calls.specs.Marks.{allNodes, settled}
 use Rattle.texts.specs.Text.{textOf, writeOf, readable, areaIn, readOf}
 use Rattle.runs.specs.Runs.{Bytes, Words, Call, feed, end, preview, close, show, logWords, write, read, readInto, reopen, unless, Run, Outcome, Answered, shares, answersOf, areaOf, messageOf, logOf, countOf, outputOf, digestIn}
@@ -79,17 +79,20 @@ endMakes P M = length (order P M) - length (settled (order P M))
 pub record Table (r : Run) : Type 0 where
   -- "Feed 7, 10, 5, 6, 8"
   pub feed : (piece : Piece) (log : List ℕ) → feedOf (areaOf r) piece log .number
-      ≡ firstRefusal (endedTest (outputOf r) ∷ feedTests (length (messageOf r)) (feedMakes (r .params) (messageOf r) (pieceBits piece)) piece log)
+      ≡ firstRefusal (endedTest (outputOf r)
+      ∷ feedTests (length (messageOf r)) (feedMakes (r .params) (messageOf r) (pieceBits piece)) piece log)
   -- "End 7, 10, 9, 8"
   pub end : (out log : List ℕ) → endOf (areaOf r) out log .number
       ≡ firstRefusal (endedTest (outputOf r) ∷ endTests (r .params .d) (endMakes (r .params) (messageOf r)) out log)
   -- document 02, M-106: a preview "refuses 7, 10, 9", and writes the digest of the message; a close is refused in "the order 7, 10, 8,
   -- 14", by 14 if the figure is not that digest
-  pub preview : (out : List ℕ) → previewOf (areaOf r) out .number ≡ firstRefusal (endedTest (outputOf r) ∷ outputTest (digestBytes (r .params .d)) out ∷ [])
+  pub preview : (out : List ℕ) → previewOf (areaOf r) out .number
+      ≡ firstRefusal (endedTest (outputOf r) ∷ outputTest (digestBytes (r .params .d)) out ∷ [])
   pub previewed : (out : List ℕ) → previewOf (areaOf r) out .number ≡ 0
       → previewOf (areaOf r) out .digest ≡ digest (r .params) (messageOf r) ++ drop (digestBytes (r .params .d)) out
   pub close : (figure log : List ℕ) → closeOf (areaOf r) figure log .number
-      ≡ firstRefusal (endedTest (outputOf r) ∷ closeTests (endMakes (r .params) (messageOf r)) (digest (r .params) (messageOf r)) figure log)
+      ≡ firstRefusal (endedTest (outputOf r)
+      ∷ closeTests (endMakes (r .params) (messageOf r)) (digest (r .params) (messageOf r)) figure log)
   -- document 02, M-103: "It refuses 7, 10 and 6 in that order", and is "exactly two words for each node that the feed would make": of
   -- any bits Y, if it is not refused
   pub logWords : (n : ℕ) → logWordsOf (areaOf r) n .number ≡ firstRefusal (endedTest (outputOf r) ∷ totalTest (length (messageOf r)) n ∷ [])
@@ -99,7 +102,8 @@ pub record Table (r : Run) : Type 0 where
   pub write : (out : List ℕ) → writeOf (areaOf r) out .number ≡ firstRefusal (outputTest (length (textOf (areaOf r))) out ∷ [])
   -- document 02, M-109: "reading tests 11 and then 7": 11 exactly if the text is not what writing some sound area gives or gave; the
   -- stream's own area or another gets it
-  pub read : (into text : List ℕ) → readOf into text .number ≡ firstRefusal ((not (readable text), 11) ∷ shortTest into (paramsOf (areaIn text) .limit) ∷ [])
+  pub read : (into text : List ℕ) → readOf into text .number
+      ≡ firstRefusal ((not (readable text), 11) ∷ shortTest into (paramsOf (areaIn text) .limit) ∷ [])
   -- so the stream's own text goes into every area, its own too, that is not short by its own L
   pub readBack : (into : List ℕ) → readOf into (textOf (areaOf r)) .number ≡ firstRefusal (shortTest into (r .params .limit) ∷ [])
   -- "Open tests 1, 2, 3, 4 and then 7"

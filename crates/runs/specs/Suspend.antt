@@ -10,21 +10,21 @@ use lib.Seq.{take-at, take-take, length-take-le}
 use Rattle.lists.specs.Below.{Below}
 use Rattle.tree.specs.Tree.{Params}
 use Rattle.calls.specs.Area.{ownWords, paramsOf, sound}
-use Rattle.calls.specs.Stands.{Head, Stands, Closed, stands-sound, closed-sound}
+use Rattle.calls.specs.Stands.{Head, Stands, HasEnded, stands-sound, ended-sound}
 use Rattle.refusals.specs.Refusals.{firstRefusal}
 use Rattle.calls.specs.Calls.{shortTest}
-use Rattle.calls.specs.Terms.{SameFront}
-use Rattle.calls.specs.Moved.{stands-moved, closed-moved, stands-below, closed-below}
+use Rattle.calls.specs.Vocabulary.{SameFront}
+use Rattle.calls.specs.Moved.{stands-moved, ended-moved, stands-below, ended-below}
 use Rattle.texts.specs.Text.{roundsBytes, textOf, readArea, readNumber, readOf}
 use Rattle.texts.specs.LayoutLaws.{sound-front, text-front, own-front}
 use Rattle.texts.specs.ReadForms.{ReadAs, writing-read}
-use Rattle.texts.specs.Terms.{SoundArea, new-writing}
+use Rattle.texts.specs.Vocabulary.{SoundArea, new-writing}
 use Rattle.texts.specs.ReadLaws.{read-number, read-passed, read-accepted}
 
 -- false while the stream is open, true once it has ended
 pub data At (P : Params) (M : List Bool) (area : List ℕ) : Bool → Type 0 where
   isOpen : Stands P M area → At P M area false
-  hasEnded : Closed P M area → At P M area true
+  hasEnded : HasEnded P M area → At P M area true
 
 at-head : {P : Params} {M : List Bool} {area : List ℕ} {e : Bool} → At P M area e → Head P M area
 at-head (isOpen s) = s .head
@@ -32,15 +32,15 @@ at-head (hasEnded s) = s .head
 
 pub at-sound : {P : Params} {M : List Bool} {area : List ℕ} {e : Bool} → At P M area e → sound area ≡ true
 at-sound (isOpen s) = stands-sound s
-at-sound (hasEnded s) = closed-sound s
+at-sound (hasEnded s) = ended-sound s
 
 at-below : {P : Params} {M : List Bool} {area : List ℕ} {e : Bool} → At P M area e → Below (2 ^ 64) (take (ownWords area) area)
 at-below (isOpen s) = stands-below s
-at-below (hasEnded s) = closed-below s
+at-below (hasEnded s) = ended-below s
 
 at-moved : {P : Params} {M : List Bool} {area : List ℕ} {e : Bool} (to : List ℕ) → SameFront (paramsOf area .limit) area to → At P M area e → At P M to e
 at-moved {P} {M} {area} to t (isOpen s) = isOpen (stands-moved P M area to t s)
-at-moved {P} {M} {area} to t (hasEnded s) = hasEnded (closed-moved P M area to t s)
+at-moved {P} {M} {area} to t (hasEnded s) = hasEnded (ended-moved P M area to t s)
 
 -- its text is read as the words that its L gives, which are all that the text goes by
 at-read : {P : Params} {M : List Bool} (area : List ℕ) {e : Bool} → At P M area e → ReadAs (textOf area) (take (ownWords area) area)

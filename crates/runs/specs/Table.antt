@@ -9,9 +9,9 @@ use lib.ListN.{length, length-append, length-map}
 use Rattle.bits.specs.Piece.{Piece, pieceBits, bitsTest}
 use Rattle.bits.specs.PieceLaws.{length-pieceBits, bits-there}
 use Rattle.tree.specs.Tree.{Params, Mark, order, digestBytes, digest}
-use Rattle.refusals.specs.Refusals.{Told, firstRefusal, outputTest}
-use Rattle.calls.specs.Area.{ownWords, Long, sound}
-use Rattle.calls.specs.Calls.{totalTest, logTest, openNumber, fedBits, feedTests, feedOf, closedBy, endTests, endOf, previewOf, closeTests, closeOf, logWordsOf}
+use Rattle.refusals.specs.Refusals.{Told, firstRefusal, outputTest, logTest}
+use Rattle.calls.specs.Area.{ownWords, Long}
+use Rattle.calls.specs.Calls.{totalTest, openNumber, fedBits, feedTests, feedOf, lastNodesOf, endTests, endOf, previewOf, closeTests, closeOf, logWordsOf}
 use Rattle.calls.specs.Marks.{settled}
 use Rattle.calls.specs.CallLaws.{open-number, feed-number, end-number, preview-number, close-number, logWords-number, logWords-accepted, logWords-passed}
 use Rattle.calls.specs.Stands.{Stands}
@@ -36,9 +36,9 @@ module _ {P : Params} {M : List Bool} {area : List ℕ} (s : Stands P M area) wh
       let e = ap length (feed-nodes s Y h) ∙ length-append (settled (order P M)) (fedBits area Y .nodes) in
       omega arith
 
-  end-made : length (closedBy area) ≡ endMakes P M
+  end-made : length (lastNodesOf area) ≡ endMakes P M
   end-made =
-      let e = ap length (end-nodes s) ∙ length-append (settled (order P M)) (closedBy area) in
+      let e = ap length (end-nodes s) ∙ length-append (settled (order P M)) (lastNodesOf area) in
       let m = length-map (order P M) (λ (x : Mark). x .node) in
       omega arith
 
@@ -108,29 +108,29 @@ table r = record {
     feeds : {e : Bool} (piece : Piece) (log : List ℕ) → Fits P (shares (answersOf r)) area e → feedOf area piece log .number
         ≡ firstRefusal (endedTest (outputOf r) ∷ feedTests (length M) (feedMakes P M (pieceBits piece)) piece log)
     feeds piece log (going g) = rw (g .output) (feed-number-is (g .stands) piece log)
-    feeds piece log (over g) = rw (g .output) (feed-number area piece log ∙ feed-ended (g .closed) piece log)
+    feeds piece log (over g) = rw (g .output) (feed-number area piece log ∙ feed-ended (g .ended) piece log)
 
     ends : {e : Bool} (out log : List ℕ) → Fits P (shares (answersOf r)) area e → endOf area out log .number
         ≡ firstRefusal (endedTest (outputOf r) ∷ endTests (P .d) (endMakes P M) out log)
     ends out log (going g) = rw (g .output) (end-number-is (g .stands) out log)
-    ends out log (over g) = rw (g .output) (end-number area out log ∙ end-ended (g .closed) out log)
+    ends out log (over g) = rw (g .output) (end-number area out log ∙ end-ended (g .ended) out log)
 
     previews : {e : Bool} (out : List ℕ) → Fits P (shares (answersOf r)) area e → previewOf area out .number
         ≡ firstRefusal (endedTest (outputOf r) ∷ outputTest (digestBytes (P .d)) out ∷ [])
     previews out (going g) = rw (g .output) (preview-number-is (g .stands) out)
-    previews out (over g) = rw (g .output) (preview-number area out ∙ preview-ended (g .closed) out)
+    previews out (over g) = rw (g .output) (preview-number area out ∙ preview-ended (g .ended) out)
 
     closes : {e : Bool} (figure log : List ℕ) → Fits P (shares (answersOf r)) area e → closeOf area figure log .number
         ≡ firstRefusal (endedTest (outputOf r) ∷ closeTests (endMakes P M) (digest P M) figure log)
     closes figure log (going g) = rw (g .output) (close-number-is (g .stands) figure log)
-    closes figure log (over g) = rw (g .output) (close-number area figure log ∙ close-ended (g .closed) figure log)
+    closes figure log (over g) = rw (g .output) (close-number area figure log ∙ close-ended (g .ended) figure log)
 
     tells : {e : Bool} (n : ℕ) → Fits P (shares (answersOf r)) area e
         → logWordsOf area n .number ≡ firstRefusal (endedTest (outputOf r) ∷ totalTest (length M) n ∷ [])
     tells n (going g) = rw (g .output) (logWords-number-is (g .stands) n)
-    tells n (over g) = rw (g .output) (logWords-number area n ∙ logWords-ended (g .closed) n)
+    tells n (over g) = rw (g .output) (logWords-number area n ∙ logWords-ended (g .ended) n)
 
     tellsCount : {e : Bool} (Y : List Bool) → Fits P (shares (answersOf r)) area e → logWordsOf area (length Y) .number ≡ 0
         → logWordsOf area (length Y) .count ≡ 2 * feedMakes P M Y
     tellsCount Y (going g) z = logWords-count-is (g .stands) Y z
-    tellsCount Y (over g) z = absurd (omega (arith, logWords-number area (length Y), logWords-ended (g .closed) (length Y)))
+    tellsCount Y (over g) z = absurd (omega (arith, logWords-number area (length Y), logWords-ended (g .ended) (length Y)))

@@ -1,3 +1,3 @@
-pub mod Shape
 pub mod CountLaws
+pub mod Shape
 pub mod ShapeLaws

@@ -7,14 +7,14 @@ use Rattle.tree.specs.Tree.{blockBits, sequentialBits, outputBits, blocks}
 use Rattle.tree.specs.Count.{levelNodes}
 
 -- how many of m things a node takes that stands at an index and takes so many at most
-abbrev pub held : ℕ → ℕ → ℕ → ℕ
-held size m index = min size (m - size * index)
+abbrev pub taken : ℕ → ℕ → ℕ → ℕ
+taken size m index = min size (m - size * index)
 
 -- the padding bits in the block of the node at a parallel level and an index, for a message of so many bits
 unfoldable pub blockPadding : ℕ → ℕ → ℕ → ℕ
 blockPadding m zero index = 0
-blockPadding m (suc zero) index = blockBits - held blockBits m index
-blockPadding m (suc (suc level)) index = outputBits * (4 - held 4 (levelNodes m (suc level)) index)
+blockPadding m (suc zero) index = blockBits - taken blockBits m index
+blockPadding m (suc (suc level)) index = outputBits * (4 - taken 4 (levelNodes m (suc level)) index)
 
 -- ---- the sequential level, above so many parallel ones
 
@@ -24,8 +24,8 @@ sequentialNodes (suc level) m = blocks sequentialBits (outputBits * levelNodes m
 
 -- the padding bits of the node at an index
 unfoldable pub sequentialPadding : ℕ → ℕ → ℕ → ℕ
-sequentialPadding zero m index = sequentialBits - held sequentialBits m index
-sequentialPadding (suc level) m index = outputBits * (3 - held 3 (levelNodes m (suc level)) index)
+sequentialPadding zero m index = sequentialBits - taken sequentialBits m index
+sequentialPadding (suc level) m index = outputBits * (3 - taken 3 (levelNodes m (suc level)) index)
 
 -- ---- the whole tree
 

@@ -7,7 +7,7 @@ use native.Mathlib.Omega.{arith}
 use borrow.Author.Tests.{eq-eqb, ne-eqb, eqb-true, eqb-false}
 use lib.Dec.{eqb}
 use Rattle.tree.specs.Tree.{blocks, blockBits, sequentialBits, outputBits, mostLevels}
-use Rattle.shape.specs.Shape.{held, blockPadding, sequentialNodes, sequentialPadding, topFrom, topLevel}
+use Rattle.shape.specs.Shape.{taken, blockPadding, sequentialNodes, sequentialPadding, topFrom, topLevel}
 use Rattle.tree.specs.Count.{levelNodes, fourth, levelNodes-one, levelNodes-suc, levelNodes-some}
 
 pub levelNodes-more : (m level : ℕ) → 0 < level → levelNodes m (level + 1) ≡ blocks 4 (levelNodes m level)
@@ -73,22 +73,22 @@ sequential-index (suc l) bits index b i = omega (arith, levelNodes-le bits l b)
 
 -- ---- padding bits
 
-pub padding-leaf : (bits level index : ℕ) → level ≡ 1 → blockBits - held blockBits bits index ≡ blockPadding bits level index
+pub padding-leaf : (bits level index : ℕ) → level ≡ 1 → blockBits - taken blockBits bits index ≡ blockPadding bits level index
 unfolding blockPadding
 padding-leaf bits level index e = rw e
 
 pub padding-above : (bits level index : ℕ) → 1 < level
-    → outputBits * (4 - held 4 (levelNodes bits (level - 1)) index) ≡ blockPadding bits level index
+    → outputBits * (4 - taken 4 (levelNodes bits (level - 1)) index) ≡ blockPadding bits level index
 unfolding blockPadding
 padding-above bits zero index h = absurd (omega arith)
 padding-above bits (suc zero) index h = absurd (omega arith)
 padding-above bits (suc (suc l)) index h = let e : suc (suc l) - 1 ≡ suc l = omega arith in rw e
 
-pub padding-message : (limit bits index : ℕ) → limit ≡ 0 → sequentialBits - held sequentialBits bits index ≡ sequentialPadding limit bits index
+pub padding-message : (limit bits index : ℕ) → limit ≡ 0 → sequentialBits - taken sequentialBits bits index ≡ sequentialPadding limit bits index
 unfolding sequentialPadding
 padding-message limit bits index e = rw e
 
-pub padding-children : (limit bits index : ℕ) → (limit ≡ 0 → ⊥) → outputBits * (3 - held 3 (levelNodes bits limit) index) ≡ sequentialPadding limit bits index
+pub padding-children : (limit bits index : ℕ) → (limit ≡ 0 → ⊥) → outputBits * (3 - taken 3 (levelNodes bits limit) index) ≡ sequentialPadding limit bits index
 unfolding sequentialPadding
 padding-children zero bits index h = absurd (h refl)
 padding-children (suc l) bits index h = refl

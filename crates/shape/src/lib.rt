@@ -4,10 +4,10 @@ ghost use mathlib.Core.Path.{_≡_};
 ghost use Prim.Native.Nat.{suc, _+_, _-_, _*_, _≤_, _<_};
 ghost use lib.Dec.{eqb};
 ghost use Rattle.bits.specs.Bits.{digit};
-ghost use Rattle.tree.specs.Tree.{blocks};
+ghost use Rattle.tree.specs.Tree.{blocks, mostLimit};
 ghost use Rattle.tree.specs.Sizes.{treeNodes};
 ghost use Rattle.tree.specs.Count.{levelNodes};
-ghost use Rattle.shape.specs.Shape.{held, blockPadding, sequentialNodes, sequentialPadding, topLevel};
+ghost use Rattle.shape.specs.Shape.{taken, blockPadding, sequentialNodes, sequentialPadding, topLevel};
 use node::Block;
 use refusals::Params;
 
@@ -25,7 +25,7 @@ pub fn blocks_of(size: u64, m: u64) -> u64
 // How many of m things the node at an index takes, of so many that it has room for.
 pub fn taken(size: u64, m: u64, index: u64) -> u64
     requires { ⌜ size * index ≤ m ⌝ }
-    ensures { λ r. ⌜ r ≡ held size m index ⌝ }
+    ensures { λ r. ⌜ r ≡ taken size m index ⌝ }
 {
     let rest = m - size * index;
     if rest < size {
@@ -36,7 +36,7 @@ pub fn taken(size: u64, m: u64, index: u64) -> u64
 
 // The nodes of a tree, level by level.
 pub fn tree_nodes(limit: u64, bits: u64) -> u64
-    requires { ⌜ limit ≤ 64 ⌝ }
+    requires { ⌜ limit ≤ mostLimit ⌝ }
     ensures { λ r. ⌜ r ≡ treeNodes limit bits ⌝ }
 {
     if limit == 0 {
@@ -85,7 +85,7 @@ pub fn sequential_nodes(limit: u64, bits: u64) -> u64
 
 // The root's level: the first of one node, or the sequential one above the limit. No tree has more levels than 27.
 pub fn top_level(limit: u64, bits: u64) -> u64
-    requires { ⌜ limit ≤ 64 ⌝ }
+    requires { ⌜ limit ≤ mostLimit ⌝ }
     ensures { λ r. do ⌜ (r ≡ topLevel limit bits) × (r ≤ (← ⟦Params::LEVELS⟧ .entry)) ⌝ }
 {
     let mut level: u64 = 1;

@@ -1,14 +1,16 @@
 -- Laws: of `shown` and `levelOf` in Calls, one for each way that the code takes.
-use mathlib.Core.Path.{_≡_}
-use mathlib.Core.Bool.{true, false, _&&_}
+use mathlib.Core.Path.{_≡_, refl, _∙_}
+use mathlib.Core.Bool.{Bool, true, false, _&&_}
 use mathlib.Core.List.{List, []}
 use Prim.Native.Nat.{ℕ, _≤_, _<_}
-use lib.Dec.{leb}
+use lib.Dec.{ltb, leb}
 use lib.ListN.{length}
-use borrow.Author.Tests.{lt-leb, le-leb, leb-true}
+use borrow.Author.Tests.{ltb-true, ltb-false, lt-leb, le-leb, leb-true}
 use Rattle.lists.specs.And.{and-parts}
+use Rattle.refusals.specs.Refusals.{firstRefusal}
 use Rattle.calls.specs.Area.{ownLevels, ownWords, levelWords, sound, Long}
-use Rattle.calls.specs.Calls.{shown, levelOf}
+use Rattle.calls.specs.Calls.{areaTests, shown, levelOf}
+use Rattle.area.specs.SoundLaws.{LongSound}
 
 -- a level of an area
 pub record There (area : List ℕ) (level : ℕ) : Type 0 where
@@ -17,21 +19,23 @@ pub record There (area : List ℕ) (level : ℕ) : Type 0 where
   pub high : level ≤ ownLevels area
 
 module _ (area : List ℕ) (level : ℕ) where
-  pub shown-short : length area < ownWords area → false ≡ shown area level
+  -- nothing of an area that number 7 refuses
+  pub shown-refused : {n : ℕ} → n ≡ firstRefusal (areaTests area) → (n ≡ 0 → ⊥) → false ≡ shown area level
   unfolding shown
-  shown-short h = rw (lt-leb (ownWords area) (length area) h)
+  shown-refused e h = by (ltb (length area) (ownWords area)) (sound area) refl refl
+    where
+      by : (short s : Bool) → ltb (length area) (ownWords area) ≡ short → sound area ≡ s → false ≡ shown area level
+      by true s f g = rw (lt-leb (ownWords area) (length area) (ltb-true _ _ f))
+      by false false f g = rw (le-leb (ownWords area) (length area) (ltb-false _ _ f), g)
+      by false true f g = absurd (h (e ∙ rw (f, g) refl))
 
-  pub shown-unsound : Long area → sound area ≡ false → false ≡ shown area level
+  pub shown-low : LongSound area → level < 1 → false ≡ shown area level
   unfolding shown
-  shown-unsound h s = rw (le-leb (ownWords area) (length area) h, s)
+  shown-low s l = rw (le-leb (ownWords area) (length area) (s .long), s .is-sound, lt-leb 1 level l)
 
-  pub shown-low : Long area → sound area ≡ true → level < 1 → false ≡ shown area level
+  pub shown-high : LongSound area → 1 ≤ level → leb level (ownLevels area) ≡ shown area level
   unfolding shown
-  shown-low h s l = rw (le-leb (ownWords area) (length area) h, s, lt-leb 1 level l)
-
-  pub shown-high : Long area → sound area ≡ true → 1 ≤ level → leb level (ownLevels area) ≡ shown area level
-  unfolding shown
-  shown-high h s l = rw (le-leb (ownWords area) (length area) h, s, le-leb 1 level l)
+  shown-high s l = rw (le-leb (ownWords area) (length area) (s .long), s .is-sound, le-leb 1 level l)
 
   -- what is shown is there
   pub shown-there : shown area level ≡ true → There area level

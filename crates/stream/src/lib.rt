@@ -4,6 +4,7 @@ ghost use mathlib.Core.Path.{_≡_};
 ghost use mathlib.Core.Bool.{true};
 ghost use Prim.Native.Nat.{_≤_, _+_, _*_};
 ghost use lib.ListN.{length};
+ghost use Rattle.tree.specs.Tree.{mostKeyBytes};
 ghost use Rattle.calls.specs.Area.{areaWords, levelStart};
 ghost use Rattle.calls.specs.Calls.{openedArea, openOf, feedOf, shown, levelOf, areaWordsOf, logWordsOf};
 use area::Area;
@@ -16,8 +17,9 @@ use refusals::Params;
 
 // Writes the words of an open area with no bits.
 fn write_open(area: &mut [u64], key: &[u8], d: u64, limit: u64, rounds: u64)
-    requires { ⌜ (areaWords limit ≤ length (now area)) × (length (now key) ≤ 64) ⌝ }
-    ensures { λ _. ⌜ now (area .exit) ≡ openedArea (now (area .entry)) (record { key = now (key .entry); d = d; limit = limit; rounds = rounds }) ⌝ }
+    requires { ⌜ (areaWords limit ≤ length (now area)) × (length (now key) ≤ mostKeyBytes) ⌝ }
+    ensures { λ _. ⌜ now (area .exit)
+        ≡ openedArea (now (area .entry)) (record { key = now (key .entry); d = d; limit = limit; rounds = rounds }) ⌝ }
 {
     let e = Area::words(limit);
     area[Area::PHASE] = 1;
@@ -39,11 +41,13 @@ fn write_open(area: &mut [u64], key: &[u8], d: u64, limit: u64, rounds: u64)
 
 // Opens a stream in an area, whatever it held.
 pub fn open(area: &mut [u64], key: &[u8], d: u64, limit: u64, rounds: u64) -> Answer
-    ensures { λ o. ⌜ record { number = o .number; count = o .count; area = now (area .exit) } ≡ openOf (now (area .entry)) (record { key = now (key .entry); d = d; limit = limit; rounds = rounds }) ⌝ }
+    ensures { λ o. ⌜ record { number = o .number; count = o .count; area = now (area .exit) }
+        ≡ openOf (now (area .entry)) (record { key = now (key .entry); d = d; limit = limit; rounds = rounds }) ⌝ }
 {
     let range = refusals::params_number(Params::new(key.len() as u64, d, limit, rounds));
+    let unfit = 0 < range;
     let few = area.len() < Area::words(limit);
-    let number = numbers::opening_number(range, few);
+    let number = refusals::first_of_two(unfit, range, few, 7);
     if number != 0 {
         return Answer::refused(number);
     }
@@ -55,10 +59,7 @@ pub fn open(area: &mut [u64], key: &[u8], d: u64, limit: u64, rounds: u64) -> An
 fn is_shown(area: &[u64], level: u64) -> bool
     ensures { λ r. ⌜ r ≡ shown (now (area .entry)) level ⌝ }
 {
-    if area::is_short(area) {
-        return false;
-    }
-    if !area::is_sound(area) {
+    if area::sound_number(area) != 0 {
         return false;
     }
     if level < 1 {
@@ -71,7 +72,8 @@ fn is_shown(area: &[u64], level: u64) -> bool
 // is told by what it holds, and by its address: the lent allocation, and a place in it in bytes, 8 a word.
 pub fn level(area: &[u64], level: u64) -> &[u64]
     ensures { λ r. ⌜ now r ≡ levelOf (now (area .entry)) level ⌝ }
-    ensures { λ r. ⌜ (r .ptr .0 ≡ area .entry .ptr .0) × (shown (now (area .entry)) level ≡ true → r .ptr .1 ≡ levelStart level * 8 + area .entry .ptr .1) ⌝ }
+    ensures { λ r. ⌜ (r .ptr .0 ≡ area .entry .ptr .0)
+        × (shown (now (area .entry)) level ≡ true → r .ptr .1 ≡ levelStart level * 8 + area .entry .ptr .1) ⌝ }
 {
     if !is_shown(area, level) {
         return &area[0..0];
@@ -81,7 +83,8 @@ pub fn level(area: &[u64], level: u64) -> &[u64]
 
 // Feeds a piece: `bits` bits of its bytes, from bit `start` of the first byte on. Logs U and V of each node that is made.
 pub fn feed(area: &mut [u64], piece: &[u8], start: u64, bits: u64, log: &mut [u64]) -> Answer
-    ensures { λ o. ⌜ record { number = o .number; count = o .count; area = now (area .exit); log = now (log .exit) } ≡ feedOf (now (area .entry)) (record { bytes = now (piece .entry); start = start; count = bits }) (now (log .entry)) ⌝ }
+    ensures { λ o. ⌜ record { number = o .number; count = o .count; area = now (area .exit); log = now (log .exit) }
+        ≡ feedOf (now (area .entry)) (record { bytes = now (piece .entry); start = start; count = bits }) (now (log .entry)) ⌝ }
 {
     let span = Span { start, bits };
     let number = numbers::feed_number(area, piece, span, log);

@@ -3,16 +3,20 @@ use mathlib.Core.Path.{_≡_, refl, sym, ap, _∙_}
 use mathlib.Core.Bool.{Bool, true, false, not, cond}
 use mathlib.Core.List.{List, [], _∷_, _++_}
 use mathlib.Core.Option.{some}
-use Prim.Native.Nat.{ℕ, _+_, _-_, _≤_}
+use Prim.Native.Nat.{ℕ, _+_, _-_, _≤_, _<_}
 use native.Mathlib.Omega.{arith}
+use borrow.Author.Tests.{lt-ltb, le-ltb}
 use borrow.Rule.Slice.PartMut.{putMid}
 use lib.Dec.{ltb}
 use lib.ListN.{length, take, drop, getD}
 use lib.Seq.{paste, take-all, length-take-le}
-use Rattle.refusals.specs.Refusals.{firstRefusal}
-use Rattle.calls.specs.Area.{areaWords, ownWords, sound, Long}
+use Rattle.refusals.specs.Refusals.{firstRefusal, outputTest}
+use Rattle.refusals.specs.RefusalLaws.{first-part}
+use Rattle.calls.specs.Area.{areaWords, ownWords}
+use Rattle.calls.specs.Calls.{areaTests}
+use Rattle.area.specs.SoundLaws.{LongSound}
 use Rattle.calls.specs.AreaLaws.{limit-word}
-use Rattle.texts.specs.Text.{textOf, readArea, readable, areaIn, Written, writeOf, Taken, readNumber, readOf}
+use Rattle.texts.specs.Text.{textOf, readArea, readable, areaIn, Written, writeNumber, writeOf, Taken, readNumber, readOf}
 use Rattle.texts.specs.LayoutLaws.{own-front}
 use Rattle.texts.specs.ReadLaws.{number-by, read-passed, read-accepted, write-accepted}
 
@@ -22,14 +26,24 @@ written number count text = record { number = number; count = count; text = text
 abbrev taken : List ℕ → Taken
 taken area = record { number = 0; count = 0; area = area }
 
-pub write-done : (area out : List ℕ) (n : ℕ) (ys : List ℕ) → Long area → sound area ≡ true → n ≡ length (textOf area)
+-- an area that is short or unsound, and an output that is short
+pub write-unsound : {n : ℕ} (area out : List ℕ) → n ≡ firstRefusal (areaTests area) → (n ≡ 0 → ⊥) → n ≡ writeNumber area out
+unfolding writeNumber
+write-unsound area out e h = e ∙ first-part (areaTests area) (outputTest (length (textOf area)) out ∷ []) (λ z. h (e ∙ z))
+
+pub write-output : (area out : List ℕ) → LongSound area → length out < length (textOf area) → 9 ≡ writeNumber area out
+unfolding writeNumber
+write-output area out s h =
+    rw (le-ltb (length area) (ownWords area) (s .long), s .is-sound, lt-ltb (length out) (length (textOf area)) h)
+
+pub write-done : (area out : List ℕ) (n : ℕ) (ys : List ℕ) → LongSound area → n ≡ length (textOf area)
     → n ≤ length out → ys ≡ textOf area → record { number = 0; count = n; text = putMid 0 (n - 0) out ys } ≡ writeOf area out
-write-done area out n ys h s size l y =
+write-done area out n ys s size l y =
     let k : n - 0 ≡ n = omega arith in
     ap (λ (m : ℕ). written 0 n (putMid 0 m out ys)) k
     ∙ ap (λ (x : List ℕ). written 0 n (x ++ drop n out)) y
     ∙ ap (λ (m : ℕ). written 0 m (textOf area ++ drop m out)) size
-    ∙ sym (write-accepted area out h s (omega (arith, size)))
+    ∙ sym (write-accepted area out (s .long) (s .is-sound) (omega (arith, size)))
 
 -- r says whether a text is read; if it is, the words s begin with the area that it spells, as many as n
 pub record Tried (text s : List ℕ) (n : ℕ) (r : Bool) : Type 0 where

@@ -6,17 +6,16 @@ use mathlib.Core.Option.{Option, none, some, Option·getD}
 use Prim.Native.Nat.{ℕ, zero, suc, _+_, _-_, _*_, _≤_, _<_}
 use native.Mathlib.Omega.{arith}
 use borrow.Rule.Slice.PartMut.{midOf, putMid, mid-len}
-use lib.ListN.{length, take, drop, getD, set, replicate}
+use lib.ListN.{length, take, drop, set, replicate}
 use lib.Seq.{drop-cons, take-take, drop-drop}
 use Rattle.lists.specs.Append.{cons-eq}
 use Rattle.lists.specs.Part.{put}
 use Rattle.lists.specs.Take.{drop-take}
-use Rattle.calls.specs.Area.{headWords, ownLevels, Long}
+use Rattle.calls.specs.Area.{headWords, blockWords, ownLevels, Long, levelStart}
 use Rattle.digits.specs.Digits.{spelt, speltWords, allSpelt}
 use native.Mathlib.Numerals.{add-one}
 use Rattle.texts.specs.Text.{Field, fieldOf, digitsOf, line1Fields, line1Bytes, withSpelt, speltFields, speltHead}
-use Rattle.texts.specs.FieldLaws.{fieldWords, fieldSizes}
-use Rattle.writing.specs.FieldAt.{n-is, w-is}
+use Rattle.writing.specs.FieldAt.{fieldAt, sizeAt, wordAt, size-is, word-is}
 use Rattle.text.specs.Spelling.{values, levelSpelt, LevelSpelt}
 
 -- ---- words from digits
@@ -37,10 +36,10 @@ module _ (r : Bool) (ys : List ℕ) (xs : List (Option ℕ)) (h : cond r (some y
   told-no e = sym h ∙ ap (λ (b : Bool). cond b (some ys) none) e
 
 pub level-spelt : (area line ys : List ℕ) (level : ℕ) (r : Bool) → Long area → level ≤ ownLevels area
-    → cond r (some ys) none ≡ allSpelt (speltWords (length (midOf (16 + 64 * (level - 1)) (16 + 64 * (level - 1) + 64 - (16 + 64 * (level - 1))) area)) (take 1024 (drop 2 line)))
-    → LevelSpelt r level line area (putMid (16 + 64 * (level - 1)) (16 + 64 * (level - 1) + 64 - (16 + 64 * (level - 1))) area ys)
+    → cond r (some ys) none ≡ allSpelt (speltWords (length (midOf (levelStart level) (levelStart level + blockWords - levelStart level) area)) (take 1024 (drop 2 line)))
+    → LevelSpelt r level line area (putMid (levelStart level) (levelStart level + blockWords - levelStart level) area ys)
 level-spelt area line ys level r h g e =
-    let a : ℕ = 16 + 64 * (level - 1) in
+    let a : ℕ = levelStart level in
     let n : a + 64 - a ≡ 64 = omega arith in
     let m : length (midOf a (a + 64 - a) area) ≡ 64 = mid-len a (a + 64) area (omega arith) ∙ n in
     let x : speltWords (length (midOf a (a + 64 - a) area)) (take 1024 (drop 2 line)) ≡ levelSpelt line =
@@ -57,18 +56,15 @@ level-spelt area line ys level r h g e =
 -- ---- field i of line 1: its n digits, from a on, are read or refused
 
 module _ (fs : List Field) (i : ℕ) (h : i < length fs) (text ws : List ℕ) (a : ℕ) where
-  abbrev f : Field
-  f = getD fs i (fieldOf 0 0)
-
   abbrev n : ℕ
-  n = getD (fieldSizes fs) i 0
+  n = sizeAt fs i
 
-  lent : spelt 0 (take (a + n - a) (drop a text)) ≡ spelt 0 (take (digitsOf f) (drop a text))
-  lent = let e : a + n - a ≡ digitsOf f = omega (arith, n-is fs i h) in rw e
+  lent : spelt 0 (take (a + n - a) (drop a text)) ≡ spelt 0 (take (digitsOf (fieldAt fs i)) (drop a text))
+  lent = let e : a + n - a ≡ digitsOf (fieldAt fs i) = omega (arith, size-is fs i h) in rw e
 
   pub field-read : (x : ℕ) → spelt 0 (take (a + n - a) (drop a text)) ≡ some x
-      → speltFields (drop i fs) (drop a text) ws ≡ speltFields (drop (i + 1) fs) (drop (a + n) text) (set ws (getD (fieldWords fs) i 0) x)
-  field-read x e = rw (add-one i, drop-cons fs i (fieldOf 0 0) h, sym lent ∙ e, w-is fs i h, ← n-is fs i h, drop-drop n a text)
+      → speltFields (drop i fs) (drop a text) ws ≡ speltFields (drop (i + 1) fs) (drop (a + n) text) (set ws (wordAt fs i) x)
+  field-read x e = rw (add-one i, drop-cons fs i (fieldOf 0 0) h, sym lent ∙ e, word-is fs i h, ← size-is fs i h, drop-drop n a text)
 
   pub field-refused : spelt 0 (take (a + n - a) (drop a text)) ≡ none → speltFields (drop i fs) (drop a text) ws ≡ none
   field-refused e = rw (drop-cons fs i (fieldOf 0 0) h, sym lent ∙ e)

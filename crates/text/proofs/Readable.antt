@@ -52,26 +52,31 @@ short-text w m b size text area h =
 
 -- ---- after the head, whose words are ys, in words that are zero otherwise
 
--- the first two lines have m bytes
-module _ (w m : ℕ) (small : w ≤ roundsBytes) (size : m ≡ headBytes w) (text ys : List ℕ) (r : Bool) {area : List ℕ} (z : area ≡ replicate (areaWords mostLimit) 0)
-    (s : cond r (some ys) none ≡ speltHead (line1Fields w) text) where
+-- the first two lines have m bytes, and r says whether they spell the words ys
+pub record HeadRead (w m : ℕ) (text ys area : List ℕ) (r : Bool) : Type 0 where
+  pub small : w ≤ roundsBytes
+  pub size : m ≡ headBytes w
+  pub zeros : area ≡ replicate (areaWords mostLimit) 0
+  pub told : cond r (some ys) none ≡ speltHead (line1Fields w) text
+
+module _ {w m : ℕ} {text ys area : List ℕ} {r : Bool} (h : HeadRead w m text ys area r) where
   abbrev s1 : List ℕ
   s1 = putMid 0 headWords area ys
 
   pub head-refused : r ≡ false → Spelt w false text s1
   unfolding speltArea
-  head-refused e = refused w text s1 (no-digits w text (rw (← s, e)))
+  head-refused e = refused w text s1 (no-digits w text (rw (← h .told, e)))
 
   module _ (e : r ≡ true) where
     head-known : speltHead (line1Fields w) text ≡ some ys
-    head-known = sym s ∙ ap (λ (b : Bool). cond b (some ys) none) e
+    head-known = sym (h .told) ∙ ap (λ (b : Bool). cond b (some ys) none) e
 
     head-length : length ys ≡ headWords
-    head-length = length-speltHead w small text ys head-known
+    head-length = length-speltHead w (h .small) text ys head-known
 
     s1-is : s1 ≡ ys ++ zeroLevels mostLevels
     unfolding zeroLevels
-    s1-is = ap (λ (l : List ℕ). ys ++ drop headWords l) z
+    s1-is = ap (λ (l : List ℕ). ys ++ drop headWords l) (h .zeros)
 
     front : take headWords s1 ≡ ys
     front = take-at ys (drop headWords area) headWords head-length
@@ -91,31 +96,31 @@ module _ (w m : ℕ) (small : w ≤ roundsBytes) (size : m ≡ headBytes w) (tex
     same-held x f = sym (held-front x) ∙ ap heldOf (f ∙ sym front) ∙ held-front s1
 
     as-long : (x : List ℕ) → take headWords x ≡ ys → Long x → length (textWith w s1) ≡ length (textWith w x)
-    as-long x f h =
-        text-length w s1 head-long ∙ ap (λ (hs : List Bool). headBytes w + levelBytes * lines hs) (sym (same-held x f)) ∙ sym (text-length w x h)
+    as-long x f l =
+        text-length w s1 head-long ∙ ap (λ (hs : List Bool). headBytes w + levelBytes * lines hs) (sym (same-held x f)) ∙ sym (text-length w x l)
 
     -- which the area that is spelt has
     spelt-front : (x : List ℕ) → speltArea w text ≡ some x → take headWords x ≡ ys
     spelt-front x f =
         let k = headed w text x f in
-        headed-front w small text x k ∙ sym (Option·some-injective ys (k .head) (sym head-known ∙ k .spelt))
+        headed-front w (h .small) text x k ∙ sym (Option·some-injective ys (k .head) (sym head-known ∙ k .spelt))
 
     spelt-long : (x : List ℕ) → speltArea w text ≡ some x → Long x
-    spelt-long x f = omega (arith, length-speltArea w small text x f)
+    spelt-long x f = omega (arith, length-speltArea w (h .small) text x f)
 
     pub wrong-length : (n : ℕ) → n ≡ length (textWith w s1) → (length text ≡ n → ⊥) → Spelt w false text s1
-    wrong-length n f h = refused w text s1 (other-length w text (λ x q g. h (g ∙ sym (f ∙ as-long x (spelt-front x q) (spelt-long x q)))))
+    wrong-length n f other = refused w text s1 (other-length w text (λ x q g. other (g ∙ sym (f ∙ as-long x (spelt-front x q) (spelt-long x q)))))
 
     -- ---- the length of the text is right: the levels, in the words that L gives
 
     rest-is : take (length text - m) (drop m text) ≡ drop (headBytes w) text
-    rest-is = take-all (length text - m) (drop m text) (rw length-drop (omega arith)) ∙ ap (λ (k : ℕ). drop k text) size
+    rest-is = take-all (length text - m) (drop m text) (rw length-drop (omega arith)) ∙ ap (λ (k : ℕ). drop k text) (h .size)
 
     -- the words that L gives are k
     pub own-room : (k : ℕ) → k ≡ areaWords (getD s1 4 0) → k ≤ length s1
     own-room k e = omega (arith, head-long, limit-word s1)
 
-    module _ (n k : ℕ) (enough : k ≡ areaWords (getD s1 4 0)) (f : n ≡ length (textWith w s1)) (h : length text ≡ n) where
+    module _ (n k : ℕ) (enough : k ≡ areaWords (getD s1 4 0)) (f : n ≡ length (textWith w s1)) (l : length text ≡ n) where
       own : k - 0 ≡ ownWords s1
       own = omega (arith, limit-word s1)
 
@@ -144,8 +149,8 @@ module _ (w m : ℕ) (small : w ≤ roundsBytes) (size : m ≡ headBytes w) (tex
       pub levels-ready : (length part ≡ ownWords part) × (drop headWords part ≡ zeroLevels (ownLevels part))
           × (length (take (length text - m) (drop m text)) ≡ length (linesAbove part 0))
       levels-ready =
-          let l : length part ≡ ownWords part = omega (arith, part-length, part-limit) in (
-            l,
+          let s : length part ≡ ownWords part = omega (arith, part-length, part-limit) in (
+            s,
             part-empty,
             ap length rest-is ∙ rw length-drop (omega (arith, length-text w part (omega arith), as-long part part-front (omega arith))),
           )
@@ -157,7 +162,7 @@ module _ (w m : ℕ) (small : w ≤ roundsBytes) (size : m ≡ headBytes w) (tex
 
         module _ (a : speltArea w text ≡ some s2) where
           s2-length : length s2 ≡ ownWords s1
-          s2-length = omega (arith, length-speltArea w small text s2 a, same-limit s2 (spelt-front s2 a))
+          s2-length = omega (arith, length-speltArea w (h .small) text s2 a, same-limit s2 (spelt-front s2 a))
 
           to-front : take headWords to ≡ ys
           to-front = take-append-le headWords s2 (drop (k - 0) s1) (omega (arith, s2-length)) ∙ spelt-front s2 a
@@ -179,7 +184,7 @@ module _ (w m : ℕ) (small : w ≤ roundsBytes) (size : m ≡ headBytes w) (tex
             let d : speltArea w text ≡ cond q (some s2) none = rw (head-known, ← part-front, held-front part, ← rest-is) (sym g) in
             let told : (b : Bool) → q ≡ b → speltArea w text ≡ cond b (some s2) none = λ b t. d ∙ ap (λ (b : Bool). cond b (some s2) none) t in
             record {
-              yes = λ t. let a = told true t in (to-is a, h ∙ f ∙ as-long to (to-front a) (to-long a));
+              yes = λ t. let a = told true t in (to-is a, l ∙ f ∙ as-long to (to-front a) (to-long a));
               no = λ t. no-digits w text (told false t);
             }
 
@@ -188,24 +193,29 @@ module _ (w m : ℕ) (small : w ≤ roundsBytes) (size : m ≡ headBytes w) (tex
 abbrev Answered : Bool → List ℕ → List ℕ → Type 0
 Answered q text area = (q ≡ readable text) × (q ≡ true → readArea text ≡ some (take (ownWords area) area))
 
-module _ (w : ℕ) (text area : List ℕ) (r : Bool) (form : w ≡ formOf text) (s : Spelt w r text area) where
-  answered : (q : Bool) → q ≡ readableWith w text → (q ≡ true → speltArea w text ≡ some (take (ownWords area) area)) → Answered q text area
-  answered q e a =
+module _ (w : ℕ) (text area : List ℕ) where
+  answered : w ≡ formOf text → (q : Bool) → q ≡ readableWith w text → (q ≡ true → speltArea w text ≡ some (take (ownWords area) area)) → Answered q text area
+  answered form q e a =
       let o = one-form text in
       let y : q ≡ readable text = e ∙ ap (λ (v : ℕ). readableWith v text) form ∙ sym (o .readable-by) in
       (y, λ t. o .area-by (sym y ∙ t) ∙ ap (λ (v : ℕ). speltArea v text) (sym form) ∙ a t)
 
-  pub not-spelt : r ≡ false → Answered false text area
-  not-spelt e = answered false (sym (s .no e)) (λ f. absurd-bool f)
+  pub not-spelt : {r : Bool} → w ≡ formOf text → Spelt w r text area → r ≡ false → Answered false text area
+  not-spelt form s e = answered form false (sym (s .no e)) (λ f. absurd-bool f)
 
   -- the area that is spelt stands in front, and is sound and has its text as all the words do
-  module _ (e : r ≡ true) (long : Long area) where
+  pub record SpeltFront : Type 0 where
+    pub form : w ≡ formOf text
+    pub spelt : speltArea w text ≡ some (take (ownWords area) area)
+    pub long : Long area
+
+  module _ (k : SpeltFront) where
     tests : readableWith w text ≡ (sound area && same (textWith w area) text)
     unfolding readableWith
-    tests = rw (s .yes e .0, sound-front area long, text-front w area long)
+    tests = rw (k .spelt, sound-front area (k .long), text-front w area (k .long))
 
-    pub other-text : (b : Bool) → b ≡ same (textWith w area) text → b ≡ false → Answered false text area
-    other-text b f g = answered false (sym (tests ∙ rw (← f, g) (and-false (sound area)))) (λ z. absurd-bool z)
+    pub other-text : {b : Bool} → b ≡ same (textWith w area) text → b ≡ false → Answered false text area
+    other-text f g = answered (k .form) false (sym (tests ∙ rw (← f, g) (and-false (sound area)))) (λ z. absurd-bool z)
 
-    pub decided : (q b : Bool) → q ≡ sound area → b ≡ same (textWith w area) text → b ≡ true → Answered q text area
-    decided q b f d g = answered q (f ∙ sym (tests ∙ rw (← d, g) (and-true (sound area)))) (λ z. s .yes e .0)
+    pub decided : {q b : Bool} → q ≡ sound area → b ≡ same (textWith w area) text → b ≡ true → Answered q text area
+    decided {q} f d g = answered (k .form) q (f ∙ sym (tests ∙ rw (← d, g) (and-true (sound area)))) (λ z. k .spelt)

@@ -71,7 +71,7 @@ spelling-none area text l z n =
     let e : ownLevels area - 0 ≡ ownLevels area = omega arith in
     record { few = omega arith; size = omega arith; long = l; head = refl; empty = rw e z; is = refl }
 
-module _ (area₀ text area : List ℕ) (at k : ℕ) (s : Spelling area₀ text area at k) (h : k < ownLevels area₀) where
+module _ {area₀ text area : List ℕ} {at k : ℕ} (s : Spelling area₀ text area at k) (h : k < ownLevels area₀) where
   -- L stands in the head
   pub spelling-own : paramsOf area .limit ≡ paramsOf area₀ .limit
   spelling-own = sym (limit-front area) ∙ ap (λ (l : List ℕ). paramsOf l .limit) (s .head) ∙ limit-front area₀
@@ -172,9 +172,9 @@ module _ (area₀ text area : List ℕ) (at k : ℕ) (s : Spelling area₀ text 
         sym (ap allSpelt (sym (s .is) ∙ ap (λ (z : List (Option ℕ)). map some (take (before k) area) ++ z) above-is)
         ∙ all-part (map some (take (before k) area)) (levelSpelt (drop at text)) (speltAbove (heldOf area₀) text (at + levelBytes) (k + 1)) (rw line-is at (y .no q)))
 
-pub spelling-all : (area₀ text area : List ℕ) (at k : ℕ) → Spelling area₀ text area at k → ownLevels area₀ ≤ k
+pub spelling-all : {area₀ text area : List ℕ} {at k : ℕ} → Spelling area₀ text area at k → ownLevels area₀ ≤ k
     → some area ≡ allSpelt (map some (take headWords area₀) ++ speltLevels (heldOf area₀) text)
-spelling-all area₀ text area at k s h =
+spelling-all {area₀} {text} {area} {at} {k} s h =
     let e = above-end (heldOf area₀) text at k (omega (arith, length-held area₀)) in
     let t : map some (take (before k) area) ++ speltAbove (heldOf area₀) text at k ≡ map some area =
     ap (λ (x : List (Option ℕ)). map some (take (before k) area) ++ x) e ∙ append-nil (map some (take (before k) area))

@@ -3,10 +3,10 @@ use mathlib.Core.Path.{_≡_}
 use mathlib.Core.Bool.{Bool, true, false}
 use mathlib.Core.List.{List, []}
 use mathlib.Core.Option.{Option, none, some, Option·getD}
-use Prim.Native.Nat.{ℕ, _+_, _-_, _*_}
+use Prim.Native.Nat.{ℕ, _*_}
 use lib.ListN.{length, take, drop, replicate}
 use Rattle.lists.specs.Part.{put}
-use Rattle.calls.specs.Area.{headWords, blockWords, ownWords}
+use Rattle.calls.specs.Area.{blockWords, ownWords, levelStart}
 use Rattle.digits.specs.Digits.{speltWords, allSpelt}
 use Rattle.texts.specs.Text.{textWith, speltArea, readableWith}
 
@@ -24,7 +24,7 @@ levelSpelt line = speltWords blockWords (drop 2 line)
 
 -- whether a line spells a level's words; if so, the area on exit, last, is the area on entry with these words in the level's place
 pub record LevelSpelt (r : Bool) (level : ℕ) (line area last : List ℕ) : Type 0 where
-  pub yes : r ≡ true → (allSpelt (levelSpelt line) ≡ some (values (levelSpelt line))) × (last ≡ put (headWords + blockWords * (level - 1)) blockWords area (values (levelSpelt line)))
+  pub yes : r ≡ true → (allSpelt (levelSpelt line) ≡ some (values (levelSpelt line))) × (last ≡ put (levelStart level) blockWords area (values (levelSpelt line)))
   pub no : r ≡ false → allSpelt (levelSpelt line) ≡ none
 
 -- whether a text, with r in w bytes, spells an area whose text is as long; if so, that area is at hand, in the first of longer words

@@ -9,7 +9,8 @@ ghost use Rattle.lists.specs.Same.{same};
 ghost use Rattle.tree.specs.Tree.{mostLimit};
 ghost use Rattle.calls.specs.Area.{headWords, areaWords, ownLevels, ownWords, Long};
 ghost use Rattle.digits.specs.Digits.{allSpelt};
-ghost use Rattle.texts.specs.Text.{roundsBytes, line1Fields, heldOf, textWith, levelBytes, headBytes, speltHead, speltLevels, readable, readArea};
+ghost use Rattle.texts.specs.Text.{roundsBytes, line1Fields, heldOf, textWith, levelBytes, headBytes};
+ghost use Rattle.texts.specs.Text.{speltHead, speltLevels, readable, readArea};
 ghost use Rattle.texts.specs.ReadForms.{formOf};
 ghost use Rattle.writing.specs.Lines.{linesAbove};
 ghost use Rattle.text.specs.Spelling.{zeroLevels, LevelSpelt, Spelt};
@@ -60,7 +61,7 @@ fn spell_level(area: &mut [u64], line: &[u8], level: u64) -> bool
     requires { ⌜ Long (now area) × (length (now line) ≡ levelBytes) × (1 ≤ level) × (level ≤ ownLevels (now area)) ⌝ }
     ensures { λ r. ⌜ LevelSpelt r level (now (line .entry)) (now (area .entry)) (now (area .exit)) ⌝ }
 {
-    let a = Area::HEAD + Area::LEVEL * (level as usize - 1);
+    let a = Area::level_start(level as usize);
     let e = a + Area::LEVEL;
     digits::spell_words(
         &mut area[a..e],
@@ -71,8 +72,11 @@ fn spell_level(area: &mut [u64], line: &[u8], level: u64) -> bool
 // The levels from their lines, into an area whose levels are empty. Answers false at the first byte of their words that is no
 // digit.
 fn spell_levels(area: &mut [u64], text: &[u8]) -> bool
-    requires { ⌜ (length (now area) ≡ ownWords (now area)) × (drop headWords (now area) ≡ zeroLevels (ownLevels (now area))) × (length (now text) ≡ length (linesAbove (now area) 0)) ⌝ }
-    ensures { λ r. ⌜ cond r (some (now (area .exit))) none ≡ allSpelt (map some (take headWords (now (area .entry))) ++ speltLevels (heldOf (now (area .entry))) (now (text .entry))) ⌝ }
+    requires { ⌜ (length (now area) ≡ ownWords (now area))
+        × (drop headWords (now area) ≡ zeroLevels (ownLevels (now area)))
+        × (length (now text) ≡ length (linesAbove (now area) 0)) ⌝ }
+    ensures { λ r. ⌜ cond r (some (now (area .exit))) none
+        ≡ allSpelt (map some (take headWords (now (area .entry))) ++ speltLevels (heldOf (now (area .entry))) (now (text .entry))) ⌝ }
 {
     let last = held::levels(area);
     let mut at: usize = 0;
@@ -125,7 +129,8 @@ fn writes(area: &[u64], text: &[u8], width: usize) -> bool
 // every L; if it is, they begin with that area afterwards; if not, what they hold is left open.
 pub fn is_readable(area: &mut [u64], text: &[u8]) -> bool
     requires { ⌜ now area ≡ replicate (areaWords mostLimit) 0 ⌝ }
-    ensures { λ r. ⌜ (r ≡ readable (now (text .entry))) × (r ≡ true → readArea (now (text .entry)) ≡ some (take (ownWords (now (area .exit))) (now (area .exit)))) ⌝ }
+    ensures { λ r. ⌜ (r ≡ readable (now (text .entry)))
+        × (r ≡ true → readArea (now (text .entry)) ≡ some (take (ownWords (now (area .exit))) (now (area .exit)))) ⌝ }
 {
     let width = width_of(text);
     if !spell_area(area, text, width) {

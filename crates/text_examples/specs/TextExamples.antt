@@ -9,12 +9,12 @@ use lib.ListN.{take, drop, replicate}
 use Rattle.bits.specs.Bits.{numbers}
 use Rattle.bits.specs.Piece.{pieceOf}
 use Rattle.compress.specs.Compress.{grown, compressed}
-use Rattle.tree.specs.Tree.{Params, keyWords, output, mostLimit}
+use Rattle.tree.specs.Tree.{Params, keyWords, output, mostLimit, outWords}
 use Rattle.calls.specs.Area.{areaWords, paramsOf, levelsOf, withLevels, emptyLevel, emptyLevels, sound}
-use Rattle.calls.specs.Calls.{withBit, outWords, receive, feedBit, feedBits, closeAbove, closing, openNumber, openedArea, openOf, fedBits, feedNumber, fedArea, feedOf, closedBy, endNumber, endedArea, digestOut, endOf}
+use Rattle.calls.specs.Calls.{withBit, receive, feedBit, feedBits, lastAbove, lastNodes, openNumber, openedArea, openOf, fedBits, feedNumber, fedArea, feedOf, lastNodesOf, endNumber, endedArea, digestOut, endOf}
 use Rattle.digits.specs.Digits.{hexDigits, speltWords}
 use Rattle.texts.specs.Text.{roundsBytes, oldRoundsBytes, textWith, textOf, oldTextOf, speltHead, speltArea, readableWith, readable, readArea, writeNumber, writeOf, readNumber, readOf}
-use Rattle.texts.specs.Terms.{textBefore, widened}
+use Rattle.texts.specs.Vocabulary.{textBefore, widened}
 use Rattle.texts.specs.FieldExamples.{ascii}
 
 abbrev zeros : ℕ → List ℕ
@@ -45,7 +45,7 @@ unfolding keyWords numbers openNumber openedArea openOf paramsOf levelsOf emptyL
 opened-written = refl
 
 -- it is read into an area that holds something else, whose last two words stay
-opened-read : readOf used openedText ≡ record { number = 0; count = 0; area = opened }
+pub opened-read : readOf used openedText ≡ record { number = 0; count = 0; area = opened }
 unfolding keyWords numbers openNumber openedArea openOf paramsOf levelsOf emptyLevels emptyLevel sound hexDigits textWith speltWords speltHead speltArea readableWith readable readArea readNumber readOf mathlib.Core.List.flatten
 opened-read = refl
 
@@ -75,7 +75,7 @@ plain limit = record { key = []; d = 8; limit = limit; rounds = 0 }
 abbrev nineText : List ℕ
 nineText = ascii "0100004000000800000000000000090000000000000000\n" ++ (noKey ++ (ascii "01ff8" ++ (zeros 1021 ++ ascii "\n")))
 
-nine-bits : textOf (ones 9 (plain 64)) ≡ nineText
+pub nine-bits : textOf (ones 9 (plain 64)) ≡ nineText
 unfolding keyWords numbers output compressed grown paramsOf levelsOf withLevels emptyLevels emptyLevel sound withBit outWords receive feedBit feedBits openNumber openedArea openOf fedBits feedNumber fedArea feedOf hexDigits textWith mathlib.Core.List.flatten
 nine-bits = refl
 
@@ -92,7 +92,7 @@ twoLevelsText =
     ascii "0100000100000800000000000010010000000000000001\n"
     ++ (noKey ++ (ascii "018" ++ (zeros 1023 ++ (ascii "\n02" ++ (zeros 256 ++ (replicate 256 102 ++ (zeros 512 ++ ascii "\n")))))))
 
-two-levels : (textOf twoLevels ≡ twoLevelsText) × (readable twoLevelsText ≡ true)
+pub two-levels : (textOf twoLevels ≡ twoLevelsText) × (readable twoLevelsText ≡ true)
 unfolding numbers paramsOf levelsOf emptyLevel sound hexDigits textWith speltWords speltHead speltArea readableWith readable readArea mathlib.Core.List.flatten
 two-levels = (refl, refl)
 
@@ -108,17 +108,17 @@ flatText =
     ++ (noKey ++ (ascii "01" ++ (zeros 256 ++ (ascii "ff8" ++ (zeros 765 ++ ascii "\n")))))
 
 -- fed and written where the tail is not zero, and read into 80 words and into 1,744
-flat-written : textOf (ones 9 (plain 0)) ≡ flatText
+pub flat-written : textOf (ones 9 (plain 0)) ≡ flatText
 unfolding keyWords numbers output compressed grown paramsOf levelsOf withLevels emptyLevels emptyLevel sound withBit outWords receive feedBit feedBits openNumber openedArea openOf fedBits feedNumber fedArea feedOf hexDigits textWith mathlib.Core.List.flatten
 flat-written = refl
 
-flat-read : (readOf (replicate 80 7) flatText ≡ record { number = 0; count = 0; area = flat })
+pub flat-read : (readOf (replicate 80 7) flatText ≡ record { number = 0; count = 0; area = flat })
     × (readOf (replicate 1744 7) flatText ≡ record { number = 0; count = 0; area = flat ++ replicate 1664 7 })
 unfolding numbers paramsOf levelsOf emptyLevel sound hexDigits textWith speltWords speltHead speltArea readableWith readable readArea readNumber readOf mathlib.Core.List.flatten
 flat-read = (refl, refl)
 
 -- in 79 nothing is changed
-flat-short : readOf (replicate 79 7) flatText ≡ record { number = 7; count = 0; area = replicate 79 7 }
+pub flat-short : readOf (replicate 79 7) flatText ≡ record { number = 7; count = 0; area = replicate 79 7 }
 unfolding numbers paramsOf levelsOf emptyLevel sound hexDigits textWith speltWords speltHead speltArea readableWith readable readArea readNumber readOf mathlib.Core.List.flatten
 flat-short = refl
 
@@ -134,7 +134,7 @@ enough =
     ∷ []
 
 -- "reading tests 11 and then 7": a text that is not read gets 11, also in an area that is short for the text that it was made from
-enough-read : (map (λ (e : ℕ × List ℕ). readOf (replicate (e .0) 7) (e .1) .number) enough ≡ replicate 6 0)
+pub enough-read : (map (λ (e : ℕ × List ℕ). readOf (replicate (e .0) 7) (e .1) .number) enough ≡ replicate 6 0)
     × (map (λ (e : ℕ × List ℕ). readOf (replicate (e .0 - 1) 7) (e .1) .number) enough ≡ replicate 6 7)
     × (map (λ (e : ℕ × List ℕ). readOf (replicate (e .0 - 1) 7) (10 ∷ e .1) .number) enough ≡ replicate 6 11)
     × (readOf [] [] .number ≡ 11)
@@ -142,14 +142,14 @@ unfolding numbers paramsOf levelsOf emptyLevel sound hexDigits textWith speltWor
 enough-read = (refl, refl, refl, refl)
 
 -- "Texts do not change": what writing gave before M-109
-same-before : (textBefore roundsBytes (twoLevels ++ replicate 1600 0) ≡ twoLevelsText) × (textBefore roundsBytes (flat ++ replicate 1664 0) ≡ flatText)
+pub same-before : (textBefore roundsBytes (twoLevels ++ replicate 1600 0) ≡ twoLevelsText) × (textBefore roundsBytes (flat ++ replicate 1664 0) ≡ flatText)
 unfolding numbers paramsOf hexDigits mathlib.Core.List.flatten
 same-before = (refl, refl)
 
 -- ---- an ended area: two lines, one compression for the empty message
 
-ended-text : textOf (endOf (openOf used (plain 64) .area) out out .area) ≡ ascii "0200004000000800000000000000000000000000000001\n" ++ noKey
-unfolding keyWords numbers output compressed grown paramsOf levelsOf withLevels emptyLevels emptyLevel sound outWords closeAbove closing openNumber openedArea openOf closedBy endNumber endedArea digestOut endOf hexDigits textWith mathlib.Core.List.flatten
+pub ended-text : textOf (endOf (openOf used (plain 64) .area) out out .area) ≡ ascii "0200004000000800000000000000000000000000000001\n" ++ noKey
+unfolding keyWords numbers output compressed grown paramsOf levelsOf withLevels emptyLevels emptyLevel sound outWords lastAbove lastNodes openNumber openedArea openOf lastNodesOf endNumber endedArea digestOut endOf hexDigits textWith mathlib.Core.List.flatten
 ended-text = refl
 
 -- ---- texts that are not read, and texts that are, from which each but the empty one differs in one thing; in the old form and, with
@@ -202,7 +202,7 @@ noDigits =
     ∷ []
 
 -- they spell no area
-nothing-spelt : map (speltArea oldRoundsBytes) noDigits ++ map (speltArea roundsBytes) (map widened noDigits) ≡ replicate 8 none
+pub nothing-spelt : map (speltArea oldRoundsBytes) noDigits ++ map (speltArea roundsBytes) (map widened noDigits) ≡ replicate 8 none
 unfolding numbers paramsOf levelsOf emptyLevel sound hexDigits speltWords speltHead speltArea
 nothing-spelt = refl
 

@@ -9,9 +9,9 @@ use lib.ListN.{length}
 use Rattle.calls.specs.Area.{paramsOf, ownWords, Long}
 use Rattle.calls.specs.Moved.{alike-long, same-front, same-sound}
 use Rattle.calls.specs.Alike.{shorter-alike, by-length}
-use Rattle.calls.specs.Terms.{SameFront}
+use Rattle.calls.specs.Vocabulary.{SameFront}
 use Rattle.texts.specs.Text.{roundsBytes, areaIn, writeNumber, writeOf, readNumber, readOf}
-use Rattle.texts.specs.Terms.{TakenAlike}
+use Rattle.texts.specs.Vocabulary.{TakenAlike}
 use Rattle.texts.specs.LayoutLaws.{same-text}
 use Rattle.texts.specs.ReadLaws.{read-refused, read-last, last-front}
 

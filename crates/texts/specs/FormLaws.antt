@@ -16,7 +16,7 @@ use Rattle.digits.specs.Digits.{hexDigits}
 use Rattle.digits.specs.DigitLaws.{length-digits, take-digits, drop-digits}
 use Rattle.texts.specs.Text.{Field, roundsBytes, oldRoundsBytes, line1Fields, digitsOf, fieldDigits, line2, heldOf, levelLines, textWith, textOf, oldTextOf, digitsIn}
 use Rattle.texts.specs.FieldLaws.{length-fields}
-use Rattle.texts.specs.Terms.{oldMostRounds, widened}
+use Rattle.texts.specs.Vocabulary.{oldMostRounds, widened}
 
 -- ---- every byte of line 1 is a digit, at least 48, up to its end, which is 10
 

@@ -9,6 +9,6 @@ pub mod ReadForms
 pub mod ReadLaws
 pub mod ReadLeaves
 pub mod SameTexts
-pub mod Terms
 pub mod Text
 pub mod TextLaws
+pub mod Vocabulary

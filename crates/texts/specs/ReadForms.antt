@@ -18,7 +18,7 @@ use Rattle.texts.specs.HeldLaws.{ranges}
 use Rattle.texts.specs.LayoutLaws.{sound-front, text-front}
 use Rattle.texts.specs.FormLaws.{oldEnd, new-digit, old-end}
 use Rattle.texts.specs.TextLaws.{RoundsFit, spells-back, length-speltArea, speltArea-below, rounds-below}
-use Rattle.texts.specs.Terms.{SoundArea, Writing, new-writing, old-writing}
+use Rattle.texts.specs.Vocabulary.{SoundArea, Writing, new-writing, old-writing}
 
 -- ---- tests
 

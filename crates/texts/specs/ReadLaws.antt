@@ -20,11 +20,11 @@ use Rattle.refusals.specs.RefusalLaws.{passed, answer-number, answer-refused}
 use Rattle.calls.specs.Calls.{areaTests}
 use Rattle.texts.specs.Text.{roundsBytes, oldRoundsBytes, textOf, readable, readArea, areaIn, Written, writeNumber, writeOf, Taken, readNumber, readOf}
 use Rattle.calls.specs.Moved.{SameParts, alike-long, same-front, same-sound}
-use Rattle.calls.specs.Terms.{SameFront}
+use Rattle.calls.specs.Vocabulary.{SameFront}
 use Rattle.texts.specs.LayoutLaws.{same-text, own-front}
 use Rattle.texts.specs.FormLaws.{old-widened}
 use Rattle.texts.specs.ReadForms.{writing-read, Readable, readable-sound}
-use Rattle.texts.specs.Terms.{SoundArea, Writing, new-writing, old-writing, WrittenBy, widened}
+use Rattle.texts.specs.Vocabulary.{SoundArea, Writing, new-writing, old-writing, WrittenBy, widened}
 
 -- ---- what is accepted
 

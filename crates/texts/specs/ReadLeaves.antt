@@ -6,7 +6,7 @@ use Prim.Native.Nat.{ℕ, zero, suc}
 use native.Mathlib.Omega.{arith}
 use lib.ListN.{drop}
 use Rattle.calls.specs.Area.{ownWords}
-use Rattle.calls.specs.Terms.{LeavesSound}
+use Rattle.calls.specs.Vocabulary.{LeavesSound}
 use Rattle.texts.specs.Text.{areaIn, readNumber, readOf}
 use Rattle.texts.specs.ReadLaws.{read-refused, read-number, read-last, last-tail, last-size, last-long, last-sound}
 

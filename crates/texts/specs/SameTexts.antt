@@ -20,9 +20,9 @@ use Rattle.calls.specs.AreaLaws.{length-levelsFrom, allFalse-replicate}
 use Rattle.calls.specs.MoreLevels.{holds-more, holds-length, levels-more, clean-more}
 use Rattle.calls.specs.Moved.{SameParts, same-front, same-sound}
 use Rattle.calls.specs.SoundParts.{emptyFrom, clean-empty, empty-levels, soundHead, parts-joined, sound-parts}
-use Rattle.calls.specs.Terms.{SameFront}
+use Rattle.calls.specs.Vocabulary.{SameFront}
 use Rattle.texts.specs.Text.{roundsBytes, oldRoundsBytes, line1Fields, line1, line2, levelLine, hasLine, levelLines, textWith, readable}
-use Rattle.texts.specs.Terms.{SoundArea, oldMostRounds, Writing, new-writing, old-writing, WrittenBy, holdsBefore, soundBefore, textBefore, WroteBefore}
+use Rattle.texts.specs.Vocabulary.{SoundArea, oldMostRounds, Writing, new-writing, old-writing, WrittenBy, holdsBefore, soundBefore, textBefore, WroteBefore}
 use Rattle.texts.specs.LayoutLaws.{same-text}
 use Rattle.texts.specs.ReadForms.{writing-read, readable-sound}
 

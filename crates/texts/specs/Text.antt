@@ -1,5 +1,5 @@
--- Definitions: a suspended stream as text. Document 01, "Suspended text", and the calls write and read; document 02, M-108 and M-109. A text is
--- a list of bytes.
+-- Definitions: a suspended stream as text. Document 01, "Suspended text", and the calls write and read; document 02, M-108 and M-109.
+-- A text is a list of bytes.
 use mathlib.Core.Bool.{Bool, true, false, not, cond, _||_, _&&_}
 use mathlib.Core.List.{List, [], _∷_, _++_, map, flatten}
 use mathlib.Core.Option.{Option, none, some, Option·getD}

@@ -7,7 +7,7 @@ use Prim.Native.Nat.{ℕ, suc, _*_, _^_, _≤_, _<_}
 use native.Mathlib.Omega.{arith}
 use lib.ListN.{length, take, drop, getD, set, replicate, length-append, length-map, length-take}
 use lib.Seq.{drop-at, drop-drop, getD-take, getD-set-same, getD-set-other, length-take-le}
-use Rattle.calls.specs.Keeps.{levelsOf-words}
+use Rattle.calls.specs.StaysSound.{levelsOf-words}
 use Rattle.calls.specs.WriteLaws.{levelsOf-widths}
 use Rattle.lists.specs.Below.{Below, none, more}
 use Rattle.lists.specs.BelowLaws.{below-append, below-zeros, below-at, below-take, below-drop}
@@ -25,7 +25,7 @@ use Rattle.calls.specs.AreaLaws.{length-levelsOf, limit-word}
 use Rattle.calls.specs.MoreLevels.{holds-length}
 use Rattle.texts.specs.HeldLaws.{Ranges, ranges, Fit, none, line, bare, fit-levels}
 use Rattle.texts.specs.LengthLaws.{length-line1, length-line2, length-levelLine, length-held}
-use Rattle.texts.specs.Terms.{SoundArea}
+use Rattle.texts.specs.Vocabulary.{SoundArea}
 use Rattle.texts.specs.FormLaws.{in-front}
 
 -- ---- the head

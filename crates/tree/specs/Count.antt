@@ -15,7 +15,7 @@ use Rattle.tree.specs.Place.{levelAt}
 use Rattle.tree.specs.TreeLaws.{counts, levels-counts}
 use Rattle.tree.specs.Height.{Above, no-level, sequential-level, parallel-level, Levels, sequential-tree, parallel-tree, tree-levels, tree-enough}
 use Rattle.tree.specs.OrderLaws.{order-levels}
-use Rattle.tree.specs.Terms.{total, heightFrom, treeHeight, marked}
+use Rattle.tree.specs.Vocabulary.{total, heightFrom, treeHeight, marked}
 
 -- ---- numbers: the nodes, and those that reach the last bit
 

@@ -15,7 +15,7 @@ use Rattle.lists.specs.Flatten.{map-append}
 use Rattle.tree.specs.Tree.{Params, Node, Mark, blockBits, sequentialBits, nodeU, node, output, words, blocks, padding, padded, par, seq, noChain, parallel, joinedOutputs, levels, tree, order}
 use Rattle.tree.specs.TreeLaws.{length-joined-parallel, levels-one, levels-more}
 use Rattle.tree.specs.OrderLaws.{order-levels}
-use Rattle.tree.specs.Terms.{marked}
+use Rattle.tree.specs.Vocabulary.{marked}
 
 -- numbers that rise, from a first one on
 data Rising : ℕ → List ℕ → Type 0 where

@@ -7,10 +7,11 @@ pub mod Kind
 pub mod KindLaws
 pub mod OrderExamples
 pub mod OrderLaws
+pub mod OutputLaws
 pub mod Place
 pub mod Places
 pub mod Shape
 pub mod Sizes
-pub mod Terms
 pub mod Tree
 pub mod TreeLaws
+pub mod Vocabulary

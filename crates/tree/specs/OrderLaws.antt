@@ -17,7 +17,7 @@ use Rattle.lists.specs.Append.{cons-eq}
 use Rattle.tree.specs.Tree.{Params, Node, Mark, Subtree, blockBits, sequentialBits, leaves, anyReaches, listing, parent, parents, climb, lastIndex, subtrees, tree, order, lastOr, noNode, root}
 use Rattle.tree.specs.Place.{levelAt, nodeAt}
 use Rattle.tree.specs.Height.{Children, Above, no-level, sequential-level, parallel-level, Levels, sequential-tree, parallel-tree, tree-levels}
-use Rattle.tree.specs.Terms.{mark, marked, In, Placed}
+use Rattle.tree.specs.Vocabulary.{mark, marked, In, Placed}
 
 abbrev tops : List Subtree → List Mark
 tops ss = map (λ (s : Subtree). s .top) ss

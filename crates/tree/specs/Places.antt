@@ -15,7 +15,7 @@ use Rattle.bits.specs.BitsLaws.{digit-le, length-numbers, numbers-below}
 use Rattle.tree.specs.Tree.{Params, Valid, Node, words, keyWords, nodeU, node, output, blocks, padding, padded, par, seq, noChain, parallel, sequential, joinedOutputs, levels, tree, lastOr, noNode, rootOf, root}
 use Rattle.tree.specs.Place.{levelAt, nodeAt, RootAt}
 use Rattle.tree.specs.TreeLaws.{Words, keyWords-below, nodeU-inj, nodeU-below, nodeV-below, length-output-node, length-seqBlock, lastOnly, lastOnly-le, length-par, length-seq, length-parallel, length-sequential, length-joined-parallel, par-at, seq-at, chainAt, above, levels-some}
-use Rattle.tree.specs.Terms.{rootLevel, rootIndex}
+use Rattle.tree.specs.Vocabulary.{rootLevel, rootIndex}
 
 -- ---- a list's element at an index
 

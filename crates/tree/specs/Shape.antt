@@ -13,7 +13,7 @@ use Rattle.lists.specs.Flatten.{map-append}
 use Rattle.bits.specs.Bits.{digit}
 use Rattle.tree.specs.Tree.{Params, Node, Mark, Subtree, blockBits, sequentialBits, nodeU, nodeV, node, output, words, blocks, padding, padded, par, seq, noChain, parallel, sequential, joinedOutputs, levels, tree, leaves, anyReaches, listing, parent, parents, climb, lastIndex, subtrees, order}
 use Rattle.tree.specs.TreeLaws.{length-joined-parallel, levels-one, levels-more}
-use Rattle.tree.specs.Terms.{shapeOf}
+use Rattle.tree.specs.Vocabulary.{shapeOf}
 
 -- a node without what comes from the bits of the message and of the key
 abbrev bare : Node → Node

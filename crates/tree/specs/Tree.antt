@@ -16,9 +16,12 @@ blockBits = 4096
 abbrev pub sequentialBits : ℕ
 sequentialBits = 3072
 
--- the bits of an output
+-- the bits of an output, and its words
 abbrev pub outputBits : ℕ
 outputBits = 1024
+
+abbrev pub outputWords : ℕ
+outputWords = 16
 
 -- the most levels of a tree
 abbrev pub mostLevels : ℕ
@@ -78,7 +81,10 @@ bitField above width x = above * 2 ^ width + x
 
 -- "V, high to low: four zero bits, r (12 bits), L (8), z (4), p (16), key bytes (8), d (12)."
 abbrev pub nodeV : Params → ℕ → ℕ → ℕ
-nodeV P z p = bitField (bitField (bitField (bitField (bitField (bitField 0 12 (P .rounds)) 8 (P .limit)) 4 z) 16 p) 8 (length (P .key))) 12 (P .d)
+nodeV P z p =
+    bitField
+    (bitField (bitField (bitField (bitField (bitField 0 12 (P .rounds)) 8 (P .limit)) 4 z) 16 p) 8 (length (P .key)))
+    12 (P .d)
 
 abbrev pub node : Params → ℕ → ℕ → ℕ → ℕ → List ℕ → Node
 node P level index z p block = record { k = keyWords (P .key); u = nodeU level index; v = nodeV P z p; block = block }
@@ -86,6 +92,10 @@ node P level index z p block = record { k = keyWords (P .key); u = nodeU level i
 -- the 1,024 bits that r rounds of compression make of a node's input
 unfoldable pub output : ℕ → Node → List Bool
 output r n = bitsOf 64 (compressed r (windowOf (n .k) (n .u) (n .v) (n .block)))
+
+-- the words of a node's output
+unfoldable pub outWords : Params → Node → List ℕ
+outWords P m = words outputWords (output (P .rounds) m)
 
 -- "pad with zero bits to a positive multiple" of a size: how many blocks of that size m bits fill, and the zero bits
 abbrev pub blocks : ℕ → ℕ → ℕ
@@ -231,3 +241,14 @@ subtrees (suc n) m (ns ∷ above) = climb n (leaves (lastIndex blockBits m) 0 ns
 -- the nodes of a message's tree in their order, each with its mark
 abbrev pub order : Params → List Bool → List Mark
 order P M = listing (subtrees (P .limit) (length M) (tree P M))
+
+-- ---- the log
+
+-- "U and V of each node, in order"
+abbrev pub nodeLog : List Node → List ℕ
+nodeLog [] = []
+nodeLog (m ∷ ms) = m .u ∷ m .v ∷ nodeLog ms
+
+-- ".. to a lent log of words from its first; the rest of the log stays"
+abbrev pub logged : List Node → List ℕ → List ℕ
+logged nodes log = nodeLog nodes ++ drop (2 * length nodes) log

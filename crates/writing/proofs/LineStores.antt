@@ -46,12 +46,10 @@ line1-stored w area part₀ a i e s l =
 
 pub level-stored : (part area y0 y1 : List ℕ) (level : ℕ) → length part ≡ levelBytes → Long area → level ≤ ownLevels area
     → y0 ≡ hexDigits (length (midOf 0 2 part)) level
-    → y1 ≡ wordDigits (take (16 + 64 * (level - 1) + 64 - (16 + 64 * (level - 1))) (drop (16 + 64 * (level - 1)) area))
+    → y1 ≡ wordDigits (levelWords area level)
     → set (putMid 2 1024 (putMid 0 2 part y0) y1) 1026 10 ≡ levelLine level (levelWords area level)
-level-stored part area y0 y1 level l h g e f =
+level-stored part area y0 y1 level l h g e w =
     let ws : List ℕ = levelWords area level in
-    let n : 16 + 64 * (level - 1) + 64 - (16 + 64 * (level - 1)) ≡ 64 = omega arith in
-    let w : y1 ≡ wordDigits ws = f ∙ ap (λ (m : ℕ). wordDigits (take m (drop (16 + 64 * (level - 1)) area))) n in
     let k : length (wordDigits ws) ≡ 1024 = length-wordDigits ws ∙ ap (λ (m : ℕ). 16 * m) (length-levelWords area level h g) in
     let s0 = lent-digits 0 2 [] part part y0 refl refl (omega arith) (omega arith) 2 level refl e in
     let s1 = lent-next 2 1026 (hexDigits 2 level) (putMid 0 2 part y0) part y1 (length-digits 2 level) s0 (omega arith) (omega arith) (ap length w ∙ k) in

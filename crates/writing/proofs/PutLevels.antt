@@ -27,7 +27,7 @@ put-none area part last q h =
     let n = above-all area last (omega arith) in
     record { few = omega arith; size = omega (arith, ap length n); all = h; is = drop-length part ∙ sym n }
 
-module _ (area part : List ℕ) (e k : ℕ) (p : Putting area part e k) (long : Long area) (h : 1 ≤ k) where
+module _ {area part : List ℕ} {e k : ℕ} (p : Putting area part e k) (long : Long area) (h : 1 ≤ k) where
   same : k - 1 + 1 ≡ k
   same = omega arith
 
@@ -66,8 +66,8 @@ module _ (area part : List ℕ) (e k : ℕ) (p : Putting area part e k) (long : 
       let n : linesAbove area (k - 1) ≡ linesAbove area k = rw same at (above-no area (k - 1) below (rw same y)) in
       record { few = omega (arith, p .few); size = p .size ∙ ap (λ (x : List ℕ). e + length x) (sym n); all = p .all; is = p .is ∙ sym n }
 
-pub put-all : (area part : List ℕ) (e k : ℕ) → Putting area part e k → k ≤ 0 → part ≡ linesAbove area 0
-put-all area part e k p h =
+pub put-all : {area part : List ℕ} {e k : ℕ} → Putting area part e k → k ≤ 0 → part ≡ linesAbove area 0
+put-all {area} {part} {e} {k} p h =
     let z : k ≡ 0 = omega arith in
     let q : Putting area part e 0 = rw z at p in
     let f : e ≡ 0 = omega (arith, q .size, q .all) in

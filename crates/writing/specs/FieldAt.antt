@@ -22,25 +22,32 @@ digits-some fs zero = omega arith
 digits-some [] (suc i) = omega arith
 digits-some (f ∷ fs) (suc i) = omega (arith, digits-some fs i)
 
-module _ (fs : List Field) (i : ℕ) (h : i < length fs) where
-  abbrev f : Field
-  f = getD fs i (fieldOf 0 0)
+-- its digits, and the word that it stands for
+abbrev pub fieldAt : List Field → ℕ → Field
+fieldAt fs i = getD fs i (fieldOf 0 0)
 
+abbrev pub sizeAt : List Field → ℕ → ℕ
+sizeAt fs i = getD (fieldSizes fs) i 0
+
+abbrev pub wordAt : List Field → ℕ → ℕ
+wordAt fs i = getD (fieldWords fs) i 0
+
+module _ (fs : List Field) (i : ℕ) (h : i < length fs) where
   abbrev n : ℕ
-  n = getD (fieldSizes fs) i 0
+  n = sizeAt fs i
 
   abbrev w : ℕ
-  w = getD (fieldWords fs) i 0
+  w = wordAt fs i
 
-  pub n-is : n ≡ digitsOf f
-  n-is = List·getD-map digitsOf fs i (fieldOf 0 0)
+  pub size-is : n ≡ digitsOf (fieldAt fs i)
+  size-is = List·getD-map digitsOf fs i (fieldOf 0 0)
 
-  pub w-is : w ≡ f .word
-  w-is = List·getD-map (λ (g : Field). g .word) fs i (fieldOf 0 0)
+  pub word-is : w ≡ fieldAt fs i .word
+  word-is = List·getD-map (λ (g : Field). g .word) fs i (fieldOf 0 0)
 
   pub field-more : (area : List ℕ) → fieldDigits (take (i + 1) fs) area ≡ fieldDigits (take i fs) area ++ hexDigits n (getD area w 0)
   unfolding flatten
-  field-more area = rw (add-one i, take-suc fs i (fieldOf 0 0) h, n-is, w-is, map-append, flatten-append, append-nil)
+  field-more area = rw (add-one i, take-suc fs i (fieldOf 0 0) h, size-is, word-is, map-append, flatten-append, append-nil)
 
   pub digits-more : digitsIn (take (i + 1) fs) ≡ digitsIn (take i fs) + n
   digits-more =
@@ -61,8 +68,8 @@ in-line w b i h = record {
 
 -- the same of the sizes that an array has
 pub record Sized (w : ℕ) (sizes : List ℕ) (i : ℕ) : Type 0 where
-  pub is : getD sizes i 0 ≡ getD (fieldSizes (line1Fields w)) i 0
-  pub word : getD (fieldWords (line1Fields w)) i 0 < headWords
+  pub is : getD sizes i 0 ≡ sizeAt (line1Fields w) i
+  pub word : wordAt (line1Fields w) i < headWords
   pub size : getD sizes i 0 ≤ 16
   pub ends : digitsIn (take i (line1Fields w)) + getD sizes i 0 ≤ digitsIn (line1Fields w)
   pub more : digitsIn (take (i + 1) (line1Fields w)) ≡ digitsIn (take i (line1Fields w)) + getD sizes i 0
@@ -70,7 +77,7 @@ pub record Sized (w : ℕ) (sizes : List ℕ) (i : ℕ) : Type 0 where
 pub sized : (w : ℕ) → w ≤ roundsBytes → (sizes : List ℕ) → sizes ≡ fieldSizes (line1Fields w) → (i : ℕ) → i < length (line1Fields w) → Sized w sizes i
 sized w b sizes e i h =
     let f = in-line w b i h in
-    let s : getD sizes i 0 ≡ getD (fieldSizes (line1Fields w)) i 0 = ap (λ (l : List ℕ). getD l i 0) e in
+    let s : getD sizes i 0 ≡ sizeAt (line1Fields w) i = ap (λ (l : List ℕ). getD l i 0) e in
     record {
       is = s;
       word = f .word;

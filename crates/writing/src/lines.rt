@@ -114,9 +114,8 @@ pub fn put_level(part: &mut [u8], area: &[u64], level: u64)
     requires { ⌜ (length (now part) ≡ levelBytes) × Long (now area) × (1 ≤ level) × (level ≤ ownLevels (now area)) ⌝ }
     ensures { λ _. ⌜ now (part .exit) ≡ levelLine level (levelWords (now (area .entry)) level) ⌝ }
 {
-    let a = Area::HEAD + Area::LEVEL * (level as usize - 1);
-    let e = a + Area::LEVEL;
+    let words = Area::level(area, level as usize);
     digits::put_digits(&mut part[0..NUMBER_DIGITS], level);
-    digits::put_words(&mut part[NUMBER_DIGITS..LEVEL_DIGITS], &area[a..e]);
+    digits::put_words(&mut part[NUMBER_DIGITS..LEVEL_DIGITS], words);
     part[LEVEL_DIGITS] = END;
 }

@@ -9,13 +9,14 @@ make-level-requires : tie.Need-make-level-requires
 make-level-requires c κs =
     let done = c .before .before in
     let test = done .before in
-    let start = test .before .before .before .before .before .before in
+    let start = test .before .before .before .before .before in
     (start .pre .ready, omega (arith, flush-room (start .pre) (test .if1 .taken), done .done-blocks .ensures, done-fits (start .args .total) (start .fits .total .fits) .1))
 
 add-result : tie.Need-add-result
 add-result c =
-    let test = c .before .before .before .before .before .before .before .before .before .before .before in
-    let start = test .before .before .before .before .before .before in
+    let make-level = c .before .before .before .before .before .before .before in
+    let test = make-level .before .before .before .before in
+    let start = test .before .before .before .before .before in
     omega (arith, flush-room (start .pre) (test .if1 .taken), start .good)
 
 returns : tie.Need-returns
@@ -24,39 +25,35 @@ returns c =
     let make-level = chain-level .before .before .before .before .before in
     let done = make-level .before .before .before in
     let test = done .before in
-    let start = test .before .before .before .before .before .before in
+    let start = test .before .before .before .before .before in
     flush-chained (start .pre) (test .if1 .taken) (done .done-blocks .ensures) (make-level .make-level .ensures) (chain-level .chain-level .ensures)
 
 compress-node-requires : tie.Need-compress-node-requires
 compress-node-requires c κs =
     let place = c .before .before in
     let done = place .before in
-    let start = done .before .before .before .before .before .before .before in
+    let start = done .before .before .before .before .before .before in
     (start .pre .ready, rw (place .full-place .ensures) (omega (arith, done .done-blocks2 .ensures, done-fits (start .args .total) (start .fits .total .fits) .0)))
 
 pass-on-requires : tie.Need-pass-on-requires
 pass-on-requires c κs =
     let made = c .before .before in
-    let level = made .before in
-    let place = level .before .before in
-    let done = place .before in
-    let test = done .before in
-    let start = test .before .before .before .before .before .before in
-    let d = done .done-blocks2 .ensures in
-    let o = rw (place .full-place .ensures, level .level .ensures .0 .words) at (made .compress-node .ensures) in
-    flush-passing (start .pre) (test .if1 .left) d o (omega (arith, d, done-fits (start .args .total) (start .fits .total .fits) .0))
+    let place = made .before .before .before in
+    let test = place .before .before in
+    let start = test .before .before .before .before .before in
+    flush-passing (start .pre) (test .if1 .left) (place .before .done-blocks2 .ensures) (place .full-place .ensures)
+    (made .before .level .ensures .0 .words)
+    (made .compress-node .ensures) (start .fits .total .fits)
 
 returns-2 : tie.Need-returns-2
 returns-2 c =
     let pass-on = c .before .before .before .before in
     let made = pass-on .before .before .before in
-    let level = made .before in
-    let place = level .before .before in
-    let done = place .before in
-    let test = done .before in
-    let start = test .before .before .before .before .before .before in
-    let o = rw (place .full-place .ensures, level .level .ensures .0 .words) at (made .compress-node .ensures) in
-    flush-passed (start .pre) (test .if1 .left) (done .done-blocks2 .ensures) o (pass-on .pass-on .ensures)
+    let place = made .before .before .before in
+    let test = place .before .before in
+    flush-passed (test .before .before .before .before .before .pre) (test .if1 .left) (place .before .done-blocks2 .ensures)
+    (place .full-place .ensures)
+    (made .before .level .ensures .0 .words) (made .compress-node .ensures) (pass-on .pass-on .ensures)
 
 pub flush-spec : {M : Type 1} → statement M
 flush-spec =

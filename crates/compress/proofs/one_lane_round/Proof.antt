@@ -1,11 +1,11 @@
 -- `one_lane_round` meets its contract: after j turns the first j words of the round are written. The shifts are below 64.
 use mathlib.Core.Path.{_≡_, refl, ap, _∙_}
-use Prim.Native.Nat.{_-_, _≤_, _<_}
+use Prim.Native.Nat.{_-_, _≤_}
 use native.Mathlib.Numerals.{add-one}
-use lib.ListN.{length, getD}
+use lib.ListN.{length}
 use Rattle.compress.specs.Compress.{shiftsR, shiftsT}
 use Rattle.compress.specs.Buffer.{putRound}
-use Rattle.compress.proofs.Laws.{length-round, small-shift}
+use Rattle.compress.proofs.Laws.{length-round, small-shifts}
 use borrow.Author.Needs.{needs}
 use native.Mathlib.Omega.{arith}
 use Rattle.compress.proofs.one_lane_round.Statement.{statement}
@@ -27,9 +27,7 @@ add-word-requires c κs =
     let j = c .before .before .loop .j in
     let long : length (c .before .before .loop .a) ≡ length (start .args .a .now) =
     ap length (c .before .before .loop .inv .1) ∙ length-round j (start .args .i) (start .args .s) (start .args .a .now) in
-    let right : getD shiftsR j 0 < 64 = small-shift shiftsR tt j (omega arith) in
-    let left : getD shiftsT j 0 < 64 = small-shift shiftsT tt j (omega arith) in
-    (omega arith, omega arith, omega arith, omega arith)
+    omega (arith, small-shifts j (omega arith))
 
 loop-again : tie.Need-loop-again Inv-loop μ-loop
 unfolding putRound

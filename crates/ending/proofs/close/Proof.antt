@@ -3,9 +3,10 @@ use native.Mathlib.Omega.{arith}
 use mathlib.Core.Path.{sym, ap, _∙_}
 use Prim.Native.Nat.{_-_, _*_}
 use lib.ListN.{length, replicate, length-take}
-use Rattle.calls.specs.Calls.{closedBy}
-use Rattle.calls.specs.CallLaws.{length-logged, close-passed, close-refused, close-accepted}
-use Rattle.calls.specs.LogWords.{closed-bound}
+use Rattle.tree.specs.OutputLaws.{length-logged}
+use Rattle.calls.specs.Calls.{lastNodesOf}
+use Rattle.calls.specs.CallLaws.{close-passed, close-refused, close-accepted}
+use Rattle.calls.specs.LogWords.{last-bound}
 use Rattle.numbers.specs.NumberLaws.{area-passed, close-decided}
 use Rattle.ending.specs.EndLaws.{log-copied}
 use Rattle.ending.proofs.close.Statement.{statement}
@@ -23,7 +24,7 @@ figure-number-requires : tie.Need-figure-number-requires
 figure-number-requires c κs =
     let unfit = c .before .before .before .before in
     let area = unfit .before .before .before .before .before .args .area .now in
-    (area-passed area (unfit .area-number .ensures) (c .before .before .before .if1 .left), omega (arith, closed-bound area))
+    (area-passed area (unfit .area-number .ensures) (c .before .before .before .if1 .left), omega (arith, last-bound area))
 
 returns-2 : tie.Need-returns-2
 returns-2 c =
@@ -42,14 +43,15 @@ end-area-requires c κs =
 mul-n : tie.Need-mul-n
 mul-n c =
     let ended = c .before .before in
-    omega (arith, ended .end-area .ensures .1, closed-bound (ended .before .before .before .before .before .before .before .before .before .before .before .before .before .before .args .area .now))
+    let unfit = ended .before .before .before .before .before .before .before .before .before in
+    omega (arith, ended .end-area .ensures .1, last-bound (unfit .before .before .before .before .before .args .area .now))
 
 part-copy-end : tie.Need-part-copy-end
 part-copy-end c =
     let ended = c .before .before .before .before in
     let number = ended .before .before .before .before in
     let area = number .before .before .before .before .before .before .before .before .before .before .args .area .now in
-    omega (arith, ended .end-area .ensures .1, closed-bound area, ap length (number .figure-number .ensures .1) ∙ length-logged (closedBy area) (replicate 54 0) (omega (arith, closed-bound area)))
+    omega (arith, ended .end-area .ensures .1, last-bound area, ap length (number .figure-number .ensures .1) ∙ length-logged (lastNodesOf area) (replicate 54 0) (omega (arith, last-bound area)))
 
 copy-requires : tie.Need-copy-requires
 copy-requires c κs =
@@ -69,7 +71,7 @@ returns-3 c =
     let unfit = number .before .before .before .before .before in
     let a = unfit .before .before .before .before .before .args in
     let z = number .figure-number .ensures .0 ∙ close-decided (a .area .now) (a .digest .now) (a .log .now) (unfit .area-number .ensures) .by-later (number .before .before .before .before .if1 .left) in
-    let log = log-copied {n = 2 * ended .end-area .result - 0} (closedBy (a .area .now)) (replicate 54 0) (a .log .now) (copied .copy .ensures) (number .figure-number .ensures .1) (omega (arith, ended .end-area .ensures .1)) in
+    let log = log-copied {n = 2 * ended .end-area .result - 0} (lastNodesOf (a .area .now)) (replicate 54 0) (a .log .now) (copied .copy .ensures) (number .figure-number .ensures .1) (omega (arith, ended .end-area .ensures .1)) in
     rw (c .accepted .ensures .0, c .accepted .ensures .1, ended .end-area .ensures .0, log, ended .end-area .ensures .1)
     (sym (close-accepted (a .area .now) (a .digest .now) (a .log .now) (sym z ∙ ended .before .before .if2 .left)))
 

@@ -31,7 +31,7 @@ returns c =
     let a = made .before .before .before .before .before .before .before .args in (
       close-numbers (a .area .now) (a .figure .now) (a .log .now) (short .is-short-log .ensures) (left .nodes-left .ensures) (equal .same-bytes .ensures)
           (ap (take (bytes .digest-bytes .result - 0)) (made .make-digest .ensures .0) ∙ digest-front (a .area .now) (replicate 64 0) (bytes .digest-bytes .result - 0) (omega (arith, bytes .digest-bytes .ensures)))
-          (c .open-close-number .ensures),
+          (c .first-of-two .ensures),
       made .make-digest .ensures .1,
     )
 

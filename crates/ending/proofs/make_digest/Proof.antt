@@ -17,12 +17,13 @@ write-digest-requires c κs =
 returns : tie.Need-returns
 returns c =
     let write = c .before .before in
-    let close = write .before .before .before .before .before .before in
-    let start = close .before .before .before .before .before in
+    let made = write .before .before .before .before .before .before in
+    let start = made .before .before .before .before .before in
     let a = start .args in
     let area = a .area .now in (
-      write .write-digest .ensures ∙ digest-written area (a .digest .now) (close .closing .result) (getD area 3 0) (start .pre .opened .long) refl (close .closing .ensures .0),
-      close .closing .ensures .1,
+      write .write-digest .ensures ∙ digest-written area (a .digest .now) (made .make .result) (getD area 3 0)
+          (start .pre .opened .long) refl (made .make .ensures .0),
+      made .make .ensures .1,
     )
 
 pub make-digest-spec : {M : Type 1} → statement M

@@ -2,7 +2,7 @@
 use native.Mathlib.Omega.{arith}
 use mathlib.Core.Path.{sym, _∙_}
 use Rattle.calls.specs.CallLaws.{preview-passed, preview-refused, preview-accepted}
-use Rattle.calls.specs.LogWords.{closed-bound}
+use Rattle.calls.specs.LogWords.{last-bound}
 use Rattle.ending.proofs.preview.Statement.{statement}
 use Rattle.ending.proofs.preview.Tie as tie
 
@@ -19,7 +19,7 @@ make-digest-requires c κs =
     let number = test .before in
     let a = number .before .before .before .before .args in
     let p = preview-passed (a .area .now) (a .digest .now) (sym (number .preview-number .ensures) ∙ test .if1 .left) in
-    record { opened = p .opened; output = p .output; room = omega (arith, closed-bound (a .area .now)) }
+    record { opened = p .opened; output = p .output; room = omega (arith, last-bound (a .area .now)) }
 
 returns-2 : tie.Need-returns-2
 returns-2 c =

@@ -10,13 +10,15 @@ returns : tie.Need-returns
 unfolding defaultRoundsOf
 returns c =
     let size = c .before .before .size-number in
-    rw (c .refused .ensures .0, c .refused .ensures .1) (answer-refused (size .result) _ _ (λ k. record { number = k; count = 0 }) (size .ensures) (c .before .if1 .taken))
+    rw (c .refused .ensures .0, c .refused .ensures .1)
+    (answer-refused (size .result) _ _ (λ k. record { number = k; count = 0 }) (size .ensures) (c .before .if1 .taken))
 
 returns-2 : tie.Need-returns-2
 unfolding defaultRoundsOf
 returns-2 c =
     let size = c .before .before .before .size-number in
-    rw (c .accepted .ensures .0, c .accepted .ensures .1, c .before .rounds-by-default .ensures, sym (size .ensures) ∙ c .before .before .if1 .left)
+    let e = c .accepted .ensures in
+    rw (e .0, e .1, c .before .rounds-by-default .ensures, sym (size .ensures) ∙ c .before .before .if1 .left)
 
 pub default-rounds-spec : {M : Type 1} → statement M
 default-rounds-spec =

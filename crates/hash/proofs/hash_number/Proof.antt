@@ -1,59 +1,55 @@
 -- `hash::hash_number` meets its contract.
-use mathlib.Core.List.{[], _∷_}
-use mathlib.Core.Path.{refl, sym, _∙_}
-use native.Mathlib.Omega.{arith}
+use mathlib.Core.Bool.{Bool, true, false, cond}
+use mathlib.Core.Path.{_≡_, sym, _∙_}
 use borrow.Author.Needs.{needs}
 use borrow.Author.Tests.{lt-ltb, le-ltb}
-use Rattle.tree.specs.Tree.{digestBytes}
-use Rattle.refusals.specs.Refusals.{rangeTests, outputTest}
-use Rattle.refusals.specs.RefusalLaws.{first-part, passed, in-range}
-use Rattle.hash.specs.Hash.{hashNumber}
+use lib.Dec.{ltb}
+use lib.ListN.{length}
+use Rattle.bits.specs.PieceLaws.{spanned}
+use Rattle.refusals.specs.RefusalLaws.{in-range}
+use Rattle.hash.specs.HashLaws.{numberFor, number-bits, number-ranges, number-output}
 use Rattle.hash.proofs.hash_number.Statement.{statement}
 use Rattle.hash.proofs.hash_number.Tie as tie
 
 returns : tie.Need-returns
-unfolding hashNumber
-returns c = rw (sym (c .before .refused-bits .ensures) ∙ c .if1 .taken)
+returns c =
+    let a = c .before .before .before .before .args in
+    number-bits (spanned (a .message .now) (a .span)) (a .params) (a .digest .now) (sym (c .before .refused-bits .ensures) ∙ c .if1 .taken)
 
 returns-2 : tie.Need-returns-2
-unfolding hashNumber
 returns-2 c =
-    let params = c .before in
-    let test = params .before in
-    let start = test .before .before .before .before .before in
-    let p = start .args .params in
-    let e = params .params-number .ensures in
-    rw (sym (test .before .refused-bits .ensures) ∙ test .if1 .left, ← start .pre)
-    (e ∙ first-part (rangeTests (p .keylen) (p .d) (p .limit) (p .rounds)) (outputTest (digestBytes (p .d)) (start .args .digest .now) ∷ []) (λ z. c .if2 .taken (e ∙ z)))
+    let e = c .before .params-number .ensures in
+    let test = c .before .before in
+    let a = test .before .before .before .before .args in
+    e ∙ number-ranges (spanned (a .message .now) (a .span)) (a .params) (a .digest .now)
+    (sym (test .before .refused-bits .ensures) ∙ test .if1 .left) (λ z. c .if2 .taken (e ∙ z))
 
-add-if3 : tie.Need-add-if3
-add-if3 c =
+digest-bytes-requires : tie.Need-digest-bytes-requires
+digest-bytes-requires c κs =
+    let p = c .before .before .before .before .before .before .args .params in
+    in-range (p .keylen) (p .d) (p .limit) (p .rounds) (sym (c .before .params-number .ensures) ∙ c .if2 .left) .dHigh
+
+-- neither the bits nor the parameters are refused: the output decides
+decided : (c : tie.After-digest-bytes) (short : Bool)
+    → (let a = c .before .before .before .before .before .before .before .args in
+    ltb (length (a .digest .now)) (c .digest-bytes .result) ≡ short
+    → cond short 9 0 ≡ numberFor (spanned (a .message .now) (a .span)) (a .params) (a .digest .now))
+decided c short e =
     let params = c .before .before in
-    let p = params .before .before .before .before .before .before .args .params in
-    record { fits = omega (arith, in-range (p .keylen) (p .d) (p .limit) (p .rounds) (sym (params .params-number .ensures) ∙ c .before .if2 .left) .dHigh) }
+    let test = params .before in
+    let a = test .before .before .before .before .args in
+    number-output (spanned (a .message .now) (a .span)) (a .params) (a .digest .now)
+    (sym (test .before .refused-bits .ensures) ∙ test .if1 .left) (sym (params .params-number .ensures) ∙ c .before .if2 .left)
+    short (rw (c .digest-bytes .ensures) at e)
 
 returns-3 : tie.Need-returns-3
-unfolding hashNumber
-returns-3 c =
-    let params = c .before .before .before in
-    let test = params .before in
-    let start = test .before .before .before .before .before in
-    let p = start .args .params in
-    let q = passed (rangeTests (p .keylen) (p .d) (p .limit) (p .rounds)) refl (sym (params .params-number .ensures) ∙ c .before .before .if2 .left) in
-    rw (sym (test .before .refused-bits .ensures) ∙ test .if1 .left, ← start .pre, q 0, q 1, q 2, q 3, q 4, lt-ltb _ _ (c .if3 .taken))
+returns-3 c = decided (c .before) true (lt-ltb _ _ (c .if3 .taken))
 
 returns-4 : tie.Need-returns-4
-unfolding hashNumber
-returns-4 c =
-    let params = c .before .before .before in
-    let test = params .before in
-    let start = test .before .before .before .before .before in
-    let p = start .args .params in
-    let q = passed (rangeTests (p .keylen) (p .d) (p .limit) (p .rounds)) refl (sym (params .params-number .ensures) ∙ c .before .before .if2 .left) in
-    rw (sym (test .before .refused-bits .ensures) ∙ test .if1 .left, ← start .pre, q 0, q 1, q 2, q 3, q 4, le-ltb _ _ (c .if3 .left))
+returns-4 c = decided (c .before) false (le-ltb _ _ (c .if3 .left))
 
 pub hash-number-spec : {M : Type 1} → statement M
 hash-number-spec =
     tie.close
     (tie.spec
-    (λ c κs. search needs) returns (λ c κs. search needs) returns-2 add-if3 returns-3 returns-4)
+    (λ c κs. search needs) returns (λ c κs. search needs) returns-2 digest-bytes-requires returns-3 returns-4)

@@ -1,9 +1,8 @@
 -- `hash::put_digest` meets its contract: the root worked out node by node is the root of the levels.
 use Rattle.hash.specs.HashLaws.{withKey, params-key, key-ready, digest-root}
 use Rattle.nodes.specs.Value.{rootValue}
-use Rattle.node.specs.Words.{paramsFrom}
-use Rattle.bits.specs.Piece.{pieceBits}
-use Rattle.bits.specs.PieceLaws.{spanned}
+use Rattle.node.specs.Words.{treeParams}
+use Rattle.bits.specs.PieceLaws.{spanBits}
 use Rattle.tree.specs.Tree.{Params, digestBytes}
 use Rattle.lists.specs.Slices.{bytes-below}
 use lib.ListN.{drop}
@@ -17,15 +16,16 @@ use Rattle.hash.proofs.put_digest.Tie as tie
 
 root-requires : tie.Need-root-requires
 root-requires c κs =
-    let made = c .before .before in
+    let made = c .before in
     let k = made .before in
     let known = k .before .before in
     let s = known .before .before in
     let a = s .args in
     let first = made .first-part in
     let bytes = bytes-below (a .key .now) (known .shared-slice-known2 .given) in
+    let ready = key-ready (a .key .now) (a .params) bytes (s .pre .1) (s .pre .0 .ranges) in
     record {
-      ready = rw (k .key-words .ensures) (key-ready (a .key .now) (a .params) bytes (s .pre .1) (s .pre .0 .ranges) (first .result) (first .ensures) (omega (arith, first .ok)));
+      ready = rw (k .key-words .ensures) (ready (first .result) (first .ensures) (omega (arith, first .ok)));
       enough = s .pre .0 .enough;
     }
 
@@ -33,21 +33,22 @@ returns : tie.Need-returns
 returns c =
     let write = c .before .before in
     let root = write .before .before .before in
-    let k = root .before .before .before .before in
+    let k = root .before .before .before in
     let known = k .before .before in
     let s = known .before .before in
     let a = s .args in
-    let M = pieceBits (spanned (a .message .now) (a .span)) in
+    let M = spanBits (a .message .now) (a .span) in
     let bytes = bytes-below (a .key .now) (known .shared-slice-known2 .given) in
-    let e : paramsFrom (k .key-words .result) (a .params) ≡ withKey (a .key .now) (a .params) =
+    let P = withKey (a .key .now) (a .params) in
+    let e : treeParams record { k = k .key-words .result; params = a .params } ≡ withKey (a .key .now) (a .params) =
     rw (k .key-words .ensures) (params-key (a .key .now) (a .params) bytes (s .pre .1) (s .pre .0 .ranges)) in
     write .write-digest .ensures
     ∙ ap (λ (w : List ℕ). w ++ drop (digestBytes (a .params .d)) (a .out .now))
-    (digest-root (withKey (a .key .now) (a .params)) M (root .root .result) (root .root .ensures ∙ ap (λ (P : Params). rootValue P (a .params .limit) M) e))
+    (digest-root P M (root .root .result) (root .root .ensures ∙ ap (λ (P : Params). rootValue P (a .params .limit) M) e))
 
 pub put-digest-spec : {M : Type 1} → statement M
 put-digest-spec =
     tie.close
     (tie.spec
-    (λ c κs. search needs) (λ c κs. search needs) (λ c. search needs) (λ c. search needs) root-requires
-    (λ c. search needs) (λ c κs. search needs) (λ c. search needs) returns)
+    (λ c κs. search needs) (λ c κs. search needs) (λ c. search needs) root-requires (λ c. search needs) (λ c κs. search needs)
+    (λ c. search needs) returns)

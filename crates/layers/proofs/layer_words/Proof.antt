@@ -11,7 +11,8 @@ returns c = rw (c .refused .ensures .0, c .refused .ensures .1, lt-ltb _ _ (c .b
 
 returns-2 : tie.Need-returns-2
 unfolding layerWordsOf
-returns-2 c = rw (c .accepted .ensures .0, c .accepted .ensures .1, c .before .words-used .ensures, le-ltb _ _ (c .before .before .if1 .left))
+returns-2 c =
+    rw (c .accepted .ensures .0, c .accepted .ensures .1, c .before .words-used .ensures, le-ltb _ _ (c .before .before .if1 .left))
 
 pub layer-words-spec : {M : Type 1} → statement M
 layer-words-spec = tie.close (tie.spec (λ c κs. search needs) returns (λ c κs. search needs) (λ c κs. search needs) returns-2)

@@ -3,8 +3,7 @@ use mathlib.Core.Path.{_≡_, ap, _∙_}
 use Prim.Native.Nat.{ℕ, _*_}
 use native.Mathlib.Omega.{arith}
 use borrow.Author.Needs.{needs}
-use Rattle.tree.specs.Tree.{blocks}
-use Rattle.level.specs.declared.Level.{Level}
+use Rattle.layer.specs.OneLayer.{nodesIn}
 use Rattle.layers.specs.Layers.{firstNodes}
 use Rattle.layers.specs.Steps.{first-small}
 use Rattle.layers.specs.CallLaws.{first-nodes, first-size}
@@ -18,14 +17,14 @@ mul-result : tie.Need-mul-result
 mul-result c =
     let s = c .before .before in
     let n : c .nodes .result ≡ firstNodes (s .args .limit) (s .args .bits) =
-    c .nodes .ensures ∙ ap (λ (l : Level). blocks (l .size) (l .bits)) (c .before .above .ensures) ∙ first-nodes (s .args .limit) (s .args .bits) in
+    c .nodes .ensures ∙ ap nodesIn (c .before .above .ensures) ∙ first-nodes (s .args .limit) (s .args .bits) in
     record { fits = omega (arith, n, first-small (s .args .limit) (s .args .bits) (omega (arith, s .fits .bits))) }
 
 returns : tie.Need-returns
 returns c =
     let s = c .before .before in
     ap (λ (k : ℕ). 16 * k)
-    (c .nodes .ensures ∙ ap (λ (l : Level). blocks (l .size) (l .bits)) (c .before .above .ensures) ∙ first-nodes (s .args .limit) (s .args .bits))
+    (c .nodes .ensures ∙ ap nodesIn (c .before .above .ensures) ∙ first-nodes (s .args .limit) (s .args .bits))
 
 pub words-used-spec : {M : Type 1} → statement M
 words-used-spec = tie.close (tie.spec (λ c κs. search needs) nodes-requires mul-result returns)

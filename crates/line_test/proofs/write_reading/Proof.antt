@@ -7,16 +7,14 @@ use Rattle.line_test.proofs.write_reading.Tie as tie
 
 write-key-requires : tie.Need-write-key-requires
 write-key-requires c κs =
-    let v = c .before .before .before .before .before .before .before .before .before .before .before .before .before .d .given .0 in
-    within (c .before .before .before .before .before .before .before .before .before .before .before .before .before .before .before .before .before .before .args .s) (v .0) (v .1 .0) (v .1 .1 .0) (v .1 .1 .1 .0)
-    (sym (c .before .before .before .before .before .before .before .before .before .before .before .before .before .before .before .reading .ensures) ∙ c .before .before .before .before .before .before .before .before .before .before .before .before .before .d .given .1)
+    let d = c .before .before in
+    let r = d .before .before in
+    let v = d .d .given .0 in
+    within (r .before .before .before .args .s) (v .0) (v .1 .0) (v .1 .1 .0) (v .1 .1 .1 .0) (sym (r .reading .ensures) ∙ d .d .given .1)
 
 pub write-reading-spec : {M : Type 1} → statement M
 write-reading-spec =
     tie.close
     (tie.spec
     (λ c κs. search needs) (λ c. search needs) (λ c. search needs) (λ c κs. search needs) (λ c. search needs)
-    (λ c κs. search needs) (λ c. search needs) (λ c κs. search needs) (λ c κs. search needs)
-    (λ c. search needs) (λ c κs. search needs) (λ c κs. search needs) (λ c. search needs)
-    (λ c κs. search needs) (λ c κs. search needs) (λ c. search needs) (λ c κs. search needs)
-    write-key-requires (λ c. search needs) (λ c κs. search needs) (λ c. search needs))
+    (λ c κs. search needs) write-key-requires (λ c. search needs) (λ c κs. search needs) (λ c. search needs))

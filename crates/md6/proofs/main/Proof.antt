@@ -26,13 +26,15 @@ write-first-requires-2 c κs = took-within _ _ (c .before .take .ensures)
 
 slice-aggregate-write-first-2 : tie.Need-slice-aggregate-write-first-2 Inv-loop μ-loop
 slice-aggregate-write-first-2 c =
-    let l = c .before .before .before .before .before .before .before .before .before .before .before .before .before .loop in
-    sym (take-length (l .program) (l .area) _ (l .out) (c .before .take .ensures) (omega arith) ∙ l .inv .1)
+    let t = c .before in
+    let l = t .before .before .before .before .before .before .before .before .before .before .before .before .loop in
+    sym (take-length (l .program) (l .area) _ (l .out) (t .take .ensures) (omega arith) ∙ l .inv .1)
 
 loop-again : tie.Need-loop-again Inv-loop μ-loop
 loop-again c =
-    let l = c .before .before .before .before .before .before .before .before .before .before .before .before .before .before .before .before .before .loop in
-    (search needs, take-length (l .program) (l .area) _ (l .out) (c .before .before .before .before .before .take .ensures) (omega arith) ∙ l .inv .1)
+    let t = c .before .before .before .before .before in
+    let l = t .before .before .before .before .before .before .before .before .before .before .before .before .loop in
+    (search needs, take-length (l .program) (l .area) _ (l .out) (t .take .ensures) (omega arith) ∙ l .inv .1)
 
 pub main-spec : {M : Type 1} → statement M
 main-spec =

@@ -7,14 +7,15 @@ use Rattle.node.proofs.compress_node.Statement.{statement}
 use Rattle.node.proofs.compress_node.Tie as tie
 
 fill-window-requires : tie.Need-fill-window-requires
-fill-window-requires c κs = let s = c .before .before .before .before in ((s .pre .0 .range, s .pre .0 .words), (s .pre .1, refl))
+fill-window-requires c κs = let start = c .before .before .before in (start .pre .0 .range, (start .pre .1, start .pre .0 .words, refl))
 
 returns : tie.Need-returns
 returns c =
-    let start = c .before .before .before .before .before .before .before .before in
+    let start = c .before .before .before .before .before .before .before in
     let a = start .args in
     c .compress .ensures
-    ∙ words-made (start .pre .0) (a .place) (a .block .now) _ (start .pre .1) (words-below (a .block .now) (c .before .before .before .before .before .shared-slice-known3 .given)) (c .before .before .before .fill-window .ensures)
+    ∙ words-made (start .pre .0) (a .place) (a .block .now) _ (start .pre .1)
+    (words-below (a .block .now) (c .before .before .before .before .before .shared-slice-known2 .given)) (c .before .before .before .fill-window .ensures)
 
 pub compress-node-spec : {M : Type 1} → statement M
 compress-node-spec =

@@ -7,21 +7,21 @@ use Rattle.node.proofs.compress_two.Statement.{statement}
 use Rattle.node.proofs.compress_two.Tie as tie
 
 fill-window-requires : tie.Need-fill-window-requires
-fill-window-requires c κs = let s = c .before .before .before .before .before in ((s .pre .0 .range, s .pre .0 .words), (s .pre .1 .0, refl))
+fill-window-requires c κs = let start = c .before .before .before .before in (start .pre .0 .range, (start .pre .1, start .pre .0 .words, refl))
 
 fill-window-requires-2 : tie.Need-fill-window-requires-2
-fill-window-requires-2 c κs = let s = c .before .before .before .before .before .before .before .before in ((s .pre .0 .range, s .pre .0 .words), (s .pre .1 .1, refl))
+fill-window-requires-2 c κs = let start = c .before .before .before .before .before .before .before in (start .pre .0 .range, (start .pre .2, start .pre .0 .words, refl))
 
 returns : tie.Need-returns
 returns c =
-    let start = c .before .before .before .before .before .before .before .before .before .before .before .before .before in
+    let start = c .before .before .before .before .before .before .before .before .before .before .before .before in
     let a = start .args in (
       c .compress-two .ensures .0
-          ∙ words-made (start .pre .0) (a .one) (a .one-block .now) _ (start .pre .1 .0)
-          (words-below (a .one-block .now) (c .before .before .before .before .before .before .before .before .before .before .shared-slice-known3 .given)) (c .before .before .before .before .before .before .before .fill-window .ensures),
+          ∙ words-made (start .pre .0) (a .one) (a .one-block .now) _ (start .pre .1)
+          (words-below (a .one-block .now) (c .before .before .before .before .before .before .before .before .before .before .shared-slice-known2 .given)) (c .before .before .before .before .before .before .before .fill-window .ensures),
       c .compress-two .ensures .1
-          ∙ words-made (start .pre .0) (a .other) (a .other-block .now) _ (start .pre .1 .1)
-          (words-below (a .other-block .now) (c .before .before .before .before .before .before .before .before .before .shared-slice-known4 .given)) (c .before .before .before .before .fill-window2 .ensures),
+          ∙ words-made (start .pre .0) (a .other) (a .other-block .now) _ (start .pre .2)
+          (words-below (a .other-block .now) (c .before .before .before .before .before .before .before .before .before .shared-slice-known3 .given)) (c .before .before .before .before .fill-window2 .ensures),
     )
 
 pub compress-two-spec : {M : Type 1} → statement M

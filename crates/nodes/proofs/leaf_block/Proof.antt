@@ -16,7 +16,9 @@ taken-requires : tie.Need-taken-requires
 taken-requires c κs = let s = c .before in leaf-index (s .args .span .bits) (s .args .index) (s .pre .1)
 
 mul-byte : tie.Need-mul-byte
-mul-byte c = let s = c .before .before .before .before in record { fits = omega (arith, leaf-index (s .args .span .bits) (s .args .index) (s .pre .1), s .good .1 .0) }
+mul-byte c =
+    let s = c .before .before .before .before in
+    record { fits = omega (arith, leaf-index (s .args .span .bits) (s .args .index) (s .pre .1), s .good .1 .0) }
 
 slice-aggregate-fill : tie.Need-slice-aggregate-fill
 slice-aggregate-fill c = sym (ap length (c .before .before .new .ensures))
@@ -26,7 +28,8 @@ fill-requires c κs =
     let empty = c .before .before in
     let n = empty .before .taken .ensures in
     let s = empty .before .before .before in
-    (omega arith, omega (arith, n, ap length (empty .new .ensures)), omega (arith, leaf-index (s .args .span .bits) (s .args .index) (s .pre .1), n, s .pre .0))
+    let i = leaf-index (s .args .span .bits) (s .args .index) (s .pre .1) in
+    (omega arith, omega (arith, n, ap length (empty .new .ensures)), omega (arith, i, n, s .pre .0))
 
 returns : tie.Need-returns
 returns c =

@@ -12,13 +12,24 @@ taken-requires : tie.Need-taken-requires
 taken-requires c κs = let s = c .before in message-index (s .args .span .bits) (s .args .index) (s .pre .1)
 
 mul-byte : tie.Need-mul-byte
-mul-byte c = let s = c .before .before in record { fits = omega (arith, message-index (s .args .span .bits) (s .args .index) (s .pre .1), s .good .1 .0) }
+mul-byte c =
+    let s = c .before .before in
+    record { fits = omega (arith, message-index (s .args .span .bits) (s .args .index) (s .pre .1), s .good .1 .0) }
 
 fill-requires : tie.Need-fill-requires
-fill-requires c κs = let s = c .before .before .before in (omega arith, omega (arith, c .before .taken .ensures), omega (arith, message-index (s .args .span .bits) (s .args .index) (s .pre .1), c .before .taken .ensures, s .pre .0))
+fill-requires c κs =
+    let n = c .before .taken .ensures in
+    let s = c .before .before .before in
+    let i = message-index (s .args .span .bits) (s .args .index) (s .pre .1) in
+    (omega arith, omega (arith, n), omega (arith, i, n, s .pre .0))
 
 returns : tie.Need-returns
-returns c = let taken = c .before .before .before in let s = taken .before .before in c .before .fill .ensures ∙ message-filled (spanned (s .args .message .now) (s .args .span)) (s .args .index) (taken .taken .result) (s .pre .0) (s .pre .1) (taken .taken .ensures)
+returns c =
+    let taken = c .before .before .before in
+    let s = taken .before .before in
+    let a = s .args in
+    c .before .fill .ensures
+    ∙ message-filled (spanned (a .message .now) (a .span)) (a .index) (taken .taken .result) (s .pre .0) (s .pre .1) (taken .taken .ensures)
 
 pub message-words-spec : {M : Type 1} → statement M
 message-words-spec =

@@ -1,15 +1,14 @@
 -- `nodes::sequential` meets its contract. The loop's invariant: the chain after i nodes.
-use Rattle.nodes.specs.SequentialLaws.{chain-more}
-use Rattle.node.specs.Words.{paramsFrom}
-use Rattle.nodes.specs.ValueLaws.{chain-zero, length-chain}
+use Rattle.nodes.specs.SequentialLaws.{chain-more, chain-all}
+use Rattle.node.specs.Words.{treeParams}
+use Rattle.nodes.specs.ValueLaws.{chain-zero}
 use Rattle.shape.specs.Shape.{sequentialNodes}
 use Rattle.nodes.specs.Value.{chain}
-use Rattle.bits.specs.Piece.{pieceBits}
-use Rattle.bits.specs.PieceLaws.{spanned}
+use Rattle.bits.specs.PieceLaws.{spanned, spanBits}
 use Rattle.bits.specs.Bits.{digit}
 use lib.ListN.{length}
 use lib.Dec.{eqb}
-use Prim.Native.Nat.{ℕ, suc, _+_, _-_, _≤_}
+use Prim.Native.Nat.{ℕ, suc, _-_, _≤_}
 use mathlib.Core.Path.{_≡_, refl, sym, _∙_, ap}
 use borrow.Author.Needs.{needs}
 use native.Mathlib.Omega.{arith}
@@ -17,13 +16,16 @@ use Rattle.nodes.proofs.sequential.Statement.{statement}
 use Rattle.nodes.proofs.sequential.Tie as tie
 
 abbrev Inv-loop : tie.InvT-loop
-Inv-loop message span params k constants nodes last₀ i₀ last i = (i ≤ nodes) × (last ≡ chain (paramsFrom k params) (params .limit) (pieceBits (spanned message span)) i) × (length last ≡ 16)
+Inv-loop message span keyed constants nodes last₀ i₀ last i =
+    (i ≤ nodes) × (last ≡ chain (treeParams keyed) (keyed .params .limit) (spanBits message span) i) × (length last ≡ 16)
 
 abbrev μ-loop : tie.MeasureT-loop
-μ-loop message span params k constants nodes last₀ i₀ last i = nodes - i
+μ-loop message span keyed constants nodes last₀ i₀ last i = nodes - i
 
 loop-holds : tie.Need-loop-holds Inv-loop μ-loop
-loop-holds c = let a = c .before .before .before .before .args in (omega arith, sym (chain-zero (paramsFrom (a .k .now) (a .params)) (pieceBits (spanned (a .message .now) (a .span))) (a .params .limit)), refl)
+loop-holds c =
+    let a = c .before .before .before .args in
+    (omega arith, sym (chain-zero (treeParams (a .keyed)) (spanBits (a .message .now) (a .span)) (a .keyed .params .limit)), refl)
 
 last-flag-requires : tie.Need-last-flag-requires Inv-loop μ-loop
 last-flag-requires c κs = c .loop-test .taken
@@ -34,7 +36,7 @@ slice-aggregate-sequential-value c = sym (c .before .before .before .loop .inv .
 sequential-value-requires : tie.Need-sequential-value-requires Inv-loop μ-loop
 sequential-value-requires c κs =
     let at = c .before .before .before in
-    let s = at .before .before .before .before .before in (
+    let s = at .before .before .before .before in (
       s .pre,
       (
         omega (arith, at .before .sequential-nodes .ensures, c .before .before .loop-test .taken),
@@ -52,28 +54,28 @@ loop-less c = omega (arith, c .before .before .before .loop-test .taken)
 loop-again : tie.Need-loop-again Inv-loop μ-loop
 loop-again c =
     let at = c .before .before .before .before in
-    let s = at .before .before .before .before .before in
+    let s = at .before .before .before .before in
     let a = s .args in
-    let P = (paramsFrom (a .k .now) (a .params)) in
-    let M = (pieceBits (spanned (a .message .now) (a .span))) in
-    let z = c .before .before .last-flag .result in
-    let ez : z ≡ digit (eqb (suc (at .loop .i)) (sequentialNodes (a .params .limit) (a .span .bits))) =
-    c .before .before .last-flag .ensures .0 ∙ ap (λ (n : ℕ). digit (eqb (suc (at .loop .i)) n)) (at .before .sequential-nodes .ensures) in
-    let e : c .sequential-value .result ≡ chain P (a .params .limit) M (at .loop .i + 1) =
-    c .sequential-value .ensures
-    ∙ chain-more P (a .params .limit) (spanned (a .message .now) (a .span)) (at .loop .i) z (at .loop .last) (s .pre .enough) ez (at .loop .inv .1) in (
+    let P = treeParams (a .keyed) in
+    let m = spanned (a .message .now) (a .span) in
+    let flag = c .before .before .last-flag in
+    let ez : flag .result ≡ digit (eqb (suc (at .loop .i)) (sequentialNodes (a .keyed .params .limit) (a .span .bits))) =
+    flag .ensures .0 ∙ ap (λ (n : ℕ). digit (eqb (suc (at .loop .i)) n)) (at .before .sequential-nodes .ensures) in (
       omega (arith, c .before .before .before .loop-test .taken),
-      e,
-      ap length e ∙ length-chain P M (a .params .limit) (at .loop .i + 1),
+      c .sequential-value .ensures
+          ∙ chain-more P (a .keyed .params .limit) m (at .loop .i) (flag .result) (at .loop .last) (s .pre .enough) ez (at .loop .inv .1),
+      omega (arith, c .sequential-value .ok),
     )
 
 returns : tie.Need-returns Inv-loop μ-loop
 returns c =
     let at = c .before in
-    let s = at .before .before .before .before .before in
+    let s = at .before .before .before .before in
     let a = s .args in
-    let e : at .loop .i ≡ sequentialNodes (a .params .limit) (a .span .bits) = omega (arith, at .loop .inv .0, c .loop-test .left, at .before .sequential-nodes .ensures) in
-    at .loop .inv .1 ∙ ap (chain (paramsFrom (a .k .now) (a .params)) (a .params .limit) (pieceBits (spanned (a .message .now) (a .span)))) e
+    let all : at .loop .i ≡ sequentialNodes (a .keyed .params .limit) (a .span .bits) =
+    omega (arith, at .loop .inv .0, c .loop-test .left, at .before .sequential-nodes .ensures) in
+    chain-all (treeParams (a .keyed)) (a .keyed .params .limit) (spanned (a .message .now) (a .span)) (at .loop .i) (at .loop .last)
+    (s .pre .enough) all (at .loop .inv .1)
 
 pub sequential-spec : {M : Type 1} → statement M
 sequential-spec =

@@ -1,17 +1,16 @@
 -- `numbers::digest_bytes` meets its contract.
-use native.Mathlib.Omega.{arith}
-use mathlib.Core.Path.{sym, ap}
+use mathlib.Core.Path.{sym, ap, _∙_}
 use Rattle.tree.specs.Tree.{digestBytes}
 use Rattle.climb.specs.OpenArea.{open-range, size-read}
 use borrow.Author.Needs.{needs}
 use Rattle.numbers.proofs.digest_bytes.Statement.{statement}
 use Rattle.numbers.proofs.digest_bytes.Tie as tie
 
-add-result : tie.Need-add-result
-add-result c = omega (arith, open-range (c .before .pre) .dHigh)
+digest-bytes-requires : tie.Need-digest-bytes-requires
+digest-bytes-requires c κs = open-range (c .before .before .pre) .dHigh
 
 returns : tie.Need-returns
-returns c = ap digestBytes (sym (size-read (c .before .args .area .now)))
+returns c = c .digest-bytes .ensures ∙ ap digestBytes (sym (size-read (c .before .before .before .args .area .now)))
 
 pub digest-bytes-spec : {M : Type 1} → statement M
-digest-bytes-spec = tie.close (tie.spec (λ c. search needs) add-result returns)
+digest-bytes-spec = tie.close (tie.spec (λ c. search needs) digest-bytes-requires returns)

@@ -2,27 +2,21 @@
 use native.Mathlib.Omega.{arith}
 use mathlib.Core.Path.{_∙_}
 use Rattle.bits.specs.PieceLaws.{spanned}
-use Rattle.numbers.specs.NumberLaws.{area-passed, feed-decided}
+use Rattle.calls.specs.Calls.{feedNumber}
+use Rattle.numbers.specs.NumberLaws.{openFeedNumber, Decided, feed-decided}
 use Rattle.numbers.proofs.feed_number.Statement.{statement}
 use Rattle.numbers.proofs.feed_number.Tie as tie
 
-returns : tie.Need-returns
-returns c =
-    let number = c .before in
-    let a = number .before .before .before .before .args in
-    feed-decided (a .area .now) (spanned (a .piece .now) (a .span)) (a .log .now) (number .area-number .ensures) .by-area (c .if1 .taken)
+module _ (n : tie.After-area-number) where
+  abbrev a : tie.Start
+  a = n .before .before .before .before
 
-open-feed-number-requires : tie.Need-open-feed-number-requires
-open-feed-number-requires c κs =
-    let number = c .before in
-    area-passed (number .before .before .before .before .args .area .now) (number .area-number .ensures) (c .if1 .left)
-
-returns-2 : tie.Need-returns-2
-returns-2 c =
-    let test = c .before in
-    let number = test .before in
-    let a = number .before .before .before .before .args in
-    c .open-feed-number .ensures ∙ feed-decided (a .area .now) (spanned (a .piece .now) (a .span)) (a .log .now) (number .area-number .ensures) .by-later (test .if1 .left)
+  decided : Decided (a .args .area .now) (n .area-number .result) (openFeedNumber (a .args .area .now) (spanned (a .args .piece .now) (a .args .span)) (a .args .log .now)) (feedNumber (a .args .area .now) (spanned (a .args .piece .now) (a .args .span)) (a .args .log .now))
+  decided = feed-decided (a .args .area .now) (spanned (a .args .piece .now) (a .args .span)) (a .args .log .now) (n .area-number .ensures)
 
 pub feed-number-spec : {M : Type 1} → statement M
-feed-number-spec = tie.close (tie.spec (λ c κs. omega arith) returns open-feed-number-requires returns-2)
+feed-number-spec =
+    tie.close
+    (tie.spec
+    (λ c κs. omega arith) (λ c. decided (c .before) .by-area (c .if1 .taken)) (λ c κs. decided (c .before) .opened (c .if1 .left))
+    (λ c. c .open-feed-number .ensures ∙ decided (c .before .before) .by-later (c .before .if1 .left)))

@@ -1,28 +1,25 @@
 -- `numbers::log_words_number` meets its contract.
 use native.Mathlib.Omega.{arith}
+use mathlib.Core.List.{[], _∷_}
 use mathlib.Core.Path.{_∙_}
-use Rattle.numbers.specs.NumberLaws.{area-passed, logWords-decided}
+use Rattle.refusals.specs.Refusals.{firstRefusal}
+use Rattle.calls.specs.Area.{totalOf}
+use Rattle.calls.specs.Calls.{totalTest, logWordsNumber}
+use Rattle.numbers.specs.NumberLaws.{Decided, logWords-decided}
 use Rattle.numbers.proofs.log_words_number.Statement.{statement}
 use Rattle.numbers.proofs.log_words_number.Tie as tie
 
-returns : tie.Need-returns
-returns c =
-    let number = c .before in
-    let a = number .before .before .args in
-    logWords-decided (a .area .now) (a .bits) (number .area-number .ensures) .by-area (c .if1 .taken)
+module _ (n : tie.After-area-number) where
+  abbrev a : tie.Start
+  a = n .before .before
 
-shared-slice-read-total-number : tie.Need-shared-slice-read-total-number
-shared-slice-read-total-number c =
-    let test = c .before in
-    let number = test .before in
-    omega (arith, area-passed (number .before .before .args .area .now) (number .area-number .ensures) (test .if1 .left) .long)
-
-returns-2 : tie.Need-returns-2
-returns-2 c =
-    let test = c .before .before in
-    let number = test .before in
-    let a = number .before .before .args in
-    c .total-number .ensures ∙ logWords-decided (a .area .now) (a .bits) (number .area-number .ensures) .by-later (test .if1 .left)
+  decided : Decided (a .args .area .now) (n .area-number .result) (firstRefusal (totalTest (totalOf (a .args .area .now)) (a .args .bits) ∷ [])) (logWordsNumber (a .args .area .now) (a .args .bits))
+  decided = logWords-decided (a .args .area .now) (a .args .bits) (n .area-number .ensures)
 
 pub log-words-number-spec : {M : Type 1} → statement M
-log-words-number-spec = tie.close (tie.spec (λ c κs. omega arith) returns shared-slice-read-total-number (λ c κs. omega arith) returns-2)
+log-words-number-spec =
+    tie.close
+    (tie.spec
+    (λ c κs. omega arith) (λ c. decided (c .before) .by-area (c .if1 .taken))
+    (λ c. omega (arith, decided (c .before .before) .opened (c .before .if1 .left) .long)) (λ c κs. omega arith)
+    (λ c. c .total-number .ensures ∙ decided (c .before .before .before) .by-later (c .before .before .if1 .left)))

@@ -1,45 +1,31 @@
 -- `numbers::nodes_left` meets its contract.
+use native.Mathlib.Omega.{arith}
+use mathlib.Core.List.{List}
+use mathlib.Core.Path.{_≡_, sym, _∙_}
+use Prim.Native.Nat.{ℕ, _+_}
+use lib.ListN.{length}
+use Rattle.calls.specs.Area.{compressionsOf}
+use Rattle.calls.specs.Calls.{lastNodesOf}
 use Rattle.climb.specs.OpenArea.{open-range}
 use Rattle.numbers.specs.NumberLaws.{count-left}
-use native.Mathlib.Omega.{arith}
 use Rattle.numbers.proofs.nodes_left.Statement.{statement}
 use Rattle.numbers.proofs.nodes_left.Tie as tie
 
-shared-slice-read-tree-nodes : tie.Need-shared-slice-read-tree-nodes
-shared-slice-read-tree-nodes c = omega (arith, c .before .before .pre .long)
+-- the whole tree's nodes are those that were made and those that are left
+module _ (c : tie.After-shared-slice-known4) where
+  abbrev start : tie.Start
+  start = c .before .before .before .before .before
 
-shared-slice-read-tree-nodes-2 : tie.Need-shared-slice-read-tree-nodes-2
-shared-slice-read-tree-nodes-2 c =
-    let start = c .before .before .before in
-    omega (arith, start .pre .long)
+  abbrev area : List ℕ
+  area = start .args .area .now
 
-tree-nodes-requires : tie.Need-tree-nodes-requires
-tree-nodes-requires c κs =
-    let start = c .before .before .before in
-    open-range (start .pre) .limitHigh
-
-shared-slice-read-result : tie.Need-shared-slice-read-result
-shared-slice-read-result c =
-    let start = c .before .before .before .before .before in
-    omega (arith, start .pre .long)
-
-sub-result : tie.Need-sub-result
-sub-result c =
-    let start = c .before .before .before .before .before in
-    omega (arith, c .before .tree-nodes .ensures, count-left (start .pre) (omega (arith, c .shared-slice-known4 .given 1)))
-
-returns : tie.Need-returns
-returns c =
-    let start = c .before .before .before .before .before in
-    omega (arith, c .before .tree-nodes .ensures, count-left (start .pre) (omega (arith, c .shared-slice-known4 .given 1)))
+  counted : length (lastNodesOf area) + compressionsOf area ≡ c .before .tree-nodes .result
+  counted = count-left (start .pre) (omega (arith, c .shared-slice-known4 .given 1)) ∙ sym (c .before .tree-nodes .ensures)
 
 pub nodes-left-spec : {M : Type 1} → statement M
 nodes-left-spec =
     tie.close
     (tie.spec
-    shared-slice-read-tree-nodes
-    shared-slice-read-tree-nodes-2
-    tree-nodes-requires
-    shared-slice-read-result
-    sub-result
-    returns)
+    (λ c. omega (arith, c .before .before .pre .long)) (λ c. omega (arith, c .before .before .before .pre .long))
+    (λ c κs. open-range (c .before .before .before .pre) .limitHigh) (λ c. omega (arith, start c .pre .long))
+    (λ c. omega (arith, counted c)) (λ c. omega (arith, counted c)))

@@ -1,27 +1,25 @@
 -- `numbers::preview_number` meets its contract.
+use mathlib.Core.List.{[], _∷_}
 use mathlib.Core.Path.{_∙_}
-use Rattle.numbers.specs.NumberLaws.{area-passed, preview-decided}
 use borrow.Author.Needs.{needs}
+use Rattle.tree.specs.Tree.{digestBytes}
+use Rattle.refusals.specs.Refusals.{firstRefusal, outputTest}
+use Rattle.calls.specs.Area.{paramsOf}
+use Rattle.calls.specs.Calls.{previewNumber}
+use Rattle.numbers.specs.NumberLaws.{Decided, preview-decided}
 use Rattle.numbers.proofs.preview_number.Statement.{statement}
 use Rattle.numbers.proofs.preview_number.Tie as tie
 
-returns : tie.Need-returns
-returns c =
-    let number = c .before in
-    let a = number .before .before .before .args in
-    preview-decided (a .area .now) (a .digest .now) (number .area-number .ensures) .by-area (c .if1 .taken)
+module _ (n : tie.After-area-number) where
+  abbrev a : tie.Start
+  a = n .before .before .before
 
-output-number-requires : tie.Need-output-number-requires
-output-number-requires c κs =
-    let number = c .before in
-    area-passed (number .before .before .before .args .area .now) (number .area-number .ensures) (c .if1 .left)
-
-returns-2 : tie.Need-returns-2
-returns-2 c =
-    let test = c .before in
-    let number = test .before in
-    let a = number .before .before .before .args in
-    c .output-number .ensures ∙ preview-decided (a .area .now) (a .digest .now) (number .area-number .ensures) .by-later (test .if1 .left)
+  decided : Decided (a .args .area .now) (n .area-number .result) (firstRefusal (outputTest (digestBytes (paramsOf (a .args .area .now) .d)) (a .args .digest .now) ∷ [])) (previewNumber (a .args .area .now) (a .args .digest .now))
+  decided = preview-decided (a .args .area .now) (a .args .digest .now) (n .area-number .ensures)
 
 pub preview-number-spec : {M : Type 1} → statement M
-preview-number-spec = tie.close (tie.spec (λ c κs. search needs) returns output-number-requires returns-2)
+preview-number-spec =
+    tie.close
+    (tie.spec
+    (λ c κs. search needs) (λ c. decided (c .before) .by-area (c .if1 .taken)) (λ c κs. decided (c .before) .opened (c .if1 .left))
+    (λ c. c .output-number .ensures ∙ decided (c .before .before) .by-later (c .before .if1 .left)))

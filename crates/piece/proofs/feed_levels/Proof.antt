@@ -3,9 +3,8 @@ use mathlib.Core.Path.{refl, sym}
 use lib.ListN.{getD}
 use Rattle.lists.specs.Slices.{words-below}
 use Rattle.bits.specs.PieceLaws.{spanned}
-use Rattle.calls.specs.Area.{kOf}
 use Rattle.climb.specs.FlushLaws.{le-at}
-use Rattle.climb.specs.OpenArea.{numbered}
+use Rattle.climb.specs.OpenArea.{keyedOf}
 use Rattle.piece.specs.FeedSteps.{free-le, base-place}
 use Rattle.piece.specs.ChunkLaws.{chunk-free}
 use Rattle.piece.specs.PieceLaws.{fed-start, whole-part}
@@ -48,7 +47,7 @@ returns-2 c =
     let a = start .args in
     let area = a .area .now in
     rw (fed-start area (spanned (a .piece .now) (a .span))) at
-    (chunk-free (whole-part (start .pre)) (words-below area (known .slice-known .given)) (kOf area) (numbered area) (getD area 1 0) (a .log .now) 0 (free-of .free-of .ensures) (test .if1 .left) (fill-level .fill-level .ensures))
+    (chunk-free (whole-part (start .pre)) (words-below area (known .slice-known .given)) (keyedOf area) (getD area 1 0) (a .log .now) 0 (free-of .free-of .ensures) (test .if1 .left) (fill-level .fill-level .ensures))
 
 pub feed-levels-spec : {M : Type 1} → statement M
 feed-levels-spec =

@@ -23,7 +23,8 @@ feed-levels-requires c κs =
 
 add-area : tie.Need-add-area
 add-area c =
-    let start = c .before .before .before .before .before .before .before .before .before .before .before .before .before in
+    let fed = c .before .before .before .before .before in
+    let start = fed .before .before .before .before .before .before .before .before in
     record { fits = start .pre .total }
 
 add-area-2 : tie.Need-add-area-2
@@ -34,7 +35,8 @@ add-area-2 c =
 
 slice-write-area-2 : tie.Need-slice-write-area-2
 slice-write-area-2 c =
-    let start = c .before .before .before .before .before .before .before .before .before .before .before .before .before in
+    let fed = c .before .before .before .before .before in
+    let start = fed .before .before .before .before .before .before .before .before in
     simp length-set (omega (arith, start .pre .opened .long))
 
 returns : tie.Need-returns

@@ -1,6 +1,6 @@
 -- `shape::padding` meets its contract.
 use Rattle.shape.specs.ShapeLaws.{leaf-index, child-index, padding-leaf, padding-above}
-use Rattle.shape.specs.Shape.{held}
+use Rattle.shape.specs.Shape.{taken}
 use Prim.Native.Nat.{ℕ, _-_, _*_}
 use mathlib.Core.Path.{_∙_, ap}
 use native.Mathlib.Omega.{arith}
@@ -18,7 +18,7 @@ taken-requires-2 : tie.Need-taken-requires-2
 taken-requires-2 c κs = let s = c .before .before in rw (c .nodes-at .ensures) (child-index (s .args .bits) (s .args .level) (s .args .index) (omega (arith, s .pre .0, c .before .if1 .left)) (s .pre .1))
 
 returns-2 : tie.Need-returns-2
-returns-2 c = let s = c .before .before .before in (ap (λ (n : ℕ). 1024 * (4 - n)) (c .taken2 .ensures ∙ ap (λ (m : ℕ). held 4 m (s .args .index)) (c .before .nodes-at .ensures)) ∙ padding-above (s .args .bits) (s .args .level) (s .args .index) (omega (arith, s .pre .0, c .before .before .if1 .left)), omega (arith, c .taken2 .ensures))
+returns-2 c = let s = c .before .before .before in (ap (λ (n : ℕ). 1024 * (4 - n)) (c .taken2 .ensures ∙ ap (λ (m : ℕ). taken 4 m (s .args .index)) (c .before .nodes-at .ensures)) ∙ padding-above (s .args .bits) (s .args .level) (s .args .index) (omega (arith, s .pre .0, c .before .before .if1 .left)), omega (arith, c .taken2 .ensures))
 
 pub padding-spec : {M : Type 1} → statement M
 padding-spec =

@@ -20,7 +20,7 @@ returns c =
     let k = c .before .before in
     let a = k .before .before .before .before .before .before .before .args in
     rw (c .refused .ensures .0, c .refused .ensures .1)
-    (read-refused (a .area .now) (a .text .now) (k .read-number .result) (k .read-number .ensures ∙ read-decided (a .area .now) _ _ _ _ (tried (k .before))) (c .before .if1 .taken))
+    (read-refused (a .area .now) (a .text .now) (k .first-of-two .result) (k .first-of-two .ensures ∙ read-decided (a .area .now) _ _ _ _ (tried (k .before))) (c .before .if1 .taken))
 
 part-copy-end : tie.Need-part-copy-end
 part-copy-end c = omega (arith, tried (c .before .before .before .before) .size)
@@ -30,7 +30,7 @@ copy-requires c κs =
     let e = c .before .before .before in
     let k = e .before in
     let a = k .before .before .before .before .before .before .before .args in
-    let z = sym (e .if1 .left) ∙ k .read-number .ensures ∙ read-decided (a .area .now) _ _ _ _ (tried (k .before)) in
+    let z = sym (e .if1 .left) ∙ k .first-of-two .ensures ∙ read-decided (a .area .now) _ _ _ _ (tried (k .before)) in
     rw length-take (omega (arith, read-room (a .area .now) _ _ _ _ (tried (k .before)) z))
 
 returns-2 : tie.Need-returns-2
@@ -39,7 +39,7 @@ returns-2 c =
     let e = copy .before .before .before .before in
     let k = e .before in
     let a = k .before .before .before .before .before .before .before .args in
-    let z = sym (e .if1 .left) ∙ k .read-number .ensures ∙ read-decided (a .area .now) _ _ _ _ (tried (k .before)) in
+    let z = sym (e .if1 .left) ∙ k .first-of-two .ensures ∙ read-decided (a .area .now) _ _ _ _ (tried (k .before)) in
     rw (c .accepted .ensures .0, c .accepted .ensures .1) (read-done (a .area .now) _ _ _ _ (tried (k .before)) z (copy .copy .last .0) (copy .copy .ensures))
 
 pub read-spec : {M : Type 1} → statement M

@@ -9,15 +9,16 @@ use Rattle.area.proofs.Area.level.Tie as tie
 
 returns : tie.Need-returns
 returns c =
-    let start = c .before in
+    let first = c .before in
+    let start = first .before .before in
     let area = start .args .area .now in
     let k = start .args .level in
     let e = lent-level area k in
-    (record { words = e; size = ap length e ∙ length-levelWords area k (start .pre .0) (start .pre .2) }, (refl, refl))
+    rw (first .level-start .ensures) (record { words = e; size = ap length e ∙ length-levelWords area k (start .pre .0) (start .pre .2) }, (refl, refl))
 
 pub level-spec : {M : Type 1} → statement M
 level-spec =
     tie.close
     (tie.spec
     (λ c. omega arith) (λ c. omega arith) (λ c. omega arith) (λ c. omega arith) (λ c. omega arith)
-    (λ c. omega arith) (λ c. omega arith) (λ c. omega arith) returns)
+    (λ c. omega arith) returns)

@@ -1,15 +1,16 @@
 -- `area::levels::open_sound` meets its contract.
 use native.Mathlib.Omega.{arith}
 use mathlib.Core.Path.{_≡_, refl, sym, ap, _∙_}
+use mathlib.Core.Bool.{Bool, true, false, _&&_}
+use mathlib.Core.List.{List}
 use Prim.Native.Nat.{ℕ, _+_, _-_}
 use lib.ListN.{getD}
 use borrow.Author.Tests.{not-true, not-false}
 use Rattle.tree.specs.Tree.{blockBits}
-use Rattle.calls.specs.Area.{levelWords, levelsUp, doneBlocks, heldBits}
+use Rattle.calls.specs.Area.{levelWords, levelsUp, levelsOf, doneBlocks}
 use Rattle.calls.specs.AreaLaws.{limit-word}
 use Rattle.calls.specs.SoundParts.{emptyFrom}
-use Rattle.area.specs.LevelTests.{soundAbove}
-use Rattle.lists.specs.And.{and-first, and-second}
+use Rattle.area.specs.LevelTests.{soundAbove, soundOpen}
 use Rattle.area.specs.SoundLaws.{open-none, open-more}
 use Rattle.area.proofs.levels.open_sound.Statement.{statement}
 use Rattle.area.proofs.levels.open_sound.Tie as tie
@@ -24,30 +25,29 @@ returns c =
     ∙ rw (held-bits .held-bits .ensures, done-blocks .done-blocks .ensures) refl
     ∙ sym (open-none area (getD area 4 0) (getD area 1 0) (sym (limit-word area)) (test .if1 .taken))
 
+-- after the test of level 1: it and the levels above it are sound if all are
+module _ (d : tie.After-empty-from) where
+  abbrev area : List ℕ
+  area = d .before .before .before .before .before .before .before .args .area .now
+
+  abbrev above : ℕ → Bool
+  above done = soundAbove (getD area 4 0 - 1) done (levelsUp area 2)
+
+  turn : (b : Bool) → d .empty-from .result ≡ b
+      → (b && above (doneBlocks blockBits (getD area 1 0))) ≡ soundOpen (getD area 4 0) (getD area 1 0) (levelsOf area)
+  turn b e =
+      let f = d .empty-from .ensures ∙ ap (λ (x : ℕ). emptyFrom x (levelWords area 1)) (d .before .held-bits2 .ensures) in
+      ap (λ (x : Bool). x && above (doneBlocks blockBits (getD area 1 0))) (sym e ∙ f) ∙ sym (open-more area (getD area 4 0) (getD area 1 0) (d .before .before .if1 .left))
+
 returns-2 : tie.Need-returns-2
-returns-2 c =
-    let empty-from = c .before in
-    let held-bits = empty-from .before in
-    let test = held-bits .before in
-    let area = test .before .before .before .before .before .args .area .now in
-    let L = getD area 4 0 in
-    let T = getD area 1 0 in
-    let e = ap (λ (x : ℕ). emptyFrom x (levelWords area 1)) (sym (held-bits .held-bits2 .ensures)) ∙ sym (empty-from .empty-from .ensures) ∙ not-true (empty-from .empty-from .result) (c .if2 .taken) in
-    sym (open-more area L T (test .if1 .left) ∙ and-first (emptyFrom (heldBits blockBits T) (levelWords area 1)) (soundAbove (L - 1) (doneBlocks blockBits T) (levelsUp area 2)) e)
+returns-2 c = turn (c .before) false (not-true (c .before .empty-from .result) (c .if2 .taken))
 
 returns-3 : tie.Need-returns-3
 returns-3 c =
-    let test2 = c .before .before in
-    let empty-from = test2 .before in
-    let held-bits = empty-from .before in
-    let test = held-bits .before in
-    let area = test .before .before .before .before .before .args .area .now in
-    let L = getD area 4 0 in
-    let T = getD area 1 0 in
-    let e = ap (λ (x : ℕ). emptyFrom x (levelWords area 1)) (sym (held-bits .held-bits2 .ensures)) ∙ sym (empty-from .empty-from .ensures) ∙ not-false (empty-from .empty-from .result) (test2 .if2 .left) in
+    let test = c .before .before in
     c .above-sound .ensures
-    ∙ ap (λ (x : ℕ). soundAbove (L - 1) x (levelsUp area 2)) (c .before .done-blocks2 .ensures)
-    ∙ sym (open-more area L T (test .if1 .left) ∙ and-second (emptyFrom (heldBits blockBits T) (levelWords area 1)) (soundAbove (L - 1) (doneBlocks blockBits T) (levelsUp area 2)) e)
+    ∙ ap (above (test .before)) (c .before .done-blocks2 .ensures)
+    ∙ turn (test .before) true (not-false (test .before .empty-from .result) (test .if2 .left))
 
 above-sound-requires : tie.Need-above-sound-requires
 above-sound-requires c κs =

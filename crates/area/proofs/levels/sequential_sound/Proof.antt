@@ -4,8 +4,7 @@ use mathlib.Core.Path.{sym, _∙_}
 use Prim.Native.Nat.{_+_}
 use lib.ListN.{take}
 use borrow.Author.Tests.{not-true, not-false}
-use Rattle.tree.specs.Tree.{outputBits}
-use Rattle.calls.specs.Area.{outputWords}
+use Rattle.tree.specs.Tree.{outputBits, outputWords}
 use Rattle.calls.specs.SoundParts.{emptyFrom}
 use Rattle.lists.specs.And.{and-first, and-second}
 use Rattle.area.specs.SoundLaws.{sequential-kept, sequential-none}

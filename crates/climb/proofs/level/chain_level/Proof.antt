@@ -17,7 +17,7 @@ join-requires : tie.Need-join-requires
 join-requires c κs =
     let clear-level = c .before .before .before in
     let start = clear-level .before .before .before .before in
-    (level-still (start .pre .0) emptyLevel length-empty (clear-level .clear-level .ensures), omega arith, start .pre .1)
+    record { level = level-still (start .pre .0) emptyLevel length-empty (clear-level .clear-level .ensures); inside = omega arith; words = start .pre .1 }
 
 pub chain-level-spec : {M : Type 1} → statement M
 chain-level-spec =

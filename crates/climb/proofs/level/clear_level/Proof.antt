@@ -13,15 +13,16 @@ unfolding emptyLevel
 returns c =
     let clear = c .before .before in
     let clear-arg = clear .before in
-    let start = clear-arg .before .before in
+    let first = clear-arg .before in
+    let start = first .before .before in
     let area = start .args .area .now in
     let k = start .args .level in
-    let zs = clear .clear .ensures ∙ ap (λ (n : ℕ). replicate n 0) (clear-arg .clear-arg .given .2 ∙ lent-size k) in
-    rw zs (lent-put area k emptyLevel)
+    let zs = clear .clear .ensures ∙ ap (λ (n : ℕ). replicate n 0) (clear-arg .clear-arg .given .2 ∙ lent-size (first .level-start .result)) in
+    rw (zs, first .level-start .ensures) (lent-put area k emptyLevel)
 
 pub clear-level-spec : {M : Type 1} → statement M
 clear-level-spec =
     tie.close
     (tie.spec
     (λ c. omega arith) (λ c. omega arith) (λ c. omega arith) (λ c. omega arith) (λ c. omega arith)
-    (λ c. omega arith) (λ c. omega arith) (λ c. omega arith) (λ c κs. omega arith) (λ c. omega arith) returns)
+    (λ c. omega arith) (λ c κs. omega arith) (λ c. omega arith) returns)

@@ -6,8 +6,8 @@ use Rattle.climb.proofs.level.make_level.Tie as tie
 make-node-requires : tie.Need-make-node-requires
 make-node-requires c κs =
     let place = c .before in
-    let start = place .before .before .before .before .before .before in
-    (start .pre .0, rw (place .full-place .ensures) (omega arith))
+    let start = place .before .before .before .before .before in
+    (start .pre .0, rw (place .full-place .ensures) (omega arith), omega arith)
 
 returns : tie.Need-returns
 returns c =

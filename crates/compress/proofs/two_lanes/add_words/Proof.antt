@@ -13,7 +13,7 @@ returns : tie.Need-returns
 returns c =
     let start = c .before .before .before .before .before in
     let a = start .args in
-    put-both (a .a .now) (start .pre .0 .2) (a .i) (a .s) (a .r) (a .t) (start .pre .1) (start .pre .2) _ _
+    put-both (a .a .now) (start .pre .0 .2) (a .i) (a .s) (a .by .r) (a .by .l) (start .pre .1) (start .pre .2) _ _
     (c .before .before .new-word .ensures) (c .new-word2 .ensures)
 
 pub add-words-spec : {M : Type 1} → statement M

@@ -1,11 +1,11 @@
 -- `round` meets its contract: after j turns the first j words of the round are written in both lanes.
 use mathlib.Core.Path.{_≡_, refl}
 use mathlib.Core.List.{List}
-use Prim.Native.Nat.{ℕ, _-_, _≤_, _<_}
-use lib.ListN.{length, getD}
+use Prim.Native.Nat.{ℕ, _-_, _≤_}
+use lib.ListN.{length}
 use Rattle.compress.specs.Compress.{shiftsR, shiftsT}
 use Rattle.compress.specs.Buffer.{putRound, Lanes}
-use Rattle.compress.proofs.Laws.{small-shift}
+use Rattle.compress.proofs.Laws.{small-shifts}
 use Rattle.compress.proofs.LaneLaws.{put-next}
 use borrow.Author.Needs.{needs}
 use native.Mathlib.Omega.{arith}
@@ -30,20 +30,14 @@ loop-holds : tie.Need-loop-holds Inv-loop μ-loop Inv-loop2 μ-loop2
 unfolding putRound
 loop-holds c = (search needs, refl, λ j h. refl, refl, refl)
 
-add-words-requires : tie.Need-add-words-requires Inv-loop μ-loop Inv-loop2 μ-loop2
-add-words-requires c κs =
-    let j = c .before .before .loop .j in
-    let right : getD shiftsR j 0 < 64 = small-shift shiftsR tt j (omega arith) in
-    let left : getD shiftsT j 0 < 64 = small-shift shiftsT tt j (omega arith) in
-    omega arith
-
 loop-again : tie.Need-loop-again Inv-loop μ-loop Inv-loop2 μ-loop2
 loop-again c =
     let z = c .before .before .before .before .before in
     let start = z .before .before in (
       search needs,
       search needs,
-      put-next (z .loop .j) (start .args .i) (start .args .s) (start .args .a .now) (z .loop .a) _ (z .loop .inv .2) (c .before .before .add-words .ensures),
+      put-next (z .loop .j) (start .args .i) (start .args .s) (start .args .a .now) (z .loop .a) _ (z .loop .inv .2)
+          (c .before .before .add-words .ensures),
       refl,
       refl,
     )
@@ -53,13 +47,6 @@ loop2-holds c =
     let past : c .before .loop .j ≡ 8 = omega arith in
     (search needs, search needs, refl, λ xs f. rw past f, refl, refl)
 
-add-words-requires-2 : tie.Need-add-words-requires-2 Inv-loop μ-loop Inv-loop2 μ-loop2
-add-words-requires-2 c κs =
-    let j = c .before .before .loop2 .j in
-    let right : getD shiftsR j 0 < 64 = small-shift shiftsR tt j (omega arith) in
-    let left : getD shiftsT j 0 < 64 = small-shift shiftsT tt j (omega arith) in
-    omega arith
-
 loop2-again : tie.Need-loop2-again Inv-loop μ-loop Inv-loop2 μ-loop2
 loop2-again c =
     let z = c .before .before .before .before .before in
@@ -68,13 +55,11 @@ loop2-again c =
       search needs,
       search needs,
       λ xs f.
-          put-next (z .loop2 .j) (start .args .i) (start .args .s) xs (z .loop2 .a) _ (z .loop2 .inv .3 xs f) (c .before .before .add-words2 .ensures),
+          put-next (z .loop2 .j) (start .args .i) (start .args .s) xs (z .loop2 .a) _ (z .loop2 .inv .3 xs f)
+          (c .before .before .add-words2 .ensures),
       refl,
       refl,
     )
-
-same-length : tie.Need-same-length Inv-loop μ-loop Inv-loop2 μ-loop2
-same-length c = search needs
 
 returns : tie.Need-returns Inv-loop μ-loop Inv-loop2 μ-loop2
 returns c =
@@ -88,4 +73,10 @@ pub round-spec : {M : Type 1} → statement M
 round-spec =
     tie.close
     (tie.spec
-    Inv-loop μ-loop Inv-loop2 μ-loop2 loop-holds (λ c. search needs) (λ c. search needs) (λ c. search needs) (λ c. search needs) (λ c. search needs) add-words-requires (λ c. search needs) (λ c. search needs) loop-again loop2-holds (λ c. search needs) (λ c. search needs) (λ c. search needs) (λ c. search needs) (λ c. search needs) add-words-requires-2 (λ c. search needs) (λ c. search needs) loop2-again same-length returns)
+    Inv-loop μ-loop Inv-loop2 μ-loop2 loop-holds
+    (λ c. search needs) (λ c. search needs) (λ c. search needs) (λ c. search needs) (λ c. search needs)
+    (λ c κs. omega (arith, small-shifts (c .before .before .loop .j) (omega arith)))
+    (λ c. search needs) (λ c. search needs) loop-again loop2-holds
+    (λ c. search needs) (λ c. search needs) (λ c. search needs) (λ c. search needs) (λ c. search needs)
+    (λ c κs. omega (arith, small-shifts (c .before .before .loop2 .j) (omega arith)))
+    (λ c. search needs) (λ c. search needs) loop2-again (λ c. search needs) returns)

@@ -62,44 +62,30 @@ returns-3 c =
 returns-4 : tie.Need-returns-4
 unfolding readingOf
 returns-4 c =
-    rw (
-      c .before .before .before .before .before .before .before .before .before .before .before .enum-told .given .1,
-      c .before .before .before .before .before .before .before .before .before .digest-field .given .1,
-      c .before .before .before .before .before .before .limit-field .given .1,
-      c .before .before .rounds-field .given .1,
-    )
-    (c .key-reading .ensures)
+    let limit = c .before .before .before .before .before .before in
+    let digest = limit .before .before .before in
+    rw (digest .before .before .enum-told .given .1, digest .digest-field .given .1, limit .limit-field .given .1, c .before .before .rounds-field .given .1) (c .key-reading .ensures)
 
 returns-5 : tie.Need-returns-5
 unfolding readingOf
 returns-5 c =
-    rw (
-      c .before .before .before .before .before .before .before .before .before .before .enum-told .given .1,
-      c .before .before .before .before .before .before .before .before .digest-field .given .1,
-      c .before .before .before .before .before .limit-field .given .1,
-      c .before .enum-told2 .given .1,
-    )
-    (c .key-reading2 .ensures)
+    let limit = c .before .before .before .before .before in
+    let digest = limit .before .before .before in
+    rw (digest .before .before .enum-told .given .1, digest .digest-field .given .1, limit .limit-field .given .1, c .before .enum-told2 .given .1) (c .key-reading2 .ensures)
 
 returns-6 : tie.Need-returns-6
 unfolding readingOf
 returns-6 c =
-    rw (
-      c .before .before .before .before .before .before .before .before .before .enum-told .given .1,
-      c .before .before .before .before .before .before .before .digest-field .given .1,
-      c .before .before .before .before .limit-field .given .1,
-      c .enum-told3 .given .1,
-    )
+    let limit = c .before .before .before .before in
+    let digest = limit .before .before .before in
+    rw (digest .before .before .enum-told .given .1, digest .digest-field .given .1, limit .limit-field .given .1, c .enum-told3 .given .1)
 
 returns-7 : tie.Need-returns-7
 unfolding readingOf
 returns-7 c =
-    rw (
-      c .before .before .before .before .before .before .before .before .before .enum-told .given .1,
-      c .before .before .before .before .before .before .before .digest-field .given .1,
-      c .before .before .before .before .limit-field .given .1,
-      c .enum-told4 .given .1,
-    )
+    let limit = c .before .before .before .before in
+    let digest = limit .before .before .before in
+    rw (digest .before .before .enum-told .given .1, digest .digest-field .given .1, limit .limit-field .given .1, c .enum-told4 .given .1)
 
 pub reading-spec : {M : Type 1} → statement M
 reading-spec =

@@ -16,30 +16,32 @@ returns c =
     let a = f .before .before .before .before .before .before .args in
     end-refuses (a .area .now) (f .end .ensures) (a .out .now) (c .before .before .before .before .if1 .taken) (c .before .before .refused-number .ensures)
 
-add-last : tie.Need-add-last
-add-last c =
-    let f = c .before .before .before .before .before .before .before in
-    let s = end-size (f .before .before .before .before .before .before .args .area .now) (f .end .ensures) (c .before .before .before .if1 .left) in
+digest-bytes-requires : tie.Need-digest-bytes-requires
+digest-bytes-requires c κs =
+    let f = c .before .before .before .before in
+    let s = end-size (f .before .before .before .before .before .before .args .area .now) (f .end .ensures) (c .if1 .left) in
     omega arith
 
 last-requires : tie.Need-last-requires
 last-requires c κs =
-    let f = c .before .before .before .before .before .before .before in
+    let n = c .before .before .before in
+    let f = n .before .before .before .before .before in
     let a = f .before .before .before .before .before .before .args in
-    let r = end-room (a .area .now) (f .end .ensures) (c .before .before .before .if1 .left) in
-    let s = end-size (a .area .now) (f .end .ensures) (c .before .before .before .if1 .left) in
-    (omega arith, omega arith, omega arith, omega arith, s)
+    let r = end-room (a .area .now) (f .end .ensures) (n .before .if1 .left) in
+    let s = end-size (a .area .now) (f .end .ensures) (n .before .if1 .left) in
+    (omega arith, omega arith, omega arith, omega (arith, n .digest-bytes .ensures), omega (arith, n .digest-bytes .ensures))
 
 returns-2 : tie.Need-returns-2
 returns-2 c =
-    let f = c .before .before .before .before .before .before .before .before .before .before in
+    let n = c .before .before .before .before .before .before in
+    let f = n .before .before .before .before .before in
     let a = f .before .before .before .before .before .before .args in
-    end-gives (a .area .now) (f .end .ensures) (a .out .now) (c .before .before .before .before .before .before .if1 .left) (c .before .before .last .ensures)
+    end-gives (a .area .now) (f .end .ensures) (a .out .now) (n .before .if1 .left) (n .digest-bytes .ensures) (c .before .before .last .ensures)
 
 pub end-spec : {M : Type 1} → statement M
 end-spec =
     tie.close
     (tie.spec
     (λ c. search needs) (λ c. search needs) (λ c. search needs) (λ c κs. search needs) refused-number-requires
-    (λ c. search needs) returns (λ c. search needs) (λ c. search needs) add-last last-requires
+    (λ c. search needs) returns digest-bytes-requires (λ c. search needs) (λ c. search needs) last-requires
     (λ c. search needs) returns-2)

@@ -5,8 +5,8 @@ use Rattle.program.specs.StepLaws.{feed-small, feed-room, feed-refuses, 
 use Rattle.program.proofs.message.feed.Statement.{statement}
 use Rattle.program.proofs.message.feed.Tie as tie
 
-refused-number-requires : tie.Need-refused-number-requires
-refused-number-requires c κs =
+refuse-requires : tie.Need-refuse-requires
+refuse-requires c κs =
     let f = c .before .before .before .before .before .before in
     let a = f .before .before .before .before .before .before .args in
     (omega arith, feed-small (a .line) (a .area .now) (a .bytes .now) (f .feed .ensures))
@@ -15,7 +15,8 @@ returns : tie.Need-returns
 returns c =
     let f = c .before .before .before .before .before .before .before .before .before in
     let a = f .before .before .before .before .before .before .args in
-    feed-refuses (a .line) (a .area .now) (a .bytes .now) (f .feed .ensures) (a .out .now) (c .before .before .before .before .if1 .taken) (c .before .before .refused-number .ensures)
+    let r = c .before .before .refuse .ensures in
+    rw (r .0) (feed-refuses (a .line) (a .area .now) (a .bytes .now) (f .feed .ensures) (a .out .now) (c .before .before .before .before .if1 .taken) (r .1))
 
 nodes-requires : tie.Need-nodes-requires
 nodes-requires c κs =
@@ -33,6 +34,6 @@ pub feed-spec : {M : Type 1} → statement M
 feed-spec =
     tie.close
     (tie.spec
-    (λ c. search needs) (λ c. search needs) (λ c κs. search needs) refused-number-requires (λ c. search needs)
+    (λ c. search needs) (λ c. search needs) (λ c κs. search needs) refuse-requires (λ c. search needs)
     (λ c. search needs) returns (λ c. search needs) nodes-requires (λ c. search needs) (λ c. search needs)
     returns-2)

@@ -9,7 +9,7 @@ use lib.ListN.{length, getD}
 use Rattle.texts.specs.Text.{roundsBytes, oldRoundsBytes}
 use Rattle.texts.specs.FormLaws.{oldEnd}
 use Rattle.texts.specs.ReadForms.{formOf}
-use Rattle.text.proofs.Readable.{not-spelt, other-text, decided}
+use Rattle.text.proofs.Readable.{not-spelt, SpeltFront, other-text, decided}
 use native.Mathlib.Omega.{arith}
 use borrow.Author.Needs.{needs}
 use Rattle.text.proofs.spell.is_readable.Statement.{statement}
@@ -34,9 +34,8 @@ returns : tie.Need-returns
 returns c =
     let p = c .before .before .before in
     let w = p .before .before .width-of in
-    let t = p .before .before .before .before .before .args .text .now in
     let s = p .spell-area in
-    not-spelt (w .result) t (s .last .0) (s .result) (w .ensures) (s .ensures) (not-true (s .result) (c .if1 .taken))
+    not-spelt (w .result) (p .before .before .before .before .before .args .text .now) (s .last .0) (w .ensures) (s .ensures) (not-true (s .result) (c .if1 .taken))
 
 -- the words that are lent are enough for every L
 is-sound-requires : tie.Need-is-sound-requires
@@ -51,26 +50,28 @@ writes-requires c κs =
     let e = not-false (s .result) (c .before .before .before .if1 .left) in
     (omega (arith, ap length (g .pre)), omega (arith, w .ensures, small (g .args .text .now)), s .ensures .yes e .1)
 
+-- what is known when the area that is spelt has written its text
+module _ (d : tie.After-writes) where
+  abbrev p : tie.After-spell-area
+  p = d .before .before .before .before .before .before .before
+
+  abbrev text : List ℕ
+  text = p .before .before .before .before .before .args .text .now
+
+  known : SpeltFront (p .before .before .width-of .result) text (p .spell-area .last .0)
+  known = record {
+    form = p .before .before .width-of .ensures;
+    spelt = p .spell-area .ensures .yes (not-false (p .spell-area .result) (d .before .before .before .before .if1 .left)) .0;
+    long = omega (arith, ap length (p .before .before .before .before .before .pre));
+  }
+
 returns-2 : tie.Need-returns-2
-returns-2 c =
-    let p = c .before .before .before .before .before .before .before .before in
-    let w = p .before .before .width-of in
-    let g = p .before .before .before .before .before in
-    let s = p .spell-area in
-    let e = not-false (s .result) (c .before .before .before .before .before .if1 .left) in
-    let q = c .before .writes in
-    other-text (w .result) (g .args .text .now) (s .last .0) (s .result) (w .ensures) (s .ensures) e (omega (arith, ap length (g .pre))) (q .result) (q .ensures) (not-true (q .result) (c .if2 .taken))
+returns-2 c = let q = c .before .writes in other-text _ _ _ (known (c .before)) (q .ensures) (not-true (q .result) (c .if2 .taken))
 
 returns-3 : tie.Need-returns-3
 returns-3 c =
-    let p = c .before .before .before .before .before .before .before .before in
-    let w = p .before .before .width-of in
-    let g = p .before .before .before .before .before in
-    let s = p .spell-area in
-    let e = not-false (s .result) (c .before .before .before .before .before .if1 .left) in
     let q = c .before .writes in
-    let k = c .before .before .before .is-sound in
-    decided (w .result) (g .args .text .now) (s .last .0) (s .result) (w .ensures) (s .ensures) e (omega (arith, ap length (g .pre))) (k .result) (q .result) (k .ensures) (q .ensures) (not-false (q .result) (c .if2 .left))
+    decided _ _ _ (known (c .before)) (c .before .before .before .is-sound .ensures) (q .ensures) (not-false (q .result) (c .if2 .left))
 
 pub is-readable-spec : {M : Type 1} → statement M
 is-readable-spec =

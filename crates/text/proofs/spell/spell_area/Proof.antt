@@ -3,7 +3,7 @@ use mathlib.Core.Path.{ap}
 use lib.ListN.{length, take}
 use borrow.Author.Tests.{not-true, not-false}
 use Rattle.calls.specs.Area.{headWords}
-use Rattle.text.proofs.Readable.{short-text, head-refused, head-long, own-room, wrong-length, levels-ready, spelt-whole}
+use Rattle.text.proofs.Readable.{short-text, HeadRead, head-refused, head-long, own-room, wrong-length, levels-ready, spelt-whole}
 use native.Mathlib.Omega.{arith}
 use borrow.Author.Needs.{needs}
 use Rattle.text.proofs.spell.spell_area.Statement.{statement}
@@ -23,56 +23,45 @@ spell-head-requires c κs =
     let g = c .before .before .before .before .before in
     (ap (take headWords) (g .pre .0), g .pre .1, omega (arith, c .before .before .head-bytes .ensures))
 
-returns-2 : tie.Need-returns-2
-returns-2 c =
-    let p = c .before .before .before in
-    let n = p .before .before .before .head-bytes in
+-- what is known when the head is read
+abbrev head : (p : tie.After-spell-head) → (let g = p .before .before .before .before .before .before in
+    HeadRead (g .args .width) (p .before .before .before .head-bytes .result) (g .args .text .now) (p .spell-head .last .0) (g .args .area .now) (p .spell-head .result))
+head p =
     let g = p .before .before .before .before .before .before in
-    let h = p .spell-head in
-    head-refused (g .args .width) (n .result) (g .pre .1) (n .ensures) (g .args .text .now) (h .last .0) (h .result) (g .pre .0) (h .ensures) (not-true (h .result) (c .if2 .taken))
+    record { small = g .pre .1; size = p .before .before .before .head-bytes .ensures; zeros = g .pre .0; told = p .spell-head .ensures }
+
+returns-2 : tie.Need-returns-2
+returns-2 c = let p = c .before .before .before in head-refused (head p) (not-true (p .spell-head .result) (c .if2 .taken))
 
 text-bytes-requires : tie.Need-text-bytes-requires
 text-bytes-requires c κs =
     let p = c .before .before .before .before in
-    let n = p .before .before .before .head-bytes in
-    let g = p .before .before .before .before .before .before in
-    let h = p .spell-head in
-    (head-long (g .args .width) (n .result) (g .pre .1) (n .ensures) (g .args .text .now) (h .last .0) (h .result) (g .pre .0) (h .ensures) (not-false (h .result) (c .before .if2 .left)), g .pre .1)
+    (head-long (head p) (not-false (p .spell-head .result) (c .before .if2 .left)), head p .small)
 
 returns-3 : tie.Need-returns-3
 returns-3 c =
-    let p = c .before .before .before .before .before .before in
-    let n = p .before .before .before .head-bytes in
-    let g = p .before .before .before .before .before .before in
-    let h = p .spell-head in
-    let t = c .before .text-bytes in
-    wrong-length (g .args .width) (n .result) (g .pre .1) (n .ensures) (g .args .text .now) (h .last .0) (h .result) (g .pre .0) (h .ensures) (not-false (h .result) (c .before .before .before .if2 .left)) (t .result) (t .ensures) (c .if3 .taken)
+    let t = c .before in
+    let p = t .before .before .before .before .before in
+    wrong-length (head p) (not-false (p .spell-head .result) (t .before .before .if2 .left)) (t .text-bytes .result) (t .text-bytes .ensures) (c .if3 .taken)
 
 slice-read-words : tie.Need-slice-read-words
 slice-read-words c =
-    let p = c .before .before .before .before .before .before .before in
-    let n = p .before .before .before .head-bytes in
-    let g = p .before .before .before .before .before .before in
-    let h = p .spell-head in
-    omega (arith, head-long (g .args .width) (n .result) (g .pre .1) (n .ensures) (g .args .text .now) (h .last .0) (h .result) (g .pre .0) (h .ensures) (not-false (h .result) (c .before .before .before .before .if2 .left)))
+    let t = c .before .before in
+    let p = t .before .before .before .before .before in
+    omega (arith, head-long (head p) (not-false (p .spell-head .result) (t .before .before .if2 .left)))
 
 part-spell-levels-end : tie.Need-part-spell-levels-end
 part-spell-levels-end c =
-    let p = c .before .before .before .before .before .before .before .before in
-    let n = p .before .before .before .head-bytes in
-    let g = p .before .before .before .before .before .before in
-    let h = p .spell-head in
-    own-room (g .args .width) (n .result) (g .pre .1) (n .ensures) (g .args .text .now) (h .last .0) (h .result) (g .pre .0) (h .ensures) (not-false (h .result) (c .before .before .before .before .before .if2 .left)) (c .words .result) (c .words .ensures)
+    let t = c .before .before .before in
+    let p = t .before .before .before .before .before in
+    own-room (head p) (not-false (p .spell-head .result) (t .before .before .if2 .left)) (c .words .result) (c .words .ensures)
 
 spell-levels-requires : tie.Need-spell-levels-requires
 spell-levels-requires c κs =
     let k = c .before .before in
     let t = k .before .before .before in
     let p = t .before .before .before .before .before in
-    let n = p .before .before .before .head-bytes in
-    let g = p .before .before .before .before .before .before in
-    let h = p .spell-head in
-    levels-ready (g .args .width) (n .result) (g .pre .1) (n .ensures) (g .args .text .now) (h .last .0) (h .result) (g .pre .0) (h .ensures) (not-false (h .result) (t .before .before .if2 .left))
+    levels-ready (head p) (not-false (p .spell-head .result) (t .before .before .if2 .left))
     (t .text-bytes .result) (k .words .result) (k .words .ensures) (t .text-bytes .ensures) (k .before .before .if3 .left)
 
 returns-4 : tie.Need-returns-4
@@ -81,10 +70,7 @@ returns-4 c =
     let k = q .before .before .before in
     let t = k .before .before .before in
     let p = t .before .before .before .before .before in
-    let n = p .before .before .before .head-bytes in
-    let g = p .before .before .before .before .before .before in
-    let h = p .spell-head in
-    spelt-whole (g .args .width) (n .result) (g .pre .1) (n .ensures) (g .args .text .now) (h .last .0) (h .result) (g .pre .0) (h .ensures) (not-false (h .result) (t .before .before .if2 .left))
+    spelt-whole (head p) (not-false (p .spell-head .result) (t .before .before .if2 .left))
     (t .text-bytes .result) (k .words .result) (k .words .ensures) (t .text-bytes .ensures) (k .before .before .if3 .left)
     (q .spell-levels .last .0) (q .spell-levels .result) (q .spell-levels .ensures)
 

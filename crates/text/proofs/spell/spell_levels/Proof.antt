@@ -27,8 +27,7 @@ has-line-requires : tie.Need-has-line-requires Inv-loop μ-loop
 has-line-requires c κs =
     let l = c .before .before in
     let z = l .loop in
-    let a = l .before .before .before .before .before .args in
-    let n = spelling-own (a .area .now) (a .text .now) (z .area) (z .at) (z .k) (z .inv .1) (omega (arith, z .inv .0)) in
+    let n = spelling-own (z .inv .1) (omega (arith, z .inv .0)) in
     (omega (arith, z .inv .1 .long), omega arith, omega (arith, n, z .inv .0))
 
 add-e : tie.Need-add-e Inv-loop μ-loop
@@ -39,7 +38,7 @@ add-e c =
     let a = g .args in
     omega (
       arith,
-      spelling-room (a .area .now) (a .text .now) (z .area) (z .at) (z .k) (z .inv .1) (omega (arith, z .inv .0)) (omega arith) (sym (c .before .has-line .ensures) ∙ c .if1 .taken),
+      spelling-room (z .inv .1) (omega (arith, z .inv .0)) (omega arith) (sym (c .before .has-line .ensures) ∙ c .if1 .taken),
       g .pre .2,
       above-most (a .area .now) (omega arith),
     )
@@ -48,55 +47,45 @@ part-spell-level-end : tie.Need-part-spell-level-end Inv-loop μ-loop
 part-spell-level-end c =
     let l = c .before .before .before .before .before in
     let z = l .loop in
-    let a = l .before .before .before .before .before .args in
-    spelling-room (a .area .now) (a .text .now) (z .area) (z .at) (z .k) (z .inv .1) (omega (arith, z .inv .0)) (omega arith) (sym (c .before .before .has-line .ensures) ∙ c .before .if1 .taken)
+    spelling-room (z .inv .1) (omega (arith, z .inv .0)) (omega arith) (sym (c .before .before .has-line .ensures) ∙ c .before .if1 .taken)
 
 spell-level-requires : tie.Need-spell-level-requires Inv-loop μ-loop
 spell-level-requires c κs =
     let l = c .before .before .before .before .before .before in
     let z = l .loop in
     let a = l .before .before .before .before .before .args in
-    let n = spelling-own (a .area .now) (a .text .now) (z .area) (z .at) (z .k) (z .inv .1) (omega (arith, z .inv .0)) in
-    let r = spelling-room (a .area .now) (a .text .now) (z .area) (z .at) (z .k) (z .inv .1) (omega (arith, z .inv .0)) (omega arith) (sym (c .before .before .before .has-line .ensures) ∙ c .before .before .if1 .taken) in
+    let n = spelling-own (z .inv .1) (omega (arith, z .inv .0)) in
+    let r = spelling-room (z .inv .1) (omega (arith, z .inv .0)) (omega arith) (sym (c .before .before .before .has-line .ensures) ∙ c .before .before .if1 .taken) in
     (omega (arith, n, z .inv .1 .long), mid-len (z .at) (z .at + levelBytes) (a .text .now) r ∙ omega arith, omega arith, omega (arith, n, z .inv .0))
 
 returns : tie.Need-returns Inv-loop μ-loop
 returns c =
     let p = c .before .before .before in
     let h = p .before .before .before .before in
-    let l = h .before .before .before in
-    let z = l .loop in
-    let a = l .before .before .before .before .before .args in
-    spelling-refused (a .area .now) (a .text .now) (z .area) (z .at) (z .k) (z .inv .1) (omega (arith, z .inv .0)) (p .spell-level .last .0) (p .spell-level .result) (omega arith)
+    let z = h .before .before .before .loop in
+    spelling-refused (z .inv .1) (omega (arith, z .inv .0)) (p .spell-level .last .0) (p .spell-level .result) (omega arith)
     (sym (h .has-line .ensures) ∙ p .before .before .before .if1 .taken) (p .spell-level .ensures) (not-true (p .spell-level .result) (c .if2 .taken))
 
 loop-again : tie.Need-loop-again Inv-loop μ-loop
 loop-again c =
     let p = c .before .before .before in
     let h = p .before .before .before .before in
-    let l = h .before .before .before in
-    let z = l .loop in
-    let a = l .before .before .before .before .before .args in (
+    let z = h .before .before .before .loop in (
       z .inv .0,
-      spelling-yes (a .area .now) (a .text .now) (z .area) (z .at) (z .k) (z .inv .1) (omega (arith, z .inv .0)) (p .spell-level .last .0) (p .spell-level .result) (omega arith)
+      spelling-yes (z .inv .1) (omega (arith, z .inv .0)) (p .spell-level .last .0) (p .spell-level .result) (omega arith)
           (sym (h .has-line .ensures) ∙ p .before .before .before .if1 .taken) (p .spell-level .ensures) (not-false (p .spell-level .result) (c .if2 .left)),
     )
 
 loop-again-2 : tie.Need-loop-again-2 Inv-loop μ-loop
 loop-again-2 c =
-    let l = c .before .before .before .before in
-    let z = l .loop in
-    let a = l .before .before .before .before .before .args in
-    (z .inv .0, spelling-no (a .area .now) (a .text .now) (z .area) (z .at) (z .k) (z .inv .1) (omega (arith, z .inv .0)) (sym (c .before .has-line .ensures) ∙ c .if1 .left))
+    let z = c .before .before .before .before .loop in
+    (z .inv .0, spelling-no (z .inv .1) (omega (arith, z .inv .0)) (sym (c .before .has-line .ensures) ∙ c .if1 .left))
 
 same-length-2 : tie.Need-same-length-2 Inv-loop μ-loop
 same-length-2 c = c .before .loop .inv .1 .long ∙ sym (c .before .before .before .before .before .before .pre .0)
 
 returns-2 : tie.Need-returns-2 Inv-loop μ-loop
-returns-2 c =
-    let z = c .before .loop in
-    let a = c .before .before .before .before .before .before .args in
-    spelling-all (a .area .now) (a .text .now) (z .area) (z .at) (z .k) (z .inv .1) (omega (arith, z .inv .0))
+returns-2 c = let z = c .before .loop in spelling-all (z .inv .1) (omega (arith, z .inv .0))
 
 pub spell-levels-spec : {M : Type 1} → statement M
 spell-levels-spec =

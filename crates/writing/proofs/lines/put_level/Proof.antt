@@ -3,6 +3,7 @@ use mathlib.Core.Path.{ap, _∙_}
 use lib.ListN.{length}
 use Rattle.calls.specs.Area.{levelWords}
 use Rattle.calls.specs.AreaLaws.{length-levelWords}
+use Rattle.digits.specs.Digits.{wordDigits}
 use Rattle.texts.specs.LengthLaws.{length-levelLine}
 use Rattle.writing.proofs.LineStores.{level-stored}
 use native.Mathlib.Omega.{arith}
@@ -13,9 +14,12 @@ use Rattle.writing.proofs.lines.put_level.Tie as tie
 -- what the stores leave
 stored : tie.Need-returns
 stored c =
-    let a = c .before .before .before .before .before .before .before .before .before .before .before .args in
-    level-stored (a .part .now) (a .area .now) (c .before .before .before .before .before .before .before .put-digits .last .0) (c .before .before .put-words .last .0) (a .level) (omega arith) (omega arith) (omega arith)
-    (c .before .before .before .before .before .before .before .put-digits .ensures) (c .before .before .put-words .ensures)
+    let words = c .before .before in
+    let number = words .before .before .before .before in
+    let level = number .before .before in
+    let a = level .before .before .before .args in
+    level-stored (a .part .now) (a .area .now) (number .put-digits .last .0) (words .put-words .last .0) (a .level) (omega arith) (omega arith) (omega arith)
+    (number .put-digits .ensures) (words .put-words .ensures ∙ ap wordDigits (level .level .ensures .0 .words))
 
 same-length : tie.Need-same-length
 same-length c =
@@ -29,7 +33,6 @@ pub put-level-spec : {M : Type 1} → statement M
 put-level-spec =
     tie.close
     (tie.spec
-    (λ c. search needs) (λ c. search needs) (λ c. search needs) (λ c. search needs) (λ c. search needs)
-    (λ c. search needs) (λ c. search needs) (λ c κs. search needs) (λ c. search needs) (λ c. search needs)
-    (λ c. search needs) (λ c. search needs) (λ c. search needs) (λ c. search needs) (λ c. search needs)
-    (λ c κs. search needs) (λ c. search needs) same-length returns)
+    (λ c κs. search needs) (λ c. search needs) (λ c. search needs) (λ c. search needs) (λ c κs. search needs)
+    (λ c. search needs) (λ c. search needs) (λ c. search needs) (λ c κs. search needs) (λ c. search needs)
+    same-length returns)

@@ -18,9 +18,7 @@ abbrev μ-loop : tie.MeasureT-loop
 
 -- all lines are written
 done : tie.Need-returns Inv-loop μ-loop
-done c =
-    let z = c .before .loop in
-    put-all (c .before .before .before .before .before .args .area .now) (z .part) (z .e) (z .k) (z .inv) (omega arith)
+done c = put-all (c .before .loop .inv) (omega arith)
 
 loop-holds : tie.Need-loop-holds Inv-loop μ-loop
 loop-holds c =
@@ -31,38 +29,26 @@ has-line-requires : tie.Need-has-line-requires Inv-loop μ-loop
 has-line-requires c κs = (omega arith, omega arith, omega (arith, c .before .loop .inv .few))
 
 sub-at : tie.Need-sub-at Inv-loop μ-loop
-sub-at c =
-    let z = c .before .before .before .loop in
-    let a = c .before .before .before .before .before .before .before .args in
-    put-room (a .area .now) (z .part) (z .e) (z .k) (z .inv) (omega arith) (omega arith) (sym (c .before .has-line .ensures) ∙ c .if1 .taken)
+sub-at c = put-room (c .before .before .before .loop .inv) (omega arith) (omega arith) (sym (c .before .has-line .ensures) ∙ c .if1 .taken)
 
 part-put-level-end : tie.Need-part-put-level-end Inv-loop μ-loop
-part-put-level-end c =
-    let z = c .before .before .before .loop in
-    let a = c .before .before .before .before .before .before .before .args in
-    put-in (a .area .now) (z .part) (z .e) (z .k) (z .inv) (omega arith) (omega arith)
+part-put-level-end c = put-in (c .before .before .before .loop .inv) (omega arith) (omega arith)
 
 put-level-requires : tie.Need-put-level-requires Inv-loop μ-loop
 put-level-requires c κs =
     let z = c .before .before .before .before .loop in
-    let a = c .before .before .before .before .before .before .before .before .args in
-    let r = put-room (a .area .now) (z .part) (z .e) (z .k) (z .inv) (omega arith) (omega arith) (sym (c .before .before .has-line .ensures) ∙ c .before .if1 .taken) in
+    let r = put-room (z .inv) (omega arith) (omega arith) (sym (c .before .before .has-line .ensures) ∙ c .before .if1 .taken) in
     (mid-len (z .e - levelBytes) (z .e) (z .part) (omega (arith, z .inv .size)) ∙ omega (arith, r), omega arith, omega arith, omega (arith, z .inv .few))
 
 loop-again : tie.Need-loop-again Inv-loop μ-loop
 loop-again c =
     let p = c .before .before in
     let h = p .before .before .before in
-    let l = h .before .before in
-    let z = l .loop in
-    let a = l .before .before .before .before .args .area .now in
-    put-yes a (z .part) (z .e) (z .k) (z .inv) (omega arith) (omega arith) (z .e - levelBytes) (p .put-level .last .0) (omega arith) (sym (h .has-line .ensures) ∙ p .before .before .if1 .taken) (p .put-level .ensures)
+    let z = h .before .before .loop in
+    put-yes (z .inv) (omega arith) (omega arith) (z .e - levelBytes) (p .put-level .last .0) (omega arith) (sym (h .has-line .ensures) ∙ p .before .before .if1 .taken) (p .put-level .ensures)
 
 loop-again-2 : tie.Need-loop-again-2 Inv-loop μ-loop
-loop-again-2 c =
-    let z = c .before .before .before .loop in
-    let a = c .before .before .before .before .before .before .before .args .area .now in
-    put-no a (z .part) (z .e) (z .k) (z .inv) (omega arith) (omega arith) (sym (c .before .has-line .ensures) ∙ c .if1 .left)
+loop-again-2 c = put-no (c .before .before .before .loop .inv) (omega arith) (omega arith) (sym (c .before .has-line .ensures) ∙ c .if1 .left)
 
 same-length : tie.Need-same-length Inv-loop μ-loop
 same-length c = ap length (done c) ∙ omega arith

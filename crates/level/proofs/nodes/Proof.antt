@@ -1,7 +1,0 @@
--- `level::nodes` meets its contract.
-use borrow.Author.Needs.{needs}
-use Rattle.level.proofs.nodes.Statement.{statement}
-use Rattle.level.proofs.nodes.Tie as tie
-
-pub nodes-spec : {M : Type 1} → statement M
-nodes-spec = tie.close (tie.spec (λ c κs. search needs) (λ c. search needs))
