@@ -9,8 +9,8 @@ use Rattle.lists.specs.SameLaws.{or-zero}
 use Rattle.bits.specs.Bits.{bits, bits_of, spell}
 use Rattle.bits.specs.BitsLaws.{length-bits, length-bits_of, bits_of-drop, spell-from, spell-bits, spell-drop}
 use Rattle.calls.specs.Area.{all_false}
-use Rattle.calls.specs.AreaLaws.{all_false-append}
-use Rattle.calls.specs.SoundParts.{empty_from}
+use Rattle.calls.proofs.AreaLaws.{all_false-append}
+use Rattle.calls.proofs.SoundParts.{empty_from}
 
 -- ---- bits that are all false
 

@@ -5,7 +5,7 @@ use Rattle.std.proofs.Math.Dec.{leb-zero, leb-suc-suc, eqb-suc-zero}
 use Rattle.bits.specs.Bits.{bits_of}
 use Rattle.tree.specs.Tree.{block_bits, sequential_bits, output_bits}
 use Rattle.calls.specs.Area.{all_false, done_blocks, held_bits, held_parallel, held_sequential, parallel_hold, sequential_hold, holds_above, open_holds, holds_for, clean, clean_all, levels_from}
-use Rattle.calls.specs.SoundParts.{empty_from, all_empty, clean-empty}
+use Rattle.calls.proofs.SoundParts.{empty_from, all_empty, clean-empty}
 
 -- a sequential level after c compressions of it, with some bits held
 abbrev pub sound_sequential : ℕ → ℕ → List ℕ → Bool

@@ -8,13 +8,13 @@ use Rattle.bits.specs.BitsLaws.{bits_of-take}
 use Rattle.tree.specs.Tree.{block_bits, sequential_bits, output_bits, output_words}
 use Rattle.refusals.specs.Refusals.{first_refusal, range_tests, param_tests}
 use Rattle.refusals.specs.RefusalLaws.{passed}
-use Rattle.calls.specs.Moved.{length-key}
+use Rattle.calls.proofs.Moved.{length-key}
 use Rattle.calls.specs.Area.{Hold, head_words, clean_all, all_false, level_words, levels_of, done_blocks, held_bits, params_of, count_for, open_count, sound_phase, sound_params, sound_key, sound_count, sound_last, sound_levels, sound, own_levels, Long, block_words, level_start, levels_up}
 use Rattle.calls.specs.Calls.{area_tests}
-use Rattle.calls.specs.SoundParts.{empty_from, all_empty, clean-empty, empty-levels, sound_head}
+use Rattle.calls.proofs.SoundParts.{empty_from, all_empty, clean-empty, empty-levels, sound_head}
 use Rattle.area.specs.LevelTests.{clean_open, holds-ended, holds_open, sound_sequential, sound_above, sound_open}
 use Rattle.tree.specs.Sizes.{tree_nodes}
-use Rattle.calls.specs.AreaLaws.{levels_split, levels_up-cons, levels_up_none}
+use Rattle.calls.proofs.AreaLaws.{levels_split, levels_up-cons, levels_up_none}
 
 -- an area that is long enough and sound
 pub record LongSound (area : List ℕ) : Type 0 where

@@ -1,6 +1,6 @@
 // Whether no bit of words is set, from a bit on.
 ghost use Rattle.std.specs.Prelude.{◌≡◌, eqb, drop};
-ghost use Rattle.calls.specs.SoundParts.{empty_from};
+ghost use Rattle.calls.proofs.SoundParts.{empty_from};
 
 // The bits of a word.
 const WORD: usize = 64;

@@ -2,7 +2,7 @@
 ghost use Rattle.std.specs.Prelude.{◌≡◌, ◌+◌, ◌≤◌, length, get_or};
 ghost use Rattle.tree.specs.Tree.{sequential_bits, output_words};
 ghost use Rattle.calls.specs.Area.{Long, params_of, levels_up, levels_of, sound_levels};
-ghost use Rattle.calls.specs.SoundParts.{all_empty};
+ghost use Rattle.calls.proofs.SoundParts.{all_empty};
 ghost use Rattle.area.specs.LevelTests.{sound_sequential, sound_above, sound_open};
 
 use super::empty::empty_from;

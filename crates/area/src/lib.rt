@@ -6,7 +6,7 @@ ghost use Rattle.refusals.specs.Refusals.{first_refusal};
 ghost use Rattle.calls.specs.Area.{area_levels, area_words, own_levels, own_words, level_start};
 ghost use Rattle.calls.specs.Area.{count_for, sound_key, sound_count, sound_last, sound, Long};
 ghost use Rattle.calls.specs.Calls.{area_tests};
-ghost use Rattle.calls.specs.SoundParts.{sound_head};
+ghost use Rattle.calls.proofs.SoundParts.{sound_head};
 ghost use Rattle.area.specs.SoundLaws.{LevelPart};
 
 use node::Block;

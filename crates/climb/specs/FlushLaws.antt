@@ -4,11 +4,11 @@ use Rattle.std.specs.Prelude.{◌≡◌, refl, List, [], ◌∷◌, ◌++◌, �
 use Rattle.std.proofs.Common.{sym, ap, ◌∙◌, arith, length-append}
 use Rattle.std.proofs.Math.Seq.{length-sets}
 use Rattle.tree.specs.Tree.{Params, Node, node, block_bits, sequential_bits, output_words, out_words, node_log}
-use Rattle.tree.specs.OutputLaws.{length-out_words}
+use Rattle.tree.proofs.OutputLaws.{length-out_words}
 use Rattle.calls.specs.Area.{block_words, Long, params_of, level_words, levels_up, levels_of, done_blocks, held_bits}
 use Rattle.calls.specs.Calls.{Made, chained}
-use Rattle.calls.specs.Machine
-use Rattle.calls.specs.Widths.{Wide, wide-levels, length-chained, receive-widths}
+use Rattle.calls.proofs.Machine
+use Rattle.calls.proofs.Widths.{Wide, wide-levels, length-chained, receive-widths}
 use Rattle.climb.specs.Levels.{with_level, HasLevel, up-level, length-empty, first-level, levels_split, with_up}
 use Rattle.node.specs.declared.Keyed.{Keyed}
 use Rattle.node.specs.declared.Place.{Place}

@@ -4,10 +4,10 @@ use Rattle.std.proofs.Common.{sym, ap, ◌∙◌, arith, length-append}
 use Rattle.std.proofs.lemmas.List.Edits.{sets}
 use Rattle.tree.specs.Tree.{node_log}
 use Rattle.calls.specs.Area.{Long, params_of, levels_of, with_levels}
-use Rattle.calls.specs.AreaLaws.{length-with_levels, params-with_levels, levels_of-with_levels}
+use Rattle.calls.proofs.AreaLaws.{length-with_levels, params-with_levels, levels_of-with_levels}
 use Rattle.calls.specs.Calls.{Made}
-use Rattle.calls.specs.Widths.{Wide}
-use Rattle.calls.specs.WriteLaws.{with_levels_again}
+use Rattle.calls.proofs.Widths.{Wide}
+use Rattle.calls.proofs.WriteLaws.{with_levels_again}
 use Rattle.climb.specs.ReceiveLaws.{made, log-append}
 
 -- area, log and the place where the log goes on, for levels and nodes that a definition gives

@@ -11,10 +11,10 @@ use Rattle.lists.specs.Part.{put}
 use Rattle.lists.specs.PartLaws.{put-length, put-take, put-drop}
 use Rattle.tree.specs.Tree.{Params, output_words}
 use Rattle.calls.specs.Area.{area_words, level_start, head_words, block_words, own_levels, own_words, Long, params_of, levels_up, level_words, levels_from, with_levels, empty_level}
-use Rattle.calls.specs.AreaLaws.{same_head}
-pub use Rattle.calls.specs.AreaLaws.{levels_split}
-use Rattle.calls.specs.FeedLaws.{flatten-from}
-pub use Rattle.calls.specs.Widths.{length-joined, length-empty}
+use Rattle.calls.proofs.AreaLaws.{same_head}
+pub use Rattle.calls.proofs.AreaLaws.{levels_split}
+use Rattle.calls.proofs.FeedLaws.{flatten-from}
+pub use Rattle.calls.proofs.Widths.{length-joined, length-empty}
 use Rattle.area.specs.SoundLaws.{LevelPart}
 
 -- an area with other words in a level

@@ -9,8 +9,8 @@ use Rattle.refusals.specs.declared.Params as declared
 use Rattle.refusals.specs.Refusals.{first_refusal, param_tests}
 use Rattle.refusals.specs.RefusalLaws.{InRange, in_range}
 use Rattle.calls.specs.Area.{Long, phase_of, total_of, k_of, compressions_of, params_of, open_count, count_for}
-pub use Rattle.calls.specs.CallLaws.{OpenArea}
-use Rattle.calls.specs.Moved.{sound-tests, sound-key}
+pub use Rattle.calls.proofs.CallLaws.{OpenArea}
+use Rattle.calls.proofs.Moved.{sound-tests, sound-key}
 use Rattle.area.specs.SoundLaws.{refused-words, count_open}
 use Rattle.node.specs.declared.Keyed.{Keyed}
 use Rattle.node.specs.Words.{tree_params, Ready}

@@ -5,14 +5,14 @@ use Rattle.std.proofs.lemmas.List.Edits.{sets}
 use Rattle.std.proofs.Math.Seq.{length-sets}
 use Rattle.lists.specs.Part.{put}
 use Rattle.lists.specs.PartLaws.{first_stores}
-use Rattle.tree.specs.OutputLaws.{length-node_log, node_log-append}
+use Rattle.tree.proofs.OutputLaws.{length-node_log, node_log-append}
 use Rattle.tree.specs.Tree.{Params, Node, node, most_levels, output_words, out_words, node_log, logged}
 use Rattle.calls.specs.Area.{block_words, own_levels, Long, params_of, level_words, levels_up, empty_level}
-use Rattle.calls.specs.AreaLaws.{length-level_words, levels_up-cons, levels_up_none}
+use Rattle.calls.proofs.AreaLaws.{length-level_words, levels_up-cons, levels_up_none}
 use Rattle.calls.specs.Calls.{Made, chained, join_parallel, join_sequential, receive}
-use Rattle.calls.specs.Receive
-use Rattle.calls.specs.Widths.{length-chained}
-pub use Rattle.tree.specs.OutputLaws.{length-out_words}
+use Rattle.calls.proofs.Receive
+use Rattle.calls.proofs.Widths.{length-chained}
+pub use Rattle.tree.proofs.OutputLaws.{length-out_words}
 use Rattle.climb.specs.Levels.{output_place, place-fits, length-empty, with_level, up_area, HasLevel, Joins, up_step, up-level, up_same, other-up, level_with, with_with, length_with, params_with, level-still, length-joined}
 use Rattle.node.specs.declared.Keyed.{Keyed}
 use Rattle.node.specs.Words.{tree_params, Ready}

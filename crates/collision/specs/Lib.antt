@@ -1,9 +1,1 @@
 pub mod Clash
-pub mod Collision
-pub mod Descent
-pub mod HashCollision
-pub mod OneLevel
-pub mod Nodes
-pub mod Vocabulary
-pub mod Windows
-pub mod Worked

@@ -84,9 +84,9 @@ module _ (xs : List ℕ) (size : length xs ≡ 690) (i s r t : ℕ) (low : 89 �
   tap : (j k : ℕ) → k ≤ 89 → get_or xs (2 * i + j - 2 * k) 0 ≡ get_or (lane 2 j xs) (i - k) 0
   tap j k h = ap (λ (m : ℕ). get_or xs m 0) (omega arith) ∙ sym (get_d_lane 2 j (i - k) xs (omega arith))
 
-  new_word : (j : ℕ) → new_word 2 (2 * i + j) s r t xs ≡ new_word 1 i s r t (lane 2 j xs)
+  new_word_lem : (j : ℕ) → new_word 2 (2 * i + j) s r t xs ≡ new_word 1 i s r t (lane 2 j xs)
   unfolding new_word
-  new_word j =
+  new_word_lem j =
       rw (
         tap j 17 (omega arith),
         tap j 89 (omega arith),
@@ -102,11 +102,11 @@ module _ (xs : List ℕ) (size : length xs ≡ 690) (i s r t : ℕ) (low : 89 �
   put-each x y hx hy zero h =
       store_beside (set xs (2 * i + 0) x) (length-set xs (2 * i + 0) x ∙ size) 1 i y (omega arith) room 0 h (omega arith)
       ∙ store xs size 0 i x h room
-      ∙ ap (set (lane 2 0 xs) i) (hx ∙ new_word 0)
+      ∙ ap (set (lane 2 0 xs) i) (hx ∙ new_word_lem 0)
   put-each x y hx hy (suc zero) h =
       store (set xs (2 * i + 0) x) (length-set xs (2 * i + 0) x ∙ size) 1 i y h room
       ∙ ap (λ (l : List ℕ). set l i y) (store_beside xs size 0 i x (omega arith) room 1 h (omega arith))
-      ∙ ap (set (lane 2 1 xs) i) (hy ∙ new_word 1)
+      ∙ ap (set (lane 2 1 xs) i) (hy ∙ new_word_lem 1)
   put-each x y hx hy (suc (suc j)) h = absurd (omega arith)
 
   pub put_both : (x y : ℕ) → x ≡ new_word 2 (2 * i) s r t xs → y ≡ new_word 2 (2 * i + 1) s r t xs

@@ -14,7 +14,7 @@ use Rattle.lists.specs.Table.{every, at}
 use Rattle.lists.specs.Take.{drop-take}
 use Rattle.compress.specs.Compress.{shifts_r, shifts_t, word, grown, compressed}
 use Rattle.constants.specs.Constants.{S}
-use Rattle.compress.specs.CompressLaws.{length-grown, grown-zero, grown-suc}
+use Rattle.compress.proofs.CompressLaws.{length-grown, grown-zero, grown-suc}
 use Rattle.compress.specs.Buffer.{new_word, put_at, put_round, before, after, Advances}
 
 -- ---- a loop that copies s to the front of d

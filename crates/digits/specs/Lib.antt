@@ -1,5 +1,2 @@
-pub mod DigitLaws
 pub mod Digits
 pub mod Hex
-pub mod HexLaws
-pub mod Loops

@@ -5,16 +5,16 @@ use Rattle.std.proofs.Math.Seq.{paste}
 use Rattle.lists.specs.Part.{put}
 use Rattle.bits.specs.Bits.{bits_of, numbers}
 use Rattle.tree.specs.Tree.{Params, Node, node, output, last_or, no_node, digest_bytes, block_bits, sequential_bits, output_bits, out_words, node_log, logged}
-use Rattle.tree.specs.TreeLaws.{length-output-node}
-use Rattle.tree.specs.Count.{tree_nodes_bound}
-use Rattle.tree.specs.OutputLaws.{length-node_log, logged-front, words-bits}
+use Rattle.tree.proofs.TreeLaws.{length-output-node}
+use Rattle.tree.proofs.Count.{tree_nodes_bound}
+use Rattle.tree.proofs.OutputLaws.{length-node_log, logged-front, words-bits}
 use Rattle.calls.specs.Area.{total_of, compressions_of, params_of, own_levels, own_words, level_words, levels_from, levels_of, with_levels, empty_levels, done_blocks, held_bits, head_words, block_words, levels_up, Long}
 use Rattle.calls.specs.Calls.{join_parallel, join_sequential, last_above, last_nodes, last_nodes_of, ended_area, digest_out}
-use Rattle.calls.specs.CallLaws.{EndPassed}
-use Rattle.calls.specs.Machine
-use Rattle.calls.specs.LastNodes
-use Rattle.calls.specs.AreaLaws.{length-level_words, levels_split, flatten-empty}
-use Rattle.calls.specs.Widths.{length-joined}
+use Rattle.calls.proofs.CallLaws.{EndPassed}
+use Rattle.calls.proofs.Machine
+use Rattle.calls.proofs.LastNodes
+use Rattle.calls.proofs.AreaLaws.{length-level_words, levels_split, flatten-empty}
+use Rattle.calls.proofs.Widths.{length-joined}
 use Rattle.climb.specs.ReceiveLaws.{length-out_words}
 use Rattle.climb.specs.OpenArea.{OpenArea, size-read}
 use Rattle.numbers.specs.NumberLaws.{count_left}

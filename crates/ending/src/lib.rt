@@ -4,7 +4,7 @@ ghost use Rattle.std.specs.Prelude.{◌≡◌, ◌*◌, ◌≤◌, length, set};
 ghost use Rattle.tree.specs.Tree.{logged};
 ghost use Rattle.calls.specs.Area.{own_levels, Long, with_levels, empty_levels};
 ghost use Rattle.calls.specs.Calls.{last_nodes_of, ended_area, digest_out, end_of, preview_of, close_of};
-ghost use Rattle.calls.specs.CallLaws.{EndPassed};
+ghost use Rattle.calls.proofs.CallLaws.{EndPassed};
 ghost use Rattle.climb.specs.OpenArea.{OpenArea};
 ghost use Rattle.numbers.specs.NumberLaws.{open_close_number};
 

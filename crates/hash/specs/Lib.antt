@@ -1,4 +1,2 @@
+pub mod Accepted
 pub mod Hash
-pub mod HashLaws
-pub mod RoundsExamples
-pub mod RoundsLaws

@@ -3,7 +3,7 @@ ghost use Rattle.std.specs.Prelude.{◌≡◌, ◌++◌, length, drop};
 ghost use Rattle.bits.specs.PieceLaws.{spanned, span_bits};
 ghost use Rattle.tree.specs.Tree.{digest, digest_bytes};
 ghost use Rattle.hash.specs.Hash.{hash_of, rounds_by_default, default_rounds_of};
-ghost use Rattle.hash.specs.HashLaws.{with_key, number_for, Accepted};
+ghost use Rattle.hash.specs.Accepted.{with_key, number_for, Accepted};
 
 use bits::Span;
 use node::{Keyed, digest};

@@ -9,10 +9,10 @@ use Rattle.std.proofs.lemmas.Bool.{eqb-false}
 use Rattle.lists.specs.Part.{put}
 use Rattle.tree.specs.Tree.{most_levels, Params, Node, block_bits, sequential_bits, output_bits, node, last_or, no_node, output_words, out_words, node_log}
 use Rattle.calls.specs.Area.{block_words, own_levels, Long, total_of, params_of, level_words, levels_up, levels_of, done_blocks, held_bits}
-use Rattle.calls.specs.AreaLaws.{levels_up-cons}
+use Rattle.calls.proofs.AreaLaws.{levels_up-cons}
 use Rattle.calls.specs.Calls.{last_above, last_nodes, last_nodes_of}
-use Rattle.calls.specs.Machine
-use Rattle.calls.specs.LastNodes
+use Rattle.calls.proofs.Machine
+use Rattle.calls.proofs.LastNodes
 use Rattle.node.specs.declared.Keyed.{Keyed}
 use Rattle.node.specs.declared.Place.{Place}
 use Rattle.node.specs.Words.{placed, FieldsFit, tree_params, Ready}

@@ -13,7 +13,7 @@ use Rattle.bits.specs.BitsLaws.{digit_le, length-bits_of, bits_of-append, bits_o
 use Rattle.bits.specs.Piece.{Piece}
 use Rattle.bits.specs.PieceLaws.{spanned, length-piece_bits}
 use Rattle.tree.specs.Tree.{words, block_bits, sequential_bits, blocks, padding}
-use Rattle.tree.specs.TreeLaws.{last_only, last_only_le}
+use Rattle.tree.proofs.TreeLaws.{last_only, last_only_le}
 use Rattle.node.specs.NodeLaws.{paste-at}
 use Rattle.shape.specs.Shape.{taken}
 use Rattle.nodes.specs.Value.{message_part}

@@ -7,8 +7,8 @@ use Rattle.std.proofs.lemmas.List.Edits.{sets, sets-eq}
 use Rattle.lists.specs.Part.{put}
 use Rattle.lists.specs.PartLaws.{put-length, put-put}
 use Rattle.tree.specs.Tree.{Node, node_log}
-use Rattle.tree.specs.Places.{index_below}
-use Rattle.tree.specs.OutputLaws.{length-node_log, node_log-append}
+use Rattle.tree.proofs.Places.{index_below}
+use Rattle.tree.proofs.OutputLaws.{length-node_log, node_log-append}
 use Rattle.layer.specs.OverLaws.{take_more}
 
 -- the log with U and V of i of the nodes ns from a place on

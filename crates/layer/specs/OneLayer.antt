@@ -5,7 +5,7 @@ use Rattle.lists.specs.Part.{put}
 use Rattle.bits.specs.Bits.{digit, bits_of}
 use Rattle.bits.specs.PieceLaws.{spanned, span_bits, Fits}
 use Rattle.tree.specs.Tree.{Params, Node, block_bits, sequential_bits, blocks, parallel, sequential, node_v, node_log, out_words}
-use Rattle.tree.specs.TreeLaws.{last_only}
+use Rattle.tree.proofs.TreeLaws.{last_only}
 use Rattle.refusals.specs.declared.Params as declared
 use Rattle.node.specs.declared.Place.{Place}
 use Rattle.node.specs.Words.{sized, placed}

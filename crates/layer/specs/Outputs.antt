@@ -6,7 +6,7 @@ use mathlib.Core.List.{List, [], ◌∷◌, ◌++◌, map, flatten}
 use Rattle.std.proofs.Math.ListN.{length-append}
 use Rattle.lists.specs.Flatten.{flatten-append, map-append}
 use Rattle.tree.specs.Tree.{Params, Node, out_words}
-use Rattle.tree.specs.OutputLaws.{length-out_words}
+use Rattle.tree.proofs.OutputLaws.{length-out_words}
 
 -- the outputs of a level, joined, as words
 abbrev pub level_outputs : Params → List Node → List ℕ

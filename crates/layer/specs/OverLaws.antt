@@ -12,12 +12,12 @@ use Rattle.std.proofs.Math.Seq.{paste, drop-append-add}
 use Rattle.lists.specs.Take.{drop-take}
 use Rattle.bits.specs.Bits.{bits_of}
 use Rattle.bits.specs.BitsLaws.{bits_of-drop}
-use Rattle.tree.specs.Places.{no-node, index_below}
+use Rattle.tree.proofs.Places.{no-node, index_below}
 use Rattle.tree.specs.Tree.{block_bits, sequential_bits, output_bits, Params, Node, words, node_u, node_v, blocks, padding, padded, no_chain}
 use Rattle.tree.specs.Tree.{out_words}
-use Rattle.tree.specs.TreeLaws.{chain_at, chain_at-zero, seq-chain, length-parallel, length-sequential, parallel-at, sequential-at}
-use Rattle.tree.specs.KindLaws.{first-chain}
-use Rattle.tree.specs.OutputLaws.{length-out_words}
+use Rattle.tree.proofs.TreeLaws.{chain_at, chain_at-zero, seq-chain, length-parallel, length-sequential, parallel-at, sequential-at}
+use Rattle.tree.proofs.KindLaws.{first-chain}
+use Rattle.tree.proofs.OutputLaws.{length-out_words}
 use Rattle.node.specs.Words.{placed, FieldsFit}
 use Rattle.node.specs.declared.Place.{Place}
 use Rattle.node.specs.NodeLaws.{paste-at}

@@ -1,9 +1,3 @@
-pub mod CallLaws
-pub mod Highest
-pub mod Laid
-pub mod LayerExamples
-pub mod LayerLaws
+pub mod Accepted
 pub mod Layers
-pub mod RefusalRows
-pub mod Steps
 pub mod Vocabulary

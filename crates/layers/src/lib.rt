@@ -3,10 +3,10 @@ ghost use Rattle.std.specs.Prelude.{◌≡◌, ◌*◌, ◌≤◌, length};
 ghost use Rattle.bits.specs.PieceLaws.{spanned, span_bits, Fits};
 ghost use Rattle.tree.specs.Sizes.{tree_nodes};
 ghost use Rattle.node.specs.Words.{tree_params, Ready};
-ghost use Rattle.hash.specs.HashLaws.{with_key};
+ghost use Rattle.hash.specs.Accepted.{with_key};
 ghost use Rattle.layers.specs.Layers.{first_nodes, layers_of, layer_words_of, layer_log_words_of};
-ghost use Rattle.layers.specs.Steps.{Room, AllMade};
-ghost use Rattle.layers.specs.CallLaws.{Accepted, AllPut, number_for};
+ghost use Rattle.layers.specs.Accepted.{Room, AllMade};
+ghost use Rattle.layers.specs.Accepted.{Accepted, AllPut, number_for};
 
 use bits::Span;
 use layer::{Layer, log, outputs};

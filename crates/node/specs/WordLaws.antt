@@ -10,7 +10,7 @@ use Rattle.bits.specs.Bits.{bits_of}
 use Rattle.bits.specs.BitsLaws.{length-numbers, numbers-below, bits_of-numbers}
 use Rattle.compress.specs.Compress.{compressed, window_of}
 use Rattle.tree.specs.Tree.{Params, Node, Valid, node_u, node_v, node, output, out_words}
-use Rattle.tree.specs.TreeLaws.{length-key_words, key_words-below, node_u-below, node_v-below, length-output-node, words-output}
+use Rattle.tree.proofs.TreeLaws.{length-key_words, key_words-below, node_u-below, node_v-below, length-output-node, words-output}
 use Rattle.node.specs.declared.Place.{Place}
 use Rattle.node.specs.declared.Keyed.{Keyed}
 use Rattle.node.specs.Words.{sized, node_words, placed, FieldsFit, tree_params, Ready}

@@ -10,7 +10,7 @@ use Rattle.bits.specs.Piece.{Piece, piece_bits}
 use Rattle.node.specs.Words.{node_words}
 use Rattle.shape.specs.Shape.{taken, block_padding}
 use Rattle.nodes.specs.Value.{message_part, joined_values, child_words, block_from, value, level_values, node_block}
-use Rattle.tree.specs.Count.{level_nodes}
+use Rattle.tree.proofs.Count.{level_nodes}
 use Rattle.bits.specs.PieceLaws.{Fits, length-piece_bits}
 use Rattle.shape.specs.ShapeLaws.{leaf-index}
 use Rattle.nodes.specs.ValueLaws.{length-value, joined-zero, joined-suc, length-joined_values}

@@ -16,9 +16,9 @@ use Rattle.bits.specs.Bits.{digit, bits_of, numbers}
 use Rattle.bits.specs.BitsLaws.{length-bits_of, bits_of-append, bits_of-zeros, bits_of-take, bits_of-drop, numbers-take, numbers-exact, length-numbers}
 use Rattle.tree.specs.Tree.{Params, Node, words, node, output, blocks, padding, padded, no_chain, parallel, sequential, joined_outputs, levels, tree, root_of, root, block_bits, sequential_bits, output_bits}
 use Rattle.tree.specs.Place.{node_at}
-use Rattle.tree.specs.TreeLaws.{above, last_only, chain_at, chain_at-zero, chain_at-suc, length-parallel, length-sequential, length-joined-parallel, parallel-at, sequential-at, levels-one, levels-more, levels_some, root_of-cons, length-seq_block}
-use Rattle.tree.specs.Places.{no-node, index_below, root-place}
-use Rattle.tree.specs.Count.{level_nodes, level_nodes-one, level_nodes_some}
+use Rattle.tree.proofs.TreeLaws.{above, last_only, chain_at, chain_at-zero, chain_at-suc, length-parallel, length-sequential, length-joined-parallel, parallel-at, sequential-at, levels-one, levels-more, levels_some, root_of-cons, length-seq_block}
+use Rattle.tree.proofs.Places.{no-node, index_below, root-place}
+use Rattle.tree.proofs.Count.{level_nodes, level_nodes-one, level_nodes_some}
 use Rattle.node.specs.Words.{node_words}
 use Rattle.shape.specs.Shape.{taken, sequential_nodes, sequential_padding, top_from}
 use Rattle.nodes.specs.Value.{message_part, joined_values, child_words, value, level_values, sequential_words, chain, last_chained, value_at, root_value}

@@ -8,7 +8,7 @@ use Rattle.bits.specs.Piece.{Piece, piece_bits}
 use Rattle.node.specs.Words.{node_words}
 use Rattle.shape.specs.Shape.{taken, sequential_nodes, sequential_padding, top_level}
 use Rattle.nodes.specs.Value.{message_part, child_words, value, level_values, sequential_words, chained, chain, last_chained, root_value}
-use Rattle.tree.specs.Count.{level_nodes}
+use Rattle.tree.proofs.Count.{level_nodes}
 use Rattle.shape.specs.ShapeLaws.{message-index}
 use Rattle.nodes.specs.ValueLaws.{chain-suc}
 use Rattle.node.specs.NodeLaws.{paste-at}

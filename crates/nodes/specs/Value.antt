@@ -6,7 +6,7 @@ use Rattle.bits.specs.Bits.{digit}
 use Rattle.bits.specs.Piece.{Piece}
 use Rattle.bits.specs.PieceLaws.{Fits}
 use Rattle.tree.specs.Tree.{Params, words, block_bits, sequential_bits}
-use Rattle.tree.specs.Count.{level_nodes}
+use Rattle.tree.proofs.Count.{level_nodes}
 use Rattle.shape.specs.Shape.{taken, block_padding, sequential_nodes, sequential_padding, top_level}
 use Rattle.node.specs.Words.{node_words, Ready}
 use Rattle.node.specs.declared.Keyed.{Keyed}

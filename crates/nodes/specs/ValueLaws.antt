@@ -11,7 +11,7 @@ use Rattle.lists.specs.Below.{Below, none}
 use Rattle.lists.specs.BelowLaws.{below-append, below-zeros}
 use Rattle.bits.specs.Bits.{digit}
 use Rattle.tree.specs.Tree.{Params, words, block_bits, output_bits}
-use Rattle.tree.specs.Count.{level_nodes}
+use Rattle.tree.proofs.Count.{level_nodes}
 use Rattle.node.specs.Words.{node_words}
 use Rattle.node.specs.WordLaws.{length-node_words, below-node_words}
 use Rattle.shape.specs.Shape.{taken, block_padding, sequential_nodes}

@@ -2,7 +2,7 @@
 ghost use Rattle.std.specs.Prelude.{◌≡◌, ◌+◌, ◌-◌, ◌*◌, ◌≤◌, ◌<◌, length};
 ghost use Rattle.tree.specs.Tree.{words, block_bits, sequential_bits};
 ghost use Rattle.bits.specs.PieceLaws.{spanned, span_bits, Fits};
-ghost use Rattle.tree.specs.Count.{level_nodes};
+ghost use Rattle.tree.proofs.Count.{level_nodes};
 ghost use Rattle.node.specs.Words.{node_words, tree_params, Ready};
 ghost use Rattle.shape.specs.Shape.{block_padding, sequential_nodes};
 ghost use Rattle.nodes.specs.Value.{Given, message_part, child_words, value, level_values};

@@ -11,10 +11,10 @@ use Rattle.refusals.specs.Refusals.{first_refusal, output_test, log_test}
 use Rattle.refusals.specs.RefusalLaws.{without, passed, first_part, second-part}
 use Rattle.calls.specs.Area.{own_words, phase_of, total_of, compressions_of, open_count, params_of}
 use Rattle.calls.specs.Calls.{fed_bits, last_nodes_of, feed_number, end_number, log_words_number, area_tests, open_tests, total_test, feed_tests, end_tests, preview_number, nodes_digest, close_tests, close_number}
-use Rattle.calls.specs.CallLaws.{OpenArea, LogWordsPassed, open_area, open_tests_lem, total-passed}
-use Rattle.calls.specs.Accepts.{last-count}
-use Rattle.calls.specs.LogWords.{piece-nodes}
-use Rattle.calls.specs.AreaLaws.{limit-word}
+use Rattle.calls.proofs.CallLaws.{OpenArea, LogWordsPassed, open_area, open_tests_lem, total-passed}
+use Rattle.calls.proofs.Accepts.{last-count}
+use Rattle.calls.proofs.LogWords.{piece-nodes}
+use Rattle.calls.proofs.AreaLaws.{limit-word}
 use Rattle.area.specs.SoundLaws.{LongSound}
 use Rattle.climb.specs.OpenArea.{open_done, open_range, size-read}
 use Rattle.piece.specs.PieceLaws.{made-count, open_count_le}

@@ -6,7 +6,7 @@ ghost use Rattle.tree.specs.Tree.{digest_bytes};
 ghost use Rattle.refusals.specs.Refusals.{first_refusal, output_test, log_test};
 ghost use Rattle.calls.specs.Area.{params_of};
 ghost use Rattle.calls.specs.Calls.{open_tests, total_test, fed_bits, last_nodes_of, feed_number, end_number, preview_number, log_words_number};
-ghost use Rattle.calls.specs.CallLaws.{LogWordsPassed};
+ghost use Rattle.calls.proofs.CallLaws.{LogWordsPassed};
 ghost use Rattle.climb.specs.OpenArea.{OpenArea};
 ghost use Rattle.numbers.specs.NumberLaws.{open_feed_number, open_end_number};
 

@@ -14,10 +14,10 @@ use Rattle.bits.specs.PieceLaws.{Fits, length-piece_bits}
 use Rattle.tree.specs.Tree.{Params, block_bits, node_log}
 use Rattle.calls.specs.Area.{head_words, block_words, Long, params_of, level_words, levels_up, levels_of, with_levels, held_bits}
 use Rattle.calls.specs.Calls.{Made, feed_bits}
-use Rattle.calls.specs.Machine
-use Rattle.calls.specs.AreaLaws.{length-level_words}
-use Rattle.calls.specs.FeedLaws.{feed_bits-append, with_levels-same}
-use Rattle.calls.specs.Widths.{Wide, wide-levels, wide-bits}
+use Rattle.calls.proofs.Machine
+use Rattle.calls.proofs.AreaLaws.{length-level_words}
+use Rattle.calls.proofs.FeedLaws.{feed_bits-append, with_levels-same}
+use Rattle.calls.proofs.Widths.{Wide, wide-levels, wide-bits}
 use Rattle.climb.specs.Levels.{with_level, levels_split, with_first}
 use Rattle.node.specs.declared.Keyed.{Keyed}
 use Rattle.node.specs.Words.{tree_params, Ready}

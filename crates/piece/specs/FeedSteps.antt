@@ -12,10 +12,10 @@ use Rattle.bits.specs.FilledLaws.{length-filled, filled-below, filled_more}
 use Rattle.tree.specs.Tree.{Params, Node, node, output, block_bits, sequential_bits, out_words}
 use Rattle.calls.specs.Area.{block_words, empty_level, done_blocks, held_bits}
 use Rattle.calls.specs.Calls.{Made, with_bit, feed_bit, feed_bits}
-use Rattle.calls.specs.Blocks.{held-most, held_first}
-use Rattle.calls.specs.FeedLaws.{feed_bits-append, with_bits-filled, fill_parallel, fill_sequential}
-use Rattle.calls.specs.Machine
-use Rattle.calls.specs.Widths.{length-chained, length-empty}
+use Rattle.calls.proofs.Blocks.{held-most, held_first}
+use Rattle.calls.proofs.FeedLaws.{feed_bits-append, with_bits-filled, fill_parallel, fill_sequential}
+use Rattle.calls.proofs.Machine
+use Rattle.calls.proofs.Widths.{length-chained, length-empty}
 use Rattle.climb.specs.ReceiveLaws.{made}
 use Rattle.climb.specs.FlushLaws.{flushed, first_of, rest_of, flushed_two}
 

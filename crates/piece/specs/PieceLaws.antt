@@ -5,16 +5,16 @@ use Rattle.bits.specs.Piece.{Piece, piece_bits}
 use Rattle.bits.specs.PieceLaws.{length-piece_bits}
 use Rattle.tree.specs.Tree.{block_bits, logged}
 use Rattle.calls.specs.Area.{Long, total_of, compressions_of, params_of, levels_of, with_levels, done_blocks, open_count}
-use Rattle.calls.specs.AreaLaws.{limit-word}
+use Rattle.calls.proofs.AreaLaws.{limit-word}
 use Rattle.calls.specs.Calls.{Made, feed_bits, fed_bits, fed_area}
-use Rattle.calls.specs.CallLaws.{FeedPassed}
-use Rattle.calls.specs.WriteLaws.{set-with_levels}
+use Rattle.calls.proofs.CallLaws.{FeedPassed}
+use Rattle.calls.proofs.WriteLaws.{set-with_levels}
 use Rattle.area.specs.CountLaws.{open_above_le}
 use Rattle.node.specs.Words.{tree_params}
 use Rattle.climb.specs.ReceiveLaws.{log-written}
 use Rattle.climb.specs.Left.{Left}
 use Rattle.climb.specs.OpenArea.{OpenArea, keyed_of, open_done}
-use Rattle.calls.specs.Accepts.{fed-count}
+use Rattle.calls.proofs.Accepts.{fed-count}
 use Rattle.piece.specs.declared.Source.{Source}
 use Rattle.piece.specs.FeedSteps.{part_bits}
 use Rattle.piece.specs.ChunkLaws.{Part, fed_part, fed_whole}

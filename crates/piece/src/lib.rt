@@ -2,7 +2,7 @@
 ghost use Rattle.bits.specs.Piece.{piece_bits};
 ghost use Rattle.bits.specs.PieceLaws.{spanned};
 ghost use Rattle.calls.specs.Calls.{fed_bits};
-ghost use Rattle.calls.specs.CallLaws.{FeedPassed};
+ghost use Rattle.calls.proofs.CallLaws.{FeedPassed};
 ghost use Rattle.climb.specs.Left.{Left};
 ghost use Rattle.piece.specs.PieceLaws.{FedPiece};
 

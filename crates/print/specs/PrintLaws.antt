@@ -6,7 +6,7 @@ use Rattle.lists.specs.Flatten.{flatten-append, map-append}
 use Rattle.lists.specs.Part.{put}
 use Rattle.lists.specs.PartLaws.{next-part, put-length, put-put, put_one}
 use Rattle.digits.specs.Digits.{hex_digits}
-use Rattle.digits.specs.DigitLaws.{length_digits}
+use Rattle.digits.proofs.DigitLaws.{length_digits}
 use Rattle.print.specs.Print.{node_line, line_bytes, node_lines, byte_digits, digest_line}
 
 -- ---- the line of a node

@@ -13,7 +13,7 @@ use Rattle.refusals.specs.RefusalLaws.{answer_refused}
 use Rattle.calls.specs.Area.{total_of, params_of}
 use Rattle.calls.specs.Calls.{Opened, AreaLog, Finished, open_number, open_of, feed_number, feed_of, end_number, end_of, fed_bits, last_nodes_of, short_test, open_tests, feed_tests, end_tests}
 use Rattle.calls.specs.Vocabulary.{enough_words}
-use Rattle.calls.specs.CallLaws.{open_number_lem, open_refused, feed-number, feed-accepted, feed-refused, feed-passed, end-number, end-accepted, end_refused, end-passed}
+use Rattle.calls.proofs.CallLaws.{open_number_lem, open_refused, feed-number, feed-accepted, feed-refused, feed-passed, end-number, end-accepted, end_refused, end-passed}
 use Rattle.line.specs.Fold.{reading_of}
 use Rattle.line.specs.declared.Reading.TheVariants.{Unreadable, Readable}
 use Rattle.line.specs.declared.Rounds.{Rounds}

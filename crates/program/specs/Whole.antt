@@ -9,8 +9,8 @@ use Rattle.tree.specs.Tree.{Params, most_limit}
 use Rattle.refusals.specs.Refusals.{first_refusal, param_tests}
 use Rattle.calls.specs.Area.{area_words}
 use Rattle.calls.specs.Calls.{open_number}
-use Rattle.calls.specs.CallLaws.{open_number_lem, open_accepted}
-use Rattle.calls.specs.Stands.{settled-opened, open_stands}
+use Rattle.calls.proofs.CallLaws.{open_number_lem, open_accepted}
+use Rattle.calls.proofs.Stands.{settled-opened, open_stands}
 use Rattle.hash.specs.Hash.{rounds_by_default}
 use Rattle.line.specs.Line.{Line, line_of}
 use Rattle.line.specs.Fold.{kept_bytes, Says, start, fold_of, reading_of}

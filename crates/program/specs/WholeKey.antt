@@ -5,7 +5,7 @@ use Rattle.std.proofs.Math.Option.{Option, none, some}
 use Rattle.std.proofs.Math.Nat.{min_comm}
 use Rattle.lists.specs.Below.{Below, none as no_words, more}
 use Rattle.digits.specs.Digits.{spelt, with_word, bytes_of}
-use Rattle.digits.specs.DigitLaws.{spelt_lt}
+use Rattle.digits.proofs.DigitLaws.{spelt_lt}
 use Rattle.tree.specs.Tree.{Params, most_key_bytes, most_limit}
 use Rattle.refusals.specs.Refusals.{first_refusal, param_tests}
 use Rattle.refusals.specs.RefusalLaws.{in_range}

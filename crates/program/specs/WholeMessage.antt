@@ -13,11 +13,11 @@ use Rattle.tree.specs.Tree.{Params, Node, order, digest, digest_bytes, node_log,
 use Rattle.bits.specs.Piece.{piece_bits}
 use Rattle.calls.specs.Calls.{fed_bits, feed_number, fed_area, last_nodes_of, end_number, digest_out}
 use Rattle.calls.specs.Marks.{settled}
-use Rattle.calls.specs.CallLaws.{feed-accepted, end-accepted, feed-number as feed_is, end-number as end_is}
-use Rattle.calls.specs.Stands.{Stands, FeedDone, feed-stands, end-done}
+use Rattle.calls.proofs.CallLaws.{feed-accepted, end-accepted, feed-number as feed_is, end-number as end_is}
+use Rattle.calls.proofs.Stands.{Stands, FeedDone, feed-stands, end-done}
 use Rattle.calls.specs.Vocabulary.{enough_words}
-use Rattle.calls.specs.Accepts.{feed-tests, end-tests, end-nodes}
-use Rattle.calls.specs.LogWords.{log-enough, end-enough}
+use Rattle.calls.proofs.Accepts.{feed-tests, end-tests, end-nodes}
+use Rattle.calls.proofs.LogWords.{log-enough, end-enough}
 use Rattle.line.specs.declared.State.{State}
 use Rattle.print.specs.Print.{node_line, node_lines, digest_line}
 use Rattle.program.specs.Printed.{lines_of, hashed}

@@ -27,7 +27,7 @@ passed-by n [] ys w e = ((λ k. refl), e)
 passed-by n ((true, m) ∷ xs) ys w e = absurd (eqb-false m n (not-true (eqb m n) (and_parts (not (eqb m n)) (without n xs) w).0) e)
 passed-by n ((false, m) ∷ xs) ys w e =
     let p = passed-by n xs ys (and_parts (not (eqb m n)) (without n xs) w).1 e in
-    ((λ k. elim k [ zero ↦ refl | suc j ↦ p.0 j ]), p.1)
+    ((λ k. elim k as (λ j. test_at ((false, m) ∷ xs) j ≡ false) [ zero ↦ refl | suc j ↦ p.0 j ]), p.1)
 
 -- number 0: no test holds
 pub passed : (ts : List (Bool × ℕ)) → without 0 ts ≡ true → first_refusal ts ≡ 0 → (k : ℕ) → test_at ts k ≡ false

@@ -10,7 +10,7 @@ use Rattle.compress.specs.Compress.{grown, compressed}
 use Rattle.tree.specs.Tree.{Params, key_words, output, no_chain, digest, digest_bytes, out_words}
 use Rattle.calls.specs.Area.{params_of, levels_of, with_levels, empty_level, empty_levels, sound}
 use Rattle.calls.specs.Calls.{AreaLog, with_bit, receive, feed_bit, feed_bits, last_above, last_nodes, open_number, opened_area, open_of, fed_bits, feed_number, fed_area, feed_of, last_nodes_of, ended_area, digest_out, preview_number, preview_of, close_number, close_of}
-use Rattle.calls.specs.StreamExamples.{Row, rows, params, spare, ones}
+use Rattle.calls.proofs.StreamExamples.{Row, rows, params, spare, ones}
 use Rattle.runs.specs.Runs.{feed, preview, close, unless, outcome_of, role_of, Run, Answered, answered, answers_of, Share, share_of, joined_shares, shares}
 use Rattle.runs.specs.Statements.{pieces_in}
 use Rattle.run_examples.specs.RunTest.{lent, goes_if, used, Example, computed, expected, run_of, Gives, gives}

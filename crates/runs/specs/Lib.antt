@@ -1,9 +1,2 @@
-pub mod Corollaries
-pub mod Demand3
-pub mod Effects
-pub mod Induction
-pub mod RunLaws
 pub mod Runs
 pub mod Statements
-pub mod Suspend
-pub mod Table

@@ -2,7 +2,7 @@
 -- level, and the root's level. This is the way of the code; that the tree has this shape is shown where it is used (`nodes`, `layers`).
 use Rattle.std.specs.Prelude.{cond, ℕ, zero, suc, ◌-◌, ◌*◌, min, eqb}
 use Rattle.tree.specs.Tree.{block_bits, sequential_bits, output_bits, blocks}
-use Rattle.tree.specs.Count.{level_nodes}
+use Rattle.tree.proofs.Count.{level_nodes}
 
 -- how many of m things a node takes that stands at an index and takes so many at most
 abbrev pub taken : ℕ → ℕ → ℕ → ℕ

@@ -5,7 +5,7 @@ use Rattle.std.proofs.Math.Nat.{pow-succ'}
 use Rattle.std.proofs.lemmas.Bool.{eqb-false}
 use Rattle.tree.specs.Tree.{blocks, block_bits, sequential_bits, output_bits, most_levels}
 use Rattle.shape.specs.Shape.{taken, block_padding, sequential_nodes, sequential_padding, top_from, top_level}
-use Rattle.tree.specs.Count.{level_nodes, fourth, level_nodes-one, level_nodes-suc, level_nodes_some}
+use Rattle.tree.proofs.Count.{level_nodes, fourth, level_nodes-one, level_nodes-suc, level_nodes_some}
 
 pub level_nodes-more : (m level : ℕ) → 0 < level → level_nodes m (level + 1) ≡ blocks 4 (level_nodes m level)
 level_nodes-more m zero h = absurd (omega arith)

@@ -4,7 +4,7 @@ ghost use Rattle.std.specs.Prelude.{◌≡◌, suc, ◌+◌, ◌-◌, ◌*◌, �
 ghost use Rattle.bits.specs.Bits.{digit};
 ghost use Rattle.tree.specs.Tree.{blocks, most_limit};
 ghost use Rattle.tree.specs.Sizes.{tree_nodes};
-ghost use Rattle.tree.specs.Count.{level_nodes};
+ghost use Rattle.tree.proofs.Count.{level_nodes};
 ghost use Rattle.shape.specs.Shape.{taken, block_padding, sequential_nodes, sequential_padding, top_level};
 
 use node::Block;

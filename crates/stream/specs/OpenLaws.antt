@@ -10,7 +10,7 @@ use Rattle.tree.specs.Tree.{Params, key_words}
 use Rattle.refusals.specs.Refusals.{first_refusal, param_tests}
 use Rattle.node.specs.DigestLaws.{key-filled}
 use Rattle.calls.specs.Area.{block_words, area_levels, area_words}
-use Rattle.calls.specs.AreaLaws.{flatten-empty}
+use Rattle.calls.proofs.AreaLaws.{flatten-empty}
 use Rattle.calls.specs.Calls.{short_test, open_number, opened_area}
 use Rattle.numbers.specs.NumberLaws.{part-number}
 

@@ -8,7 +8,7 @@ use lib.ListN.{length, drop, replicate, length-append, length-replicate}
 use lib.Seq.{take_at}
 use Rattle.calls.specs.Area.{Long}
 use Rattle.texts.specs.Text.{rounds_bytes, text_with}
-use Rattle.texts.specs.LengthLaws.{most_text, text-most}
+use Rattle.texts.proofs.LengthLaws.{most_text, text-most}
 
 pub again_room : (w : ℕ) (area text : List ℕ) → w ≤ rounds_bytes → Long area → length text ≡ length (text_with w area) → length text ≤ length {A = ℕ} (replicate most_text 0)
 again_room w area text b h e = rw (length-replicate {A = ℕ} most_text 0) (omega (arith, text-most w area h))

@@ -15,10 +15,10 @@ use Rattle.refusals.specs.RefusalLaws.{first_part}
 use Rattle.calls.specs.Area.{area_words, own_words}
 use Rattle.calls.specs.Calls.{area_tests}
 use Rattle.area.specs.SoundLaws.{LongSound}
-use Rattle.calls.specs.AreaLaws.{limit-word}
+use Rattle.calls.proofs.AreaLaws.{limit-word}
 use Rattle.texts.specs.Text.{text_of, read_area, readable, area_in, Written, write_number, write_of, Taken, read_number, read_of}
-use Rattle.texts.specs.LayoutLaws.{own-front}
-use Rattle.texts.specs.ReadLaws.{number_by, read-passed, read-accepted, write-accepted}
+use Rattle.texts.proofs.LayoutLaws.{own-front}
+use Rattle.texts.proofs.ReadLaws.{number_by, read-passed, read-accepted, write-accepted}
 
 abbrev written : ℕ → ℕ → List ℕ → Written
 written number count text = record { number = number; count = count; text = text }

@@ -14,15 +14,15 @@ use Rattle.lists.specs.SameLaws.{same-other-length}
 use Rattle.lists.specs.Take.{drop-take}
 use Rattle.tree.specs.Tree.{most_levels, most_limit}
 use Rattle.calls.specs.Area.{head_words, block_words, area_levels, area_words, params_of, own_levels, own_words, sound, Long}
-use Rattle.calls.specs.AreaLaws.{limit-word}
+use Rattle.calls.proofs.AreaLaws.{limit-word}
 use Rattle.digits.specs.Digits.{all_spelt}
 use Rattle.texts.specs.Text.{rounds_bytes, line1_fields, held_of, text_with, level_bytes, head_bytes, spelt_head, spelt_levels, spelt_area, text_is, readable_with, readable, read_area}
-use Rattle.texts.specs.LayoutLaws.{sound-front, text-front}
-use Rattle.texts.specs.LengthLaws.{lines, text-length}
+use Rattle.texts.proofs.LayoutLaws.{sound-front, text-front}
+use Rattle.texts.proofs.LengthLaws.{lines, text-length}
 use Rattle.writing.specs.Lines.{lines_above, length-text}
 use Rattle.text.specs.Spelling.{zero_levels, Spelt}
-use Rattle.texts.specs.ReadForms.{form_of, one_form}
-use Rattle.texts.specs.TextLaws.{limit-front, held-front, length-spelt_head, headed, headed-front, length-spelt_area}
+use Rattle.texts.proofs.ReadForms.{form_of, one_form}
+use Rattle.texts.proofs.TextLaws.{limit-front, held-front, length-spelt_head, headed, headed-front, length-spelt_area}
 
 -- ---- a text that is not read
 

@@ -14,11 +14,11 @@ use Rattle.lists.specs.PartLaws.{put-take, put-drop, put-length}
 use Rattle.calls.specs.Area.{head_words, block_words, params_of, own_levels, own_words, empty_level, Long}
 use Rattle.digits.specs.Digits.{spelt_words, all_spelt}
 use Rattle.texts.specs.Text.{held_of, level_bytes, spelt_levels}
-use Rattle.digits.specs.DigitLaws.{length-spelt_words, all_known, known_all, all-part}
-use Rattle.texts.specs.LengthLaws.{length-held}
+use Rattle.digits.proofs.DigitLaws.{length-spelt_words, all_known, known_all, all-part}
+use Rattle.texts.proofs.LengthLaws.{length-held}
 use Rattle.writing.specs.Lines.{has_line_at, lines_above, held_at, above-no, length-yes}
 use Rattle.text.specs.Spelling.{zero_levels, values, level_spelt, LevelSpelt}
-use Rattle.texts.specs.TextLaws.{limit-front, held-front}
+use Rattle.texts.proofs.TextLaws.{limit-front, held-front}
 use Rattle.lists.specs.Take.{drop-take}
 use Rattle.text.proofs.LinesSpelt.{words-front}
 

@@ -7,7 +7,7 @@ ghost use Rattle.calls.specs.Area.{head_words, area_words, own_levels, own_words
 ghost use Rattle.digits.specs.Digits.{all_spelt};
 ghost use Rattle.texts.specs.Text.{rounds_bytes, line1_fields, held_of, text_with, level_bytes, head_bytes};
 ghost use Rattle.texts.specs.Text.{spelt_head, spelt_levels, readable, read_area};
-ghost use Rattle.texts.specs.ReadForms.{form_of};
+ghost use Rattle.texts.proofs.ReadForms.{form_of};
 ghost use Rattle.writing.specs.Lines.{lines_above};
 ghost use Rattle.text.specs.Spelling.{zero_levels, LevelSpelt, Spelt};
 

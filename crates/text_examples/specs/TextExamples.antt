@@ -12,7 +12,7 @@ use Rattle.calls.specs.Calls.{with_bit, receive, feed_bit, feed_bits, last_above
 use Rattle.digits.specs.Digits.{hex_digits, spelt_words}
 use Rattle.texts.specs.Text.{rounds_bytes, old_rounds_bytes, text_with, text_of, old_text_of, spelt_head, spelt_area, readable_with, readable, read_area, write_number, write_of, read_number, read_of}
 use Rattle.texts.specs.Vocabulary.{text_before, widened}
-use Rattle.texts.specs.FieldExamples.{ascii}
+use Rattle.texts.proofs.FieldExamples.{ascii}
 
 abbrev zeros : ℕ → List ℕ
 zeros n = replicate n 48

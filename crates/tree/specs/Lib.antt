@@ -1,17 +1,5 @@
-pub mod Count
-pub mod Examples
-pub mod Fresh
-pub mod Height
-pub mod KeyExamples
 pub mod Kind
-pub mod KindLaws
-pub mod OrderExamples
-pub mod OrderLaws
-pub mod OutputLaws
 pub mod Place
-pub mod Places
-pub mod Shape
 pub mod Sizes
 pub mod Tree
-pub mod TreeLaws
 pub mod Vocabulary

@@ -10,7 +10,7 @@ use lib.Pow.{shr-shr}
 use lib.ListN.{get_or, replicate}
 use Rattle.tree.specs.Tree.{block_bits, sequential_bits, output_bits}
 use Rattle.calls.specs.Area.{phase_of, total_of, params_of, own_levels, done_blocks, held_bits, parallel_hold, holds_above, open_holds}
-use Rattle.calls.specs.AreaLaws.{limit-word}
+use Rattle.calls.proofs.AreaLaws.{limit-word}
 use Rattle.texts.specs.Text.{has_line, held_levels}
 use Rattle.writing.specs.Lines.{has_line_at}
 

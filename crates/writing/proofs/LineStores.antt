@@ -9,13 +9,13 @@ use lib.Seq.{drop-cons, set_at}
 use Rattle.calls.specs.Area.{head_words, k_of, own_levels, level_words, Long}
 use Rattle.digits.specs.Digits.{hex_digits, word_digits, line}
 use Rattle.texts.specs.Text.{line1_fields, field_digits, line1, line2, level_line, digits_in, line1_bytes, level_bytes, head_bytes}
-use Rattle.texts.specs.FieldLaws.{field_words, field_sizes, length_fields}
+use Rattle.texts.proofs.FieldLaws.{field_words, field_sizes, length_fields}
 use Rattle.writing.specs.FieldAt.{digits_some, field-more, digits_more}
-use Rattle.digits.specs.DigitLaws.{length_digits, length-word_digits}
-use Rattle.calls.specs.AreaLaws.{length-level_words}
-use Rattle.texts.specs.LayoutLaws.{length-key_of}
-use Rattle.texts.specs.LengthLaws.{length-line1}
-use Rattle.digits.specs.Loops.{lent-next, lent_digits}
+use Rattle.digits.proofs.DigitLaws.{length_digits, length-word_digits}
+use Rattle.calls.proofs.AreaLaws.{length-level_words}
+use Rattle.texts.proofs.LayoutLaws.{length-key_of}
+use Rattle.texts.proofs.LengthLaws.{length-line1}
+use Rattle.digits.proofs.Loops.{lent-next, lent_digits}
 
 -- the last byte of a line is stored
 line-end : (P part : List ℕ) (n : ℕ) → length P ≡ n → length part ≡ suc n → set (P ++ drop n part) n 10 ≡ line P

@@ -9,11 +9,11 @@ use lib.ListN.{length, take, drop}
 use lib.Seq.{drop-length, drop_at, drop-drop, length-take-le}
 use Rattle.calls.specs.Area.{own_levels, level_words, Long}
 use Rattle.texts.specs.Text.{line1_fields, line1, line2, level_line, text_with, level_bytes, head_bytes}
-use Rattle.texts.specs.LengthLaws.{length-level_line}
-use Rattle.calls.specs.AreaLaws.{length-level_words}
+use Rattle.texts.proofs.LengthLaws.{length-level_line}
+use Rattle.calls.proofs.AreaLaws.{length-level_words}
 use Rattle.writing.specs.Lines.{has_line_at, lines_above, above-yes, above-no, above_less, length-yes, above-all, text-lines, length-head, length-text}
 use Rattle.lists.specs.PartLaws.{put-length}
-use Rattle.digits.specs.Loops.{lent-next}
+use Rattle.digits.proofs.Loops.{lent-next}
 
 -- a part whose bytes from e on are the lines of the levels above level k
 pub record Putting (area part : List ℕ) (e k : ℕ) : Type 0 where

@@ -8,9 +8,9 @@ use Rattle.lists.specs.BelowLaws.{below_at}
 use Rattle.lists.specs.Flatten.{flatten-append, map-append}
 use Rattle.calls.specs.Area.{head_words}
 use Rattle.digits.specs.Digits.{hex_digits}
-use Rattle.digits.specs.DigitLaws.{length_digits}
+use Rattle.digits.proofs.DigitLaws.{length_digits}
 use Rattle.texts.specs.Text.{Field, field_of, rounds_bytes, line1_fields, digits_of, field_digits, digits_in}
-use Rattle.texts.specs.FieldLaws.{field_words, field_sizes, words-head, sizes-word, length_fields}
+use Rattle.texts.proofs.FieldLaws.{field_words, field_sizes, words-head, sizes-word, length_fields}
 
 -- ---- field i, after those before it
 

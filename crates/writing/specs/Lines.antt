@@ -4,8 +4,8 @@ use Rattle.std.proofs.Common.{sym, ap, ◌∙◌, append_assoc, add-one, arith, 
 use Rattle.std.proofs.Math.Bool.{true, false}
 use Rattle.calls.specs.Area.{head_words, own_levels, Long, level_words, levels_from, levels_of}
 use Rattle.texts.specs.Text.{rounds_bytes, line1_fields, line1, line2, level_line, held_of, level_lines, text_with, level_bytes, head_bytes}
-use Rattle.calls.specs.AreaLaws.{length-level_words}
-use Rattle.texts.specs.LengthLaws.{length-line1, length-line2, length-level_line, length-held, text-most}
+use Rattle.calls.proofs.AreaLaws.{length-level_words}
+use Rattle.texts.proofs.LengthLaws.{length-line1, length-line2, length-level_line, length-held, text-most}
 
 -- whether a level of an area has a line
 unfoldable pub has_line_at : List ℕ → ℕ → Bool

@@ -2,7 +2,7 @@
 ghost use Rattle.std.specs.Prelude.{◌≡◌, ◌++◌, ◌≤◌, length};
 ghost use Rattle.calls.specs.Area.{head_words, own_levels, level_words, Long};
 ghost use Rattle.texts.specs.Text.{rounds_bytes, line1_fields, line1, line2, level_line, line1_bytes, level_bytes, head_bytes};
-ghost use Rattle.texts.specs.FieldLaws.{field_sizes};
+ghost use Rattle.texts.proofs.FieldLaws.{field_sizes};
 
 use area::Area;
 use refusals::Params;

@@ -5,7 +5,7 @@ use borrow.Author.Tests.{lt-ltb}
 use lib.Dec.{ltb}
 use lib.ListN.{length}
 use Rattle.calls.specs.Area.{area_words, own_words}
-use Rattle.calls.specs.AreaLaws.{limit-word}
+use Rattle.calls.proofs.AreaLaws.{limit-word}
 use Rattle.area.proofs.is_short.Statement.{statement}
 use Rattle.area.proofs.is_short.Tie as tie
 

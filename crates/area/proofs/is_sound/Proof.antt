@@ -4,7 +4,7 @@ use mathlib.Core.Path.{sym, ◌∙◌}
 use borrow.Author.Tests.{not-true, not-false}
 use Rattle.calls.specs.Area.{sound_levels}
 use Rattle.lists.specs.And.{and_first, and_second}
-use Rattle.calls.specs.SoundParts.{sound_head, sound-parts}
+use Rattle.calls.proofs.SoundParts.{sound_head, sound-parts}
 use Rattle.area.proofs.is_sound.Statement.{statement}
 use Rattle.area.proofs.is_sound.Tie as tie
 

@@ -1,7 +1,7 @@
 -- `new_word` meets its contract: the word is the one that `step` makes of the words before it in its lane.
 use mathlib.Core.Path.{◌∙◌}
 use Rattle.compress.specs.Buffer.{new_word}
-use Rattle.compress.specs.ReportLaws.{report_step_lem}
+use Rattle.compress.proofs.ReportLaws.{report_step_lem}
 use borrow.Author.Rules.{rules}
 use Rattle.compress.proofs.new_word.Statement.{statement}
 use Rattle.compress.proofs.new_word.Tie as tie

@@ -5,7 +5,7 @@ use Prim.Native.Nat.{◌-◌, ◌≤◌}
 use lib.ListN.{length, take}
 use lib.Seq.{take_all}
 use Rattle.digits.specs.Digits.{spelt}
-use Rattle.digits.specs.Loops.{digit-more, digit_none, digit-fits, digit-next-fits}
+use Rattle.digits.proofs.Loops.{digit-more, digit_none, digit-fits, digit-next-fits}
 use borrow.Author.Rules.{rules}
 use native.Mathlib.Omega.{arith}
 use Rattle.digits.proofs.number.Statement.{statement}

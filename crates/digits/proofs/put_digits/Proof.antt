@@ -4,8 +4,8 @@ use mathlib.Core.Path.{◌≡◌, refl, sym, ◌∙◌}
 use mathlib.Core.List.{◌++◌}
 use lib.ListN.{length, take, drop, length-set}
 use Rattle.digits.specs.Digits.{hex_digits}
-use Rattle.digits.specs.DigitLaws.{length_digits}
-use Rattle.digits.specs.Loops.{copy_more, copy_all, get_d_digits}
+use Rattle.digits.proofs.DigitLaws.{length_digits}
+use Rattle.digits.proofs.Loops.{copy_more, copy_all, get_d_digits}
 use borrow.Author.Rules.{rules}
 use native.Mathlib.Omega.{arith}
 use Rattle.digits.proofs.put_digits.Statement.{statement}

@@ -4,7 +4,7 @@ use mathlib.Core.Path.{◌≡◌, refl, ap, ◌∙◌}
 use mathlib.Core.List.{◌++◌}
 use lib.ListN.{length, take, drop}
 use Rattle.digits.specs.Digits.{word_digits}
-use Rattle.digits.specs.Loops.{words_step, words-length, words-all}
+use Rattle.digits.proofs.Loops.{words_step, words-length, words-all}
 use borrow.Author.Rules.{rules}
 use native.Mathlib.Omega.{arith}
 use Rattle.digits.proofs.put_words.Statement.{statement}

@@ -5,8 +5,8 @@ use mathlib.Core.Option.{Option, none, some}
 use Prim.Native.Nat.{ℕ, ◌+◌, ◌-◌, ◌*◌, ◌≤◌}
 use lib.ListN.{length, take, drop, get_or, length-set}
 use Rattle.digits.specs.Digits.{spelt, spelt_words, reading_number}
-use Rattle.digits.specs.DigitLaws.{length-spelt_words, all-at}
-use Rattle.digits.specs.Loops.{get_d_spelt_words, word_more, word-all}
+use Rattle.digits.proofs.DigitLaws.{length-spelt_words, all-at}
+use Rattle.digits.proofs.Loops.{get_d_spelt_words, word_more, word-all}
 use borrow.Author.Rules.{rules}
 use native.Mathlib.Omega.{arith}
 use Rattle.digits.proofs.spell_words.Statement.{statement}

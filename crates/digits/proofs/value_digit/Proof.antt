@@ -2,7 +2,7 @@
 use mathlib.Core.Path.{sym}
 use native.Mathlib.Omega.{arith}
 use borrow.Author.Rules.{rules}
-use Rattle.digits.specs.HexLaws.{hex_low, hex_high}
+use Rattle.digits.proofs.HexLaws.{hex_low, hex_high}
 use Rattle.digits.proofs.value_digit.Statement.{statement}
 use Rattle.digits.proofs.value_digit.Tie as tie
 

@@ -3,10 +3,10 @@ use native.Mathlib.Omega.{arith}
 use mathlib.Core.Path.{sym, ap, ◌∙◌}
 use Prim.Native.Nat.{◌-◌, ◌*◌}
 use lib.ListN.{length, replicate, length-take}
-use Rattle.tree.specs.OutputLaws.{length-logged}
+use Rattle.tree.proofs.OutputLaws.{length-logged}
 use Rattle.calls.specs.Calls.{last_nodes_of}
-use Rattle.calls.specs.CallLaws.{close_passed, close-refused, close-accepted}
-use Rattle.calls.specs.LogWords.{last_bound}
+use Rattle.calls.proofs.CallLaws.{close_passed, close-refused, close-accepted}
+use Rattle.calls.proofs.LogWords.{last_bound}
 use Rattle.numbers.specs.NumberLaws.{area-passed, close-decided}
 use Rattle.ending.specs.EndLaws.{log_copied}
 use Rattle.ending.proofs.close.Statement.{statement}

@@ -1,6 +1,6 @@
 -- `ending::end` meets its contract: one equation for every area, output and log.
 use mathlib.Core.Path.{sym, ◌∙◌}
-use Rattle.calls.specs.CallLaws.{end-passed, end_refused, end-accepted}
+use Rattle.calls.proofs.CallLaws.{end-passed, end_refused, end-accepted}
 use native.Mathlib.Omega.{arith}
 use Rattle.ending.proofs.end.Statement.{statement}
 use Rattle.ending.proofs.end.Tie as tie

@@ -5,7 +5,7 @@ use mathlib.Core.Path.{ap, ◌∙◌}
 use Prim.Native.Nat.{◌-◌}
 use lib.ListN.{length, take, replicate}
 use Rattle.numbers.specs.NumberLaws.{digest-small, close-numbers}
-use Rattle.calls.specs.Previews.{digest-front, length-digest_out}
+use Rattle.calls.proofs.Previews.{digest-front, length-digest_out}
 use Rattle.ending.proofs.figure_number.Statement.{statement}
 use Rattle.ending.proofs.figure_number.Tie as tie
 

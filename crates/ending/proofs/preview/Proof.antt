@@ -1,8 +1,8 @@
 -- `ending::preview` meets its contract: one equation for every area and output.
 use native.Mathlib.Omega.{arith}
 use mathlib.Core.Path.{sym, ◌∙◌}
-use Rattle.calls.specs.CallLaws.{preview-passed, preview-refused, preview-accepted}
-use Rattle.calls.specs.LogWords.{last_bound}
+use Rattle.calls.proofs.CallLaws.{preview-passed, preview-refused, preview-accepted}
+use Rattle.calls.proofs.LogWords.{last_bound}
 use Rattle.ending.proofs.preview.Statement.{statement}
 use Rattle.ending.proofs.preview.Tie as tie
 

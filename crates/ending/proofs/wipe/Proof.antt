@@ -3,7 +3,7 @@ use mathlib.Core.Path.{◌≡◌, ap, ◌∙◌}
 use Prim.Native.Nat.{ℕ}
 use lib.ListN.{set, replicate, length-set}
 use Rattle.calls.specs.Area.{own_words, params_of}
-use Rattle.calls.specs.AreaLaws.{limit-word, params-set}
+use Rattle.calls.proofs.AreaLaws.{limit-word, params-set}
 use Rattle.ending.specs.EndLaws.{wiped}
 use native.Mathlib.Omega.{arith}
 use Rattle.ending.proofs.wipe.Statement.{statement}

@@ -5,7 +5,8 @@ use Rattle.bits.specs.Piece.{piece_of}
 use Rattle.tree.specs.Sizes.{tree_nodes}
 use Rattle.refusals.specs.declared.Params.{Params}
 use Rattle.hash.specs.Hash.{hash_number, hash_of}
-use Rattle.hash.specs.HashLaws.{with_key, number_for_lem, number-accepted, hash_refused, hash_accepted}
+use Rattle.hash.specs.Accepted.{with_key}
+use Rattle.hash.proofs.HashLaws.{number_for_lem, number-accepted, hash_refused, hash_accepted}
 use Rattle.hash.proofs.hash.Statement.{statement}
 use Rattle.hash.proofs.hash.Tie as tie
 

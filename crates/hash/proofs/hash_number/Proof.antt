@@ -7,7 +7,8 @@ use lib.Dec.{ltb}
 use lib.ListN.{length}
 use Rattle.bits.specs.PieceLaws.{spanned}
 use Rattle.refusals.specs.RefusalLaws.{in_range}
-use Rattle.hash.specs.HashLaws.{number_for, number-bits, number-ranges, number-output}
+use Rattle.hash.specs.Accepted.{number_for}
+use Rattle.hash.proofs.HashLaws.{number-bits, number-ranges, number-output}
 use Rattle.hash.proofs.hash_number.Statement.{statement}
 use Rattle.hash.proofs.hash_number.Tie as tie
 

@@ -1,5 +1,6 @@
 -- `hash::put_digest` meets its contract: the root worked out node by node is the root of the levels.
-use Rattle.hash.specs.HashLaws.{with_key, params-key, key-ready, digest-root}
+use Rattle.hash.specs.Accepted.{with_key}
+use Rattle.hash.proofs.HashLaws.{params-key, key-ready, digest-root}
 use Rattle.nodes.specs.Value.{root_value}
 use Rattle.node.specs.Words.{tree_params}
 use Rattle.bits.specs.PieceLaws.{span_bits}

@@ -2,7 +2,7 @@
 use mathlib.Core.Path.{sym}
 use native.Mathlib.Omega.{arith}
 use borrow.Author.Rules.{rules}
-use Rattle.hash.specs.RoundsLaws.{keyed-rounds, unkeyed_rounds_lem}
+use Rattle.hash.proofs.RoundsLaws.{keyed-rounds, unkeyed_rounds_lem}
 use Rattle.hash.proofs.rounds_by_default.Statement.{statement}
 use Rattle.hash.proofs.rounds_by_default.Tie as tie
 

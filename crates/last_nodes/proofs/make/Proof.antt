@@ -1,7 +1,7 @@
 -- `last_nodes::make` meets its contract.
 use mathlib.Core.Path.{◌∙◌}
 use Rattle.lists.specs.Slices.{words-below}
-use Rattle.calls.specs.AreaLaws.{limit-word}
+use Rattle.calls.proofs.AreaLaws.{limit-word}
 use Rattle.calls.specs.Calls.{last_nodes_of}
 use Rattle.climb.specs.OpenArea.{open_ready, params-read}
 use Rattle.climb.specs.ReceiveLaws.{log-written}

@@ -4,9 +4,9 @@ use borrow.Author.Rules.{rules}
 use Rattle.bits.specs.Piece.{piece_of}
 use Rattle.tree.specs.Sizes.{tree_nodes}
 use Rattle.refusals.specs.declared.Params.{Params}
-use Rattle.hash.specs.HashLaws.{with_key}
+use Rattle.hash.specs.Accepted.{with_key}
 use Rattle.layers.specs.Layers.{layers_number, layers_of}
-use Rattle.layers.specs.CallLaws.{number_for_lem, number-accepted, layers_refused, layers_made}
+use Rattle.layers.proofs.CallLaws.{number_for_lem, number-accepted, layers_refused, layers_made}
 use Rattle.layers.proofs.layers.Statement.{statement}
 use Rattle.layers.proofs.layers.Tie as tie
 

@@ -3,7 +3,7 @@ use mathlib.Core.Path.{sym, ◌∙◌}
 use borrow.Author.Rules.{rules}
 use borrow.Author.Tests.{eq-eqb, ne_eqb}
 use Rattle.bits.specs.PieceLaws.{spanned}
-use Rattle.layers.specs.CallLaws.{limit_low}
+use Rattle.layers.proofs.CallLaws.{limit_low}
 use Rattle.layers.proofs.layers_number.Statement.{statement}
 use Rattle.layers.proofs.layers_number.Tie as tie
 

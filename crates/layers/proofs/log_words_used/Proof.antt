@@ -1,7 +1,7 @@
 -- `log_words_used` meets its contract: twice the nodes of a tree are below 2 ^ 64.
 use native.Mathlib.Omega.{arith}
 use borrow.Author.Rules.{rules}
-use Rattle.tree.specs.Count.{tree_nodes_bound}
+use Rattle.tree.proofs.Count.{tree_nodes_bound}
 use Rattle.layers.proofs.log_words_used.Statement.{statement}
 use Rattle.layers.proofs.log_words_used.Tie as tie
 

@@ -9,9 +9,11 @@ use Rattle.lists.specs.Slices.{bytes_below}
 use Rattle.bits.specs.PieceLaws.{span_bits}
 use Rattle.tree.specs.Tree.{Params, digest_bytes}
 use Rattle.node.specs.Words.{tree_params}
-use Rattle.hash.specs.HashLaws.{with_key, params-key, key-ready}
-use Rattle.layers.specs.Steps.{Room, made_by}
-use Rattle.layers.specs.CallLaws.{digest-root}
+use Rattle.hash.specs.Accepted.{with_key}
+use Rattle.hash.proofs.HashLaws.{params-key, key-ready}
+use Rattle.layers.specs.Accepted.{Room}
+use Rattle.layers.proofs.Steps.{made_by}
+use Rattle.layers.proofs.CallLaws.{digest-root}
 use Rattle.layers.proofs.put_layers.Statement.{statement}
 use Rattle.layers.proofs.put_layers.Tie as tie
 

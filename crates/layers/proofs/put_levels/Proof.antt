@@ -10,7 +10,7 @@ use Rattle.node.specs.Words.{tree_params}
 use Rattle.node.specs.WordLaws.{v-made}
 use Rattle.layer.specs.OneLayer.{source}
 use Rattle.layer.specs.IndexLaws.{some_size, length-source}
-use Rattle.layers.specs.Steps.{done_none, done_all, top_is, Turn, Going, going}
+use Rattle.layers.proofs.Steps.{done_none, done_all, top_is, Turn, Going, going}
 use Rattle.layers.proofs.put_levels.Statement.{statement}
 use Rattle.layers.proofs.put_levels.Tie as tie
 

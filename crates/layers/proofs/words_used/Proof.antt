@@ -5,8 +5,8 @@ use native.Mathlib.Omega.{arith}
 use borrow.Author.Rules.{rules}
 use Rattle.layer.specs.OneLayer.{nodes_in}
 use Rattle.layers.specs.Layers.{first_nodes}
-use Rattle.layers.specs.Steps.{first_small}
-use Rattle.layers.specs.CallLaws.{first-nodes, first-size}
+use Rattle.layers.proofs.Steps.{first_small}
+use Rattle.layers.proofs.CallLaws.{first-nodes, first-size}
 use Rattle.layers.proofs.words_used.Statement.{statement}
 use Rattle.layers.proofs.words_used.Tie as tie
 

@@ -9,7 +9,7 @@ use Rattle.bits.specs.Piece.{piece_bits}
 use Rattle.bits.specs.PieceLaws.{spanned, span_bits}
 use lib.ListN.{length}
 use Prim.Native.Nat.{◌≤◌, ◌-◌, ◌+◌, ◌*◌, ◌^◌, ◌<◌, ℕ}
-use Rattle.tree.specs.Count.{level_nodes}
+use Rattle.tree.proofs.Count.{level_nodes}
 use mathlib.Core.List.{List}
 use mathlib.Core.Path.{◌≡◌, refl, ap, sym, ◌∙◌}
 use borrow.Author.Rules.{rules}

@@ -1,7 +1,7 @@
 -- `piece::feed_nodes` meets its contract.
 use Rattle.lists.specs.Slices.{words-below}
 use Rattle.bits.specs.PieceLaws.{spanned}
-use Rattle.calls.specs.AreaLaws.{limit-word}
+use Rattle.calls.proofs.AreaLaws.{limit-word}
 use Rattle.climb.specs.OpenArea.{open_ready}
 use Rattle.piece.specs.PieceLaws.{fed-read}
 use native.Mathlib.Omega.{arith}

@@ -1,5 +1,5 @@
 -- `print::put_hex` puts the digits of a number into the part of the text that it lends on.
-use Rattle.digits.specs.Loops.{lent-number}
+use Rattle.digits.proofs.Loops.{lent-number}
 use native.Mathlib.Omega.{arith}
 use borrow.Author.Rules.{rules}
 use Rattle.print.proofs.put_hex.Statement.{statement}

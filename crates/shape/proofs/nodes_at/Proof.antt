@@ -1,6 +1,6 @@
 -- `shape::nodes_at` meets its contract. The loop's invariant: the nodes of the level that is reached.
 use Rattle.shape.specs.ShapeLaws.{level_nodes-more}
-use Rattle.tree.specs.Count.{level_nodes, level_nodes-one}
+use Rattle.tree.proofs.Count.{level_nodes, level_nodes-one}
 use Rattle.tree.specs.Tree.{blocks}
 use Prim.Native.Nat.{◌-◌, ◌≤◌, ◌<◌}
 use mathlib.Core.Path.{◌≡◌, ◌∙◌, ap, sym}

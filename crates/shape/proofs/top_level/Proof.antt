@@ -1,6 +1,6 @@
 -- `shape::top_level` meets its contract. The loop's invariant: the top is looked for from this level on.
 use Rattle.shape.specs.ShapeLaws.{level_nodes-more, top_start, top_one, top-more, top-past, top-most}
-use Rattle.tree.specs.Count.{level_nodes, level_nodes-one}
+use Rattle.tree.proofs.Count.{level_nodes, level_nodes-one}
 use Rattle.shape.specs.Shape.{top_from, top_level}
 use Rattle.tree.specs.Tree.{blocks}
 use Prim.Native.Nat.{◌+◌, ◌-◌, ◌≤◌, ◌<◌}

@@ -2,7 +2,7 @@
 use native.Mathlib.Omega.{arith}
 use mathlib.Core.Path.{sym, ◌∙◌}
 use Rattle.bits.specs.Piece.{piece_of}
-use Rattle.calls.specs.CallLaws.{feed-passed, feed-refused, feed-accepted}
+use Rattle.calls.proofs.CallLaws.{feed-passed, feed-refused, feed-accepted}
 use Rattle.stream.proofs.feed.Statement.{statement}
 use Rattle.stream.proofs.feed.Tie as tie
 

@@ -3,7 +3,7 @@ use native.Mathlib.Omega.{arith}
 use mathlib.Core.Path.{◌≡◌, ap, ◌∙◌}
 use lib.Dec.{leb}
 use Rattle.calls.specs.Area.{own_levels}
-use Rattle.calls.specs.AreaLaws.{limit-word}
+use Rattle.calls.proofs.AreaLaws.{limit-word}
 use Rattle.area.specs.SoundLaws.{LongSound, sound-passed}
 use Rattle.stream.specs.LevelLaws.{shown-refused, shown_low, shown_high}
 use Rattle.stream.proofs.is_shown.Statement.{statement}

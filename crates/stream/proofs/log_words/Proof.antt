@@ -1,7 +1,7 @@
 -- `stream::log_words` meets its contract: one equation for every area and bit count.
 use native.Mathlib.Omega.{arith}
 use mathlib.Core.Path.{sym, ◌∙◌}
-use Rattle.calls.specs.CallLaws.{log_words-refused, log_words-accepted, log_words-passed}
+use Rattle.calls.proofs.CallLaws.{log_words-refused, log_words-accepted, log_words-passed}
 use Rattle.numbers.specs.NumberLaws.{words-fit}
 use Rattle.stream.proofs.log_words.Statement.{statement}
 use Rattle.stream.proofs.log_words.Tie as tie

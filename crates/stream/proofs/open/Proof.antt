@@ -10,7 +10,7 @@ use Rattle.refusals.specs.Refusals.{first_refusal, range_tests}
 use Rattle.refusals.specs.RefusalLaws.{in_range}
 use Rattle.refusals.specs.declared.Params.{Params}
 use Rattle.calls.specs.Calls.{open_number}
-use Rattle.calls.specs.CallLaws.{open_refused, open_accepted, open_passed}
+use Rattle.calls.proofs.CallLaws.{open_refused, open_accepted, open_passed}
 use Rattle.stream.specs.OpenLaws.{open_numbers}
 use Rattle.stream.proofs.open.Statement.{statement}
 use Rattle.stream.proofs.open.Tie as tie

@@ -1,7 +1,7 @@
 -- `text::read` meets its contract.
 use mathlib.Core.Path.{sym, ◌∙◌}
 use lib.ListN.{length-take}
-use Rattle.texts.specs.ReadLaws.{read-refused}
+use Rattle.texts.proofs.ReadLaws.{read-refused}
 use Rattle.text.proofs.CallLaws.{Tried, read-decided, read-room, read_done}
 use native.Mathlib.Omega.{arith}
 use borrow.Author.Rules.{rules}

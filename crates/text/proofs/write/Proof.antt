@@ -1,7 +1,7 @@
 -- `text::write` meets its contract.
 use lib.ListN.{length-take}
 use Rattle.area.specs.SoundLaws.{LongSound, sound-passed}
-use Rattle.texts.specs.ReadLaws.{write-refused}
+use Rattle.texts.proofs.ReadLaws.{write-refused}
 use Rattle.text.proofs.CallLaws.{write_unsound, write-output, write_done}
 use native.Mathlib.Omega.{arith}
 use borrow.Author.Rules.{rules}

@@ -2,7 +2,7 @@
 use native.Mathlib.Omega.{arith}
 use mathlib.Core.Path.{refl, ap, ◌∙◌}
 use lib.ListN.{length}
-use Rattle.calls.specs.AreaLaws.{length-level_words}
+use Rattle.calls.proofs.AreaLaws.{length-level_words}
 use Rattle.area.specs.SoundLaws.{lent_level}
 use Rattle.area.proofs.Area.level.Statement.{statement}
 use Rattle.area.proofs.Area.level.Tie as tie

@@ -2,7 +2,7 @@
 use mathlib.Core.Path.{◌≡◌, ap}
 use Prim.Native.Nat.{◌+◌}
 use Rattle.calls.specs.Area.{open_above}
-use Rattle.calls.specs.Counts.{open_above_none}
+use Rattle.calls.proofs.Counts.{open_above_none}
 use Rattle.area.specs.CountLaws.{open_above_le, open_above-last, open_above-more}
 use native.Mathlib.Omega.{arith}
 use Rattle.area.proofs.count.open_above.Statement.{statement}

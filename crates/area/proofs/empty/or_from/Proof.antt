@@ -5,7 +5,7 @@ use mathlib.Core.Path.{◌≡◌, refl, sym, ◌∙◌}
 use Prim.Native.Nat.{◌-◌}
 use lib.Dec.{eqb}
 use lib.ListN.{length, drop, drop_of_length-le}
-use Rattle.calls.specs.SoundParts.{empty_from}
+use Rattle.calls.proofs.SoundParts.{empty_from}
 use native.Mathlib.Omega.{arith}
 use Rattle.area.proofs.empty.or_from.Statement.{statement}
 use Rattle.area.proofs.empty.or_from.Tie as tie

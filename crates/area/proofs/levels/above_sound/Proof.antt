@@ -5,7 +5,7 @@ use mathlib.Core.List.{List}
 use Prim.Native.Nat.{ℕ, ◌+◌, ◌-◌, ◌*◌, ◌/◌, ◌%◌, ◌≤◌}
 use borrow.Author.Tests.{not-true, not-false}
 use Rattle.calls.specs.Area.{params_of, levels_up}
-use Rattle.calls.specs.SoundParts.{empty_from}
+use Rattle.calls.proofs.SoundParts.{empty_from}
 use Rattle.area.specs.LevelTests.{sound_sequential, sound_above}
 use Rattle.area.specs.SoundLaws.{above_more, above-last, above_none}
 use native.Mathlib.Omega.{arith}

@@ -4,8 +4,8 @@ use Prim.Native.Nat.{ℕ, ◌-◌, ◌*◌}
 use lib.ListN.{take, drop}
 use native.Mathlib.Omega.{arith}
 use Rattle.calls.specs.Area.{head_words, block_words, own_levels}
-use Rattle.calls.specs.AreaLaws.{limit-word}
-use Rattle.calls.specs.SoundParts.{empty_from}
+use Rattle.calls.proofs.AreaLaws.{limit-word}
+use Rattle.calls.proofs.SoundParts.{empty_from}
 use Rattle.area.specs.SoundLaws.{empty-all}
 use Rattle.area.proofs.levels.levels_empty.Statement.{statement}
 use Rattle.area.proofs.levels.levels_empty.Tie as tie

@@ -8,8 +8,8 @@ use lib.ListN.{get_or}
 use borrow.Author.Tests.{not-true, not-false}
 use Rattle.tree.specs.Tree.{block_bits}
 use Rattle.calls.specs.Area.{level_words, levels_up, levels_of, done_blocks}
-use Rattle.calls.specs.AreaLaws.{limit-word}
-use Rattle.calls.specs.SoundParts.{empty_from}
+use Rattle.calls.proofs.AreaLaws.{limit-word}
+use Rattle.calls.proofs.SoundParts.{empty_from}
 use Rattle.area.specs.LevelTests.{sound_above, sound_open}
 use Rattle.area.specs.SoundLaws.{open_none, open_more}
 use Rattle.area.proofs.levels.open_sound.Statement.{statement}

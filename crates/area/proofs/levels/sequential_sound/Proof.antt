@@ -5,7 +5,7 @@ use Prim.Native.Nat.{◌+◌}
 use lib.ListN.{take}
 use borrow.Author.Tests.{not-true, not-false}
 use Rattle.tree.specs.Tree.{output_bits, output_words}
-use Rattle.calls.specs.SoundParts.{empty_from}
+use Rattle.calls.proofs.SoundParts.{empty_from}
 use Rattle.lists.specs.And.{and_first, and_second}
 use Rattle.area.specs.SoundLaws.{sequential-kept, sequential_none}
 use Rattle.area.proofs.levels.sequential_sound.Statement.{statement}

@@ -5,7 +5,7 @@ use native.Mathlib.Numerals.{add-one}
 use native.Mathlib.Omega.{arith}
 use lib.ListN.{length}
 use borrow.Author.Rules.{rules}
-use Rattle.tree.specs.OutputLaws.{length-out_words}
+use Rattle.tree.proofs.OutputLaws.{length-out_words}
 use Rattle.node.specs.Words.{tree_params}
 use Rattle.layer.specs.OneLayer.{source, nodes_in}
 use Rattle.layer.specs.IndexLaws.{length-source}

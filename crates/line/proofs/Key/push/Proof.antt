@@ -2,7 +2,7 @@
 use mathlib.Core.Path.{sym, ap, ◌∙◌}
 use mathlib.Core.List.{[], ◌∷◌}
 use Rattle.digits.specs.Digits.{reading_number}
-use Rattle.digits.specs.DigitLaws.{spelt_lt}
+use Rattle.digits.proofs.DigitLaws.{spelt_lt}
 use native.Mathlib.Omega.{arith}
 use borrow.Author.Rules.{rules}
 use Rattle.line.proofs.Key.push.Statement.{statement}

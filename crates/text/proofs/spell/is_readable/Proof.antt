@@ -7,8 +7,8 @@ use borrow.Author.Tests.{not-true, not-false}
 use lib.Dec.{eqb}
 use lib.ListN.{length, get_or}
 use Rattle.texts.specs.Text.{rounds_bytes, old_rounds_bytes}
-use Rattle.texts.specs.FormLaws.{old_end}
-use Rattle.texts.specs.ReadForms.{form_of}
+use Rattle.texts.proofs.FormLaws.{old_end}
+use Rattle.texts.proofs.ReadForms.{form_of}
 use Rattle.text.proofs.Readable.{not-spelt, SpeltFront, other_text, decided}
 use native.Mathlib.Omega.{arith}
 use borrow.Author.Rules.{rules}

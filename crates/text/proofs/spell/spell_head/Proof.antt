@@ -6,7 +6,7 @@ use lib.ListN.{length, take, drop, get_or, replicate, length-take, length-set}
 use Rattle.calls.specs.Area.{head_words}
 use Rattle.digits.specs.Digits.{spelt, reading_number}
 use Rattle.texts.specs.Text.{line1_fields, digits_in, spelt_fields}
-use Rattle.texts.specs.FieldLaws.{field_sizes}
+use Rattle.texts.proofs.FieldLaws.{field_sizes}
 use Rattle.writing.specs.FieldAt.{Sized, sized}
 use Rattle.text.proofs.LinesSpelt.{field-read, field-refused, head_none, head_known}
 use borrow.Author.Rules.{rules}

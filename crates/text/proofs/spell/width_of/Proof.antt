@@ -1,8 +1,8 @@
 -- `text::spell::width_of` looks at the byte where line 1 ended before M-108; in a shorter text there is none, which counts as 0.
 use lib.ListN.{get_or-eq_default}
 use borrow.Author.Tests.{eq-eqb, ne_eqb}
-use Rattle.texts.specs.FormLaws.{old_end}
-use Rattle.texts.specs.ReadForms.{form_of}
+use Rattle.texts.proofs.FormLaws.{old_end}
+use Rattle.texts.proofs.ReadForms.{form_of}
 use borrow.Author.Rules.{rules}
 use Rattle.text.proofs.spell.width_of.Statement.{statement}
 use Rattle.text.proofs.spell.width_of.Tie as tie

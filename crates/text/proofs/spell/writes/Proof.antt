@@ -7,7 +7,7 @@ use lib.ListN.{length, replicate}
 use Rattle.lists.specs.Same.{same}
 use Rattle.texts.specs.Text.{rounds_bytes, text_with}
 use Rattle.calls.specs.Area.{Long}
-use Rattle.texts.specs.LengthLaws.{most_text}
+use Rattle.texts.proofs.LengthLaws.{most_text}
 use Rattle.text.proofs.Again.{again_room, front_length, front_is, front-room}
 use borrow.Author.Rules.{rules}
 use Rattle.text.proofs.spell.writes.Statement.{statement}

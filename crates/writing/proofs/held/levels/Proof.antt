@@ -1,5 +1,5 @@
 -- `writing::held::levels`: by the area's word 4.
-use Rattle.calls.specs.AreaLaws.{limit-word}
+use Rattle.calls.proofs.AreaLaws.{limit-word}
 use native.Mathlib.Omega.{arith}
 use borrow.Author.Rules.{rules}
 use Rattle.writing.proofs.held.levels.Statement.{statement}

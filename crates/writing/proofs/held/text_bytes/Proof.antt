@@ -5,7 +5,7 @@ use lib.ListN.{length}
 use Rattle.calls.specs.Area.{own_levels}
 use Rattle.texts.specs.Text.{text_with}
 use Rattle.writing.specs.Lines.{lines_above, above-no, length-yes, above-all, length-text}
-use Rattle.texts.specs.LengthLaws.{text-most}
+use Rattle.texts.proofs.LengthLaws.{text-most}
 use borrow.Author.Rules.{rules}
 use native.Mathlib.Omega.{arith}
 use Rattle.writing.proofs.held.text_bytes.Statement.{statement}

@@ -2,9 +2,9 @@
 use mathlib.Core.Path.{ap, ◌∙◌}
 use lib.ListN.{length}
 use Rattle.calls.specs.Area.{level_words}
-use Rattle.calls.specs.AreaLaws.{length-level_words}
+use Rattle.calls.proofs.AreaLaws.{length-level_words}
 use Rattle.digits.specs.Digits.{word_digits}
-use Rattle.texts.specs.LengthLaws.{length-level_line}
+use Rattle.texts.proofs.LengthLaws.{length-level_line}
 use Rattle.writing.proofs.LineStores.{level-stored}
 use native.Mathlib.Omega.{arith}
 use borrow.Author.Rules.{rules}

@@ -4,9 +4,9 @@ use mathlib.Core.List.{List, ◌++◌, flatten}
 use Prim.Native.Nat.{ℕ, ◌-◌, ◌≤◌, ◌<◌}
 use lib.ListN.{length, take, drop, get_or, set, length-append, length-take, length-drop}
 use Rattle.texts.specs.Text.{line1_fields, field_digits, digits_in, line1_bytes}
-use Rattle.texts.specs.FieldLaws.{length_fields}
+use Rattle.texts.proofs.FieldLaws.{length_fields}
 use Rattle.writing.specs.FieldAt.{Sized, sized, digits_some}
-use Rattle.texts.specs.LengthLaws.{length-line1}
+use Rattle.texts.proofs.LengthLaws.{length-line1}
 use Rattle.writing.proofs.LineStores.{field_stored, line1-stored}
 use borrow.Author.Rules.{rules}
 use native.Mathlib.Omega.{arith}

@@ -1,0 +1,3 @@
+pub mod RoundsExamples
+pub mod RoundsLaws
+pub mod HashLaws

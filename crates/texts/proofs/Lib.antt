@@ -1,0 +1,12 @@
+pub mod AlikeTexts
+pub mod FieldExamples
+pub mod FieldLaws
+pub mod FormLaws
+pub mod HeldLaws
+pub mod LayoutLaws
+pub mod LengthLaws
+pub mod ReadForms
+pub mod ReadLaws
+pub mod ReadLeaves
+pub mod SameTexts
+pub mod TextLaws

@@ -1,0 +1,12 @@
+pub mod Count
+pub mod Examples
+pub mod Fresh
+pub mod Height
+pub mod KeyExamples
+pub mod KindLaws
+pub mod OrderExamples
+pub mod OrderLaws
+pub mod OutputLaws
+pub mod Places
+pub mod Shape
+pub mod TreeLaws
