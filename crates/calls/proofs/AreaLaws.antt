@@ -1,6 +1,6 @@
 -- Laws: the words of an area and what they stand for: head, levels and tail are read back as they were written.
 use Rattle.std.specs.Prelude.{◌≡◌, refl, Bool, true, false, ◌&&◌, ℕ, zero, suc, ◌+◌, ◌-◌, ◌*◌, ◌^◌, ◌≤◌, ◌<◌, ltb, length, take, get_or, set, replicate}
-use Rattle.std.proofs.Common.{sym, ap, ◌∙◌, arith, ltb-true, ltb-false, length-take, length-set, take-append-drop, drop_at, get_or-take, drop-set-lt, get_or-set_same, get_or-set_other, length-take-le}
+use Rattle.std.proofs.Common.{sym, subst, ap, ◌∙◌, arith, ltb-true, ltb-false, length-take, length-set, take-append-drop, drop_at, get_or-take, drop-set-lt, get_or-set_same, get_or-set_other, length-take-le}
 use mathlib.Core.List.{List, [], ◌∷◌, ◌++◌, append_assoc, append-nil, flatten}
 use Rattle.std.proofs.Math.ListN.{drop, length-append, length-drop}
 use Rattle.std.proofs.lemmas.List.{replicate-append-replicate, drop-append-le, take-append-le, take-set-le, drop-set-add}
@@ -106,8 +106,9 @@ levels-from pre (ws ∷ st) tail k a h e =
     let l : length (pre ++ ws) ≡ level_start (suc k) = rw (length-append pre ws) (omega (arith, a.0)) in
     let first : level_words (pre ++ (ws ++ (flatten st ++ tail))) k ≡ ws =
     rw (drop_at pre (ws ++ (flatten st ++ tail)) (level_start k) e) (take_at ws (flatten st ++ tail) 64 a.0) in
-    rw (append_assoc ws (flatten st) tail)
-    (cons_eq first (rw s (levels-from (pre ++ ws) st tail (suc k) a.1 (omega arith) l)))
+    let more : levels_from (pre ++ (ws ++ (flatten st ++ tail))) (length st) (suc k) ≡ st =
+    subst (λ (area : List ℕ). levels_from area (length st) (suc k) ≡ st) (sym s) (levels-from (pre ++ ws) st tail (suc k) a.1 (omega arith) l) in
+    rw (append_assoc ws (flatten st) tail) (cons_eq first more)
 
 -- levels that hold nothing
 pub flatten-empty : (n : ℕ) → flatten (empty_levels n) ≡ replicate (block_words * n) 0

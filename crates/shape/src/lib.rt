@@ -85,7 +85,7 @@ pub fn sequential_nodes(limit: u64, bits: u64) -> u64
 // The root's level: the first of one node, or the sequential one above the limit. No tree has more levels than 27.
 pub fn top_level(limit: u64, bits: u64) -> u64
     requires { limit ≤ most_limit }
-    ensures* { do ⌜ (result ≡ top_level limit bits) × (result ≤ (← (⟦Params::LEVELS⟧).entry)) ⌝ }
+    ensures { (result ≡ top_level limit bits) × (result ≤ Params.LEVELS) }
 {
     let mut level: u64 = 1;
     let mut nodes = blocks_of(Block::BITS, bits);
