@@ -1,5 +1,7 @@
 // Whether an area is sound: first the words before the levels, then the levels (levels.rt). Bits that must be zero are tested by
 // joining their words by `|` (empty.rt), so that the loop is quick.
+#![tactic(auto)]
+
 ghost use Rattle.std.specs.Prelude.{◌≡◌, ◌||◌, ◌&&◌, ◌+◌, ◌*◌, ◌≤◌, eqb, ltb, length, get_or};
 ghost use Rattle.tree.specs.Tree.{most_key_bytes, most_limit, most_levels};
 ghost use Rattle.refusals.specs.Refusals.{first_refusal};
@@ -17,7 +19,7 @@ mod empty; // empty.rt: whether no bit of words is set
 mod levels; // levels.rt: whether the levels are sound
 
 // The area of a stream: words that the caller lends. The field is how many the longest has.
-#[derive(Drop)]
+#[derive(Clone, Copy)]
 pub struct Area {
     pub words: usize,
 }

@@ -1,11 +1,13 @@
 // Bits, bytes and words: which bits of lent bytes a piece has, and the copier that fills a block of words with message bits.
 // Bytes go into words high byte first and bits into bytes high bit first.
+#![tactic(auto)]
+
 ghost use Rattle.std.specs.Prelude.{◌≡◌, ◌+◌, ◌-◌, ◌*◌, ◌/◌, ◌%◌, ◌^◌, ◌≤◌, ◌<◌, length, get_or};
 ghost use Rattle.bits.specs.Bits.{filled};
 ghost use Rattle.bits.specs.Read.{eight_from, word_from};
 
 // Which bits of lent bytes a piece has: from a bit of the first byte on, so many.
-#[derive(Drop)]
+#[derive(Clone, Copy)]
 pub struct Span {
     pub start: u64,
     pub bits: u64,

@@ -1,4 +1,5 @@
 // What the benchmark of the filler links; nothing else uses it.
+#![tactic(auto)]
 
 // Fills `times` times over. Arguments that `fill` does not take change nothing.
 #[unsafe(no_mangle)]

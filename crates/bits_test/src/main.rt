@@ -1,5 +1,7 @@
 // Fills blocks at many alignments and prints their words, then the hexadecimal digits. tests/bits/expected.py makes the
 // expected lines, bit by bit.
+#![tactic(auto)]
+
 ghost use Rattle.std.specs.Prelude.{◌<◌, ◌≤◌, length};
 
 use digits::Digit;

@@ -108,7 +108,8 @@ levels-from pre (ws ∷ st) tail k a h e =
     rw (drop_at pre (ws ++ (flatten st ++ tail)) (level_start k) e) (take_at ws (flatten st ++ tail) 64 a.0) in
     let more : levels_from (pre ++ (ws ++ (flatten st ++ tail))) (length st) (suc k) ≡ st =
     subst (λ (area : List ℕ). levels_from area (length st) (suc k) ≡ st) (sym s) (levels-from (pre ++ ws) st tail (suc k) a.1 (omega arith) l) in
-    rw (append_assoc ws (flatten st) tail) (cons_eq first more)
+    let whole : levels_from (pre ++ (ws ++ (flatten st ++ tail))) (suc (length st)) k ≡ ws ∷ st = cons_eq first more in
+    subst (λ (rest : List ℕ). levels_from (pre ++ rest) (suc (length st)) k ≡ ws ∷ st) (sym (append_assoc ws (flatten st) tail)) whole
 
 -- levels that hold nothing
 pub flatten-empty : (n : ℕ) → flatten (empty_levels n) ≡ replicate (block_words * n) 0

@@ -1,4 +1,6 @@
 // How a node is made in an area, and how its output goes up through the levels.
+#![tactic(auto)]
+
 ghost use Rattle.std.specs.Prelude.{◌≡◌, ◌∷◌, [], ◌+◌, ◌≤◌, length};
 ghost use Rattle.calls.specs.Area.{Long, levels_of};
 ghost use Rattle.node.specs.Words.{FieldsFit, placed, tree_params, Ready};

@@ -1,1 +1,2 @@
 // The collision theorem: it stands in specs/, over the definitions of the crate `tree`.
+#![tactic(auto)]

@@ -1,4 +1,6 @@
 // The compression function of MD6. Document 01, "Compression".
+#![tactic(auto)]
+
 ghost use Rattle.std.specs.Prelude.{◌≡◌, ℕ, ◌+◌, ◌-◌, ◌*◌, ◌≤◌, ◌<◌, min, length, drop};
 ghost use Rattle.std.proofs.Math.Seq.{paste};
 ghost use Rattle.constants.specs.Constants.{RoundTable, table_entries, part_entries};
@@ -52,7 +54,7 @@ pub fn q_words() -> [u64; 15]
 }
 
 // The shifts of a step: the report's r[i-n] and l[i-n], document 01's R and T.
-#[derive(Drop)]
+#[derive(Clone, Copy)]
 struct Shifts {
     r: u64,
     l: u64,
@@ -222,7 +224,7 @@ pub fn compress(window: &[u64; WINDOW], first: &[u64], rounds: usize) -> [u64; R
 }
 
 // The outputs of two windows.
-#[derive(Drop)]
+#[derive(Clone, Copy)]
 pub struct Two {
     pub first: [u64; ROUND],
     pub second: [u64; ROUND],

@@ -1,4 +1,5 @@
 // What the benchmark of the compression links; nothing else uses it.
+#![tactic(auto)]
 
 // Compresses a window so many times, one after the other, with the constants of the first rounds copied once for all of
 // them. Each output changes a word of the next window, so that no compression can be left out; the last one is

@@ -1,5 +1,7 @@
 // Prints every word that Appendix C of the report prints: the window of each node, its intermediate words and its output.
 // The file stdout is made from the report's text by tests/appendix_c/expected.py, and not from this code.
+#![tactic(auto)]
+
 ghost use Rattle.std.specs.Prelude.{◌≡◌, ◌+◌, ◌^◌, ◌≤◌, ◌<◌, length};
 ghost use Rattle.constants.specs.Constants.{RoundTable, part_entries};
 

@@ -1,4 +1,6 @@
 // The round constants S. Document 01, "Compression".
+#![tactic(auto)]
+
 ghost use Rattle.std.specs.Prelude.{◌≡◌, ◌*◌, ◌<◌, length, replicate};
 ghost use mathlib.Core.List.{map, flatten};
 ghost use Rattle.constants.specs.Constants.{RoundTable, table_entries, table_parts, part_entries};

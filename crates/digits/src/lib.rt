@@ -1,11 +1,13 @@
 // Numbers and words as hexadecimal digits, and back; a digit is 0 to 9 or a to f, and a capital is refused.
+#![tactic(auto)]
+
 ghost use Rattle.std.specs.Prelude.{◌≡◌, cond, ◌*◌, ◌≤◌, ◌<◌, length};
 ghost use Rattle.std.proofs.Math.Option.{none, some};
 ghost use Rattle.digits.specs.Hex.{digit_of, hex_digit};
 ghost use Rattle.digits.specs.Digits.{hex_digits, word_digits, spelt, spelt_words, all_spelt, reading_number};
 
 // What a byte is as a hexadecimal digit.
-#[derive(Drop)]
+#[derive(Clone, Copy)]
 pub enum Digit {
     Value(u64),
     Refused,
@@ -61,7 +63,7 @@ pub fn put_words(part: &mut [u8], words: &[u64])
 }
 
 // The number that digits spell; none if a byte is no digit.
-#[derive(Drop)]
+#[derive(Clone, Copy)]
 pub enum Reading {
     Number(u64),
     NoDigit,

@@ -1,5 +1,7 @@
 // The end of a stream, in two halves: the last nodes and the digest, which only read the area, and then a wipe.
 // An end does both, a preview the first alone, and a close the second only if the first gives the figure that it was given.
+#![tactic(auto)]
+
 ghost use Rattle.std.specs.Prelude.{◌≡◌, ◌*◌, ◌≤◌, length, set};
 ghost use Rattle.tree.specs.Tree.{logged};
 ghost use Rattle.calls.specs.Area.{own_levels, Long, with_levels, empty_levels};

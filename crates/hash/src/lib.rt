@@ -1,4 +1,6 @@
 // The digest of a whole message, and the default rounds.
+#![tactic(auto)]
+
 ghost use Rattle.std.specs.Prelude.{◌≡◌, ◌++◌, length, drop};
 ghost use Rattle.bits.specs.PieceLaws.{spanned, span_bits};
 ghost use Rattle.tree.specs.Tree.{digest, digest_bytes};

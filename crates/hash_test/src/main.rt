@@ -2,6 +2,8 @@
 // from C, at three height limits and start bits, and for refused calls. A line is what hash_number tells, the number and the
 // count that hash answers, and the output, which held a5 in every byte before the call. Then some default rounds.
 // tests/hash/expected.py --rattle makes the expected lines with the second program and from document 02.
+#![tactic(auto)]
+
 use bits::Span;
 use libc::STDOUT_FILENO;
 use refusals::Params;

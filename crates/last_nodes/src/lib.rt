@@ -1,4 +1,6 @@
 // The first half of an end, a preview and a close: the last nodes of an open area, which is only read.
+#![tactic(auto)]
+
 ghost use Rattle.std.specs.Prelude.{◌≡◌, ◌∷◌, [], ◌+◌, ◌*◌, ◌≤◌, ◌<◌, ◌^◌, length};
 ghost use Rattle.lists.specs.Part.{put};
 ghost use Rattle.tree.specs.Tree.{block_bits, last_or, no_node, output_words, out_words, logged};

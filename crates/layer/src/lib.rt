@@ -1,4 +1,6 @@
 // A layer: a level of the tree in work. How many nodes it has, where each stands, and what each takes.
+#![tactic(auto)]
+
 ghost use Rattle.std.specs.Prelude.{◌≡◌, suc, ◌+◌, ◌-◌, ◌*◌, ◌≤◌, ◌<◌, length, replicate};
 ghost use Rattle.bits.specs.Bits.{numbers};
 ghost use Rattle.tree.specs.Tree.{most_levels};
@@ -13,7 +15,7 @@ pub mod log; // log.rt: U and V of each of them
 // A layer: the number of its level, which bits it works on, and how many of them each of its nodes takes: the bits of a block, or of
 // one at the sequential level. At level 1 they are bits of the message; above it they stand in words, from the first on, and only their
 // number counts.
-#[derive(Drop)]
+#[derive(Clone, Copy)]
 pub struct Layer {
     pub level: u64,
     pub span: Span,

@@ -1,4 +1,6 @@
 // The digest of a whole message, layer by layer: every node of a level before any of the next.
+#![tactic(auto)]
+
 ghost use Rattle.std.specs.Prelude.{◌≡◌, ◌*◌, ◌≤◌, length};
 ghost use Rattle.bits.specs.PieceLaws.{spanned, span_bits, Fits};
 ghost use Rattle.tree.specs.Sizes.{tree_nodes};

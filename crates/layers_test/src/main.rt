@@ -2,6 +2,8 @@
 // output; then a line for every two words of the log and one for every 16 words, of all that were lent. All held a5 in every byte before
 // the call. Last some words and log words that are told. All other rows are run from C, by tests/layers/rows.c.
 // tests/layers/expected.py --rattle makes the expected lines from documents 01 and 02.
+#![tactic(auto)]
+
 use libc::STDOUT_FILENO;
 
 // What lent words hold before a call.

@@ -1,19 +1,21 @@
 // The program's first line, read byte by byte: a state by value and a step for each byte, so that a line of any length needs
 // fixed memory. No function asks anything of a state: the contracts hold of every value that a State may have.
+#![tactic(auto)]
+
 ghost use Rattle.std.specs.Prelude.{◌≡◌};
 ghost use Rattle.std.proofs.Math.Option.{some};
 ghost use Rattle.line.specs.Fold.{next_field, push_number, put_byte, push_key, start, space_of, push_at, step_of};
 ghost use Rattle.line.specs.Fold.{reading_of, read_fields, key_bytes_in};
 
 // The rounds that a line names: `-` for the default, or a number.
-#[derive(Drop)]
+#[derive(Clone, Copy)]
 pub enum Rounds {
     Default,
     Given(u64),
 }
 
 // The field that the next byte belongs to; Past behind a fourth space.
-#[derive(Drop)]
+#[derive(Clone, Copy)]
 pub enum Field {
     Digest,
     Limit,
@@ -23,7 +25,7 @@ pub enum Field {
 }
 
 // What has come of a number's field: nothing, decimal digits and the number that they spell, `-` alone, or something else.
-#[derive(Drop)]
+#[derive(Clone, Copy)]
 pub enum Number {
     Empty,
     Digits { count: u64, value: u64 },
@@ -33,7 +35,7 @@ pub enum Number {
 
 // What has come of the key's field, two bytes at a time: so many pairs of digits (65 stands for more than 64), such pairs and
 // one byte more, or something else.
-#[derive(Drop)]
+#[derive(Clone, Copy)]
 pub enum Pairs {
     Whole(usize),
     Half(usize, u8),
@@ -41,14 +43,14 @@ pub enum Pairs {
 }
 
 // The key's field, and the first bytes of the key: enough to tell a key of more than 64 bytes from others.
-#[derive(Drop)]
+#[derive(Clone, Copy)]
 pub struct Key {
     pub pairs: Pairs,
     pub bytes: [u8; Key::KEPT],
 }
 
 // What has come of a line.
-#[derive(Drop)]
+#[derive(Clone, Copy)]
 pub struct State {
     pub at: Field,
     pub d: Number,
@@ -58,7 +60,7 @@ pub struct State {
 }
 
 // What a line says. Its key is the first key_bytes of the state's bytes, where 65 stands for a key over 64 bytes.
-#[derive(Drop)]
+#[derive(Clone, Copy)]
 pub enum Reading {
     Unreadable,
     Readable {

@@ -1,5 +1,7 @@
 // Reads lines from standard input, gives each to the library byte by byte, and writes what it says: d, L, r (- for the default),
 // the count of key bytes that are kept and these bytes, or that the line is unreadable.
+#![tactic(auto)]
+
 ghost use Rattle.std.specs.Prelude.{◌≡◌, ◌≤◌};
 ghost use Rattle.line.specs.Fold.{kept_bytes, start, fold_of};
 

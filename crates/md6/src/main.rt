@@ -1,5 +1,7 @@
 // The program of document 01: the first line of standard input says d, L, r and the key, and the rest is the message. What is
 // written is what the crate `program` gives for each read and for the end of the input; here is only the reading and writing.
+#![tactic(auto)]
+
 ghost use Rattle.std.specs.Prelude.{◌≤◌, length};
 
 use area::Area;

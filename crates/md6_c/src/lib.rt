@@ -1,4 +1,6 @@
 // The face for a host program in C (include/md6.h).
+#![tactic(auto)]
+
 ghost use Rattle.std.specs.Prelude.{◌≡◌};
 ghost use Rattle.hash.specs.Hash.{Hashed, hash_of, default_rounds_of};
 ghost use Rattle.layers.specs.Layers.{layers_of, layer_words_of, layer_log_words_of};

@@ -1,4 +1,6 @@
 // One node, and what the whole-message call, the stream and the call by layers share: blocks, K and the digest.
+#![tactic(auto)]
+
 ghost use Rattle.std.specs.Prelude.{◌≡◌, ◌∷◌, [], ◌++◌, ◌+◌, ◌-◌, ◌≤◌, ◌<◌, ◌^◌, length, replicate};
 ghost use Rattle.std.proofs.lemmas.List.Edits.{sets};
 ghost use Rattle.compress.specs.Compress.{Q, window_of};
@@ -12,7 +14,7 @@ use refusals::Params;
 pub mod digest; // digest.rt: K from the key, and the digest from the root
 
 // Where a node stands in its tree, z, which is 1 at the root and 0 elsewhere, and the padding bits in its block.
-#[derive(Drop)]
+#[derive(Clone, Copy)]
 pub struct Place {
     pub level: u64,
     pub index: u64,
@@ -21,14 +23,14 @@ pub struct Place {
 }
 
 // The parameters of a tree with its key: K, the words of the key, beside the parameters, which say how many bytes it has.
-#[derive(Drop)]
+#[derive(Clone, Copy)]
 pub struct Keyed {
     pub k: [u64; 8],
     pub params: Params,
 }
 
 // A block: 64 words.
-#[derive(Drop)]
+#[derive(Clone, Copy)]
 pub struct Block {
     pub words: [u64; 64],
 }

@@ -1,4 +1,6 @@
 // The nodes of a message: the value of each, its 16 words, worked out from the nodes one level below.
+#![tactic(auto)]
+
 ghost use Rattle.std.specs.Prelude.{◌≡◌, ◌+◌, ◌-◌, ◌*◌, ◌≤◌, ◌<◌, length};
 ghost use Rattle.tree.specs.Tree.{words, block_bits, sequential_bits};
 ghost use Rattle.bits.specs.PieceLaws.{spanned, span_bits, Fits};

@@ -1,5 +1,7 @@
 // The numbers that refuse calls on an area: a feed, an end, a preview and the telling of log words, and what a close tests. The nodes
 // that would be made are known from the totals, before any is.
+#![tactic(auto)]
+
 ghost use Rattle.std.specs.Prelude.{◌≡◌, false, [], ◌∷◌, length, replicate};
 ghost use Rattle.bits.specs.PieceLaws.{spanned};
 ghost use Rattle.tree.specs.Tree.{digest_bytes};

@@ -1,4 +1,6 @@
 // A piece fed to an area that takes it.
+#![tactic(auto)]
+
 ghost use Rattle.bits.specs.Piece.{piece_bits};
 ghost use Rattle.bits.specs.PieceLaws.{spanned};
 ghost use Rattle.calls.specs.Calls.{fed_bits};
@@ -13,7 +15,7 @@ use node::Block;
 mod chunk; // chunk.rt: the bits of a piece, as many at a time as level 1 takes
 
 // Which bits of a piece come next: so many, from a bit of a byte on.
-#[derive(Drop)]
+#[derive(Clone, Copy)]
 pub struct Source {
     pub byte: usize,
     pub bit: usize,

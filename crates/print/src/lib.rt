@@ -1,4 +1,6 @@
 // What the program prints, put into a text: the line of each node, and the line of a digest. Document 01, "Program".
+#![tactic(auto)]
+
 ghost use Rattle.std.specs.Prelude.{◌≡◌, ◌++◌, ◌+◌, ◌*◌, ◌≤◌, length, take, drop};
 ghost use Rattle.lists.specs.Part.{put};
 ghost use Rattle.digits.specs.Digits.{hex_digits};

@@ -11,7 +11,7 @@ use line::{Key, Reading, Rounds, State};
 use refusals::Params;
 
 // The line as far as bytes tell it: whether byte 10 has ended it, and the place behind that byte.
-#[derive(Drop)]
+#[derive(Clone, Copy)]
 pub struct Scanned {
     pub ended: bool,
     pub line: State,

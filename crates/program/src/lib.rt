@@ -1,6 +1,8 @@
 // The program of document 01 but for reading and writing: a state, a call that takes the bytes of a read and gives the bytes
 // to write, and one for the end of the input. However the input is cut into reads, the bytes to write, joined, are `printed`
 // of the input (specs/Printed; the theorem is in specs/Whole). Memory does not grow with the input.
+#![tactic(auto)]
+
 ghost use Rattle.std.specs.Prelude.{◌≡◌, ◌≤◌, length, take};
 ghost use Rattle.program.specs.Steps.{buffer_bytes, start_of, take_of, last_of};
 ghost use Rattle.program.specs.Taken.{text_bytes, took_of, took_last_of};
@@ -28,7 +30,7 @@ pub const OUT: usize = print::NODE_LINE * (LOG / 2) + 2 * DIGEST + 1;
 
 // Where the program has come to: it reads the first line; the rest is the message; or it has refused the input and prints
 // nothing more.
-#[derive(Drop)]
+#[derive(Clone, Copy)]
 pub enum Phase {
     Line,
     Message,
@@ -36,14 +38,14 @@ pub enum Phase {
 }
 
 // What is kept between two reads beside the stream's area: where the program has come to, and the first line so far.
-#[derive(Drop)]
+#[derive(Clone, Copy)]
 pub struct Program {
     pub phase: Phase,
     pub line: State,
 }
 
 // What a read gives: the state for the next one, and how many bytes are to be written.
-#[derive(Drop)]
+#[derive(Clone, Copy)]
 pub struct Taken {
     pub program: Program,
     pub count: usize,

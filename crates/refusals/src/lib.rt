@@ -1,4 +1,6 @@
 // The parameters of a tree with their ranges, what a call answers, and the numbers that refuse parameters and bits.
+#![tactic(auto)]
+
 ghost use Rattle.std.specs.Prelude.{◌≡◌, [], ◌∷◌};
 ghost use Rattle.bits.specs.Piece.{refused_bits};
 ghost use Rattle.bits.specs.PieceLaws.{spanned};
@@ -7,7 +9,7 @@ ghost use Rattle.refusals.specs.Refusals.{first_refusal, size_tests, range_tests
 use bits::Span;
 
 // The parameters of a tree: how many bytes the key has (the report's keylen), the digest size in bits, the height limit and the rounds.
-#[derive(Drop)]
+#[derive(Clone, Copy)]
 pub struct Params {
     pub keylen: u64,
     pub d: u64,
@@ -42,7 +44,7 @@ impl Params {
 
 // What a call answers: 0 and a count, or the number that refuses it and 0.
 #[repr(C)]
-#[derive(Drop)]
+#[derive(Clone, Copy)]
 pub struct Answer {
     pub number: u64,
     pub count: u64,

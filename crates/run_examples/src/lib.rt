@@ -1,1 +1,2 @@
 // Runs and refusals by computing: the examples stand in specs/.
+#![tactic(auto)]

@@ -1,5 +1,7 @@
 // The shape of a tree, which goes by the height limit and the number of bits alone: how many levels and nodes it has, and what a node
 // has by its place: how much it takes, its padding bits, and z.
+#![tactic(auto)]
+
 ghost use Rattle.std.specs.Prelude.{◌≡◌, suc, ◌+◌, ◌-◌, ◌*◌, ◌≤◌, ◌<◌, eqb};
 ghost use Rattle.bits.specs.Bits.{digit};
 ghost use Rattle.tree.specs.Tree.{blocks, most_limit};

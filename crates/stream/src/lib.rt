@@ -1,5 +1,7 @@
 // A message that comes in pieces of any number of bits: an area of words that holds what is not compressed yet, and a log of
 // every node. Document 01, "The stream's area".
+#![tactic(auto)]
+
 ghost use Rattle.std.specs.Prelude.{◌≡◌, true, ◌≤◌, ◌+◌, ◌*◌, length};
 ghost use Rattle.tree.specs.Tree.{most_key_bytes};
 ghost use Rattle.calls.specs.Area.{area_words, level_start};

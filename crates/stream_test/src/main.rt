@@ -2,6 +2,8 @@
 // levels of areas of every length, and level 1 of short and unsound areas, of ended ones and of ones with a word changed. The rows of
 // the other calls stand in tests/stream/rows.c. A call writes a line, its number and its count, and an end then its output; a level that
 // is shown writes how many words it has. tests/stream/expected.py makes the expected lines.
+#![tactic(auto)]
+
 ghost use Rattle.std.specs.Prelude.{◌≤◌};
 
 use libc::STDOUT_FILENO;

@@ -1,5 +1,7 @@
 // What the test programs lend and print: the words of an area; bytes and rows of words in hexadecimal, the number and the count that
 // a call answered, and whether lent words are as before.
+#![tactic(auto)]
+
 ghost use Rattle.std.specs.Prelude.{◌≤◌, ◌<◌};
 
 use libc::STDOUT_FILENO;

@@ -1,5 +1,7 @@
 // A suspended stream as text. Document 01, "Suspended text"; M-108: line 1 holds r in two bytes, and old lines, which have one, are
 // still read; M-109: how many words an area has goes by its L, which a text tells too.
+#![tactic(auto)]
+
 ghost use Rattle.std.specs.Prelude.{◌≡◌};
 ghost use Rattle.texts.specs.Text.{write_of, read_of};
 

@@ -1,1 +1,2 @@
 // Suspended texts by computing: the examples stand in specs/.
+#![tactic(auto)]

@@ -1,6 +1,8 @@
 // Reads texts into areas and writes the areas as text, from Rattle: a line is what read answered, whether the area is as before, and
 // whether the words past those of its height limit are; then what write answered, and its output, which held a5 in every byte
 // before. All other rows are run from C, by tests/text/rows.c. tests/text/expected.py --rattle makes the expected lines.
+#![tactic(auto)]
+
 ghost use Rattle.std.specs.Prelude.{◌≤◌};
 
 use libc::STDOUT_FILENO;

@@ -1,1 +1,2 @@
 // The tree of a message: its definitions and their theorems stand in specs/.
+#![tactic(auto)]
