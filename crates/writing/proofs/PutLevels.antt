@@ -80,17 +80,17 @@ module _ (w n : ℕ) (area part y0 : List ℕ) (size : n ≡ head_bytes w) (h : 
   abbrev put : List ℕ
   put = put_mid 0 (n - 0) part y0
 
-  head_bytes : length y0 ≡ n
-  head_bytes = ap length e ∙ length-head w area (omega arith) ∙ sym size
+  head_bytes_lem : length y0 ≡ n
+  head_bytes_lem = ap length e ∙ length-head w area (omega arith) ∙ sym size
 
   room : n ≤ length part
   room = omega (arith, length-text w area (omega arith))
 
   head-put : put ≡ y0 ++ drop n part
-  head-put = lent-next 0 n [] part part y0 refl refl (omega arith) room (head_bytes ∙ omega arith)
+  head-put = lent-next 0 n [] part part y0 refl refl (omega arith) room (head_bytes_lem ∙ omega arith)
 
   head-length : length put ≡ length part
-  head-length = put-length 0 (n - 0) part y0 (omega (arith, room)) (head_bytes ∙ omega arith)
+  head-length = put-length 0 (n - 0) part y0 (omega (arith, room)) (head_bytes_lem ∙ omega arith)
 
   pub head-room : n ≤ length put
   head-room = omega (arith, head-length, room)
@@ -102,5 +102,5 @@ module _ (w n : ℕ) (area part y0 : List ℕ) (size : n ≡ head_bytes w) (h : 
   text-put y1 f =
       let m : length y1 ≡ length part - n = ap length f ∙ omega (arith, length-text w area (omega arith)) in
       ap (λ (x : ℕ). put_mid n (x - n) put y1) head-length
-      ∙ lent-next n (length part) y0 put part y1 head_bytes head-put room (omega arith) m
+      ∙ lent-next n (length part) y0 put part y1 head_bytes_lem head-put room (omega arith) m
       ∙ rw (drop-length part, e, f) (append-nil ((line1 (line1_fields w) area ++ line2 area) ++ lines_above area 0) ∙ sym (text-lines w area))

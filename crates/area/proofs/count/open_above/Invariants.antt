@@ -1,0 +1,14 @@
+-- `area::count::open_above` meets its contract.
+use mathlib.Core.Path.{◌≡◌, ap}
+use Prim.Native.Nat.{◌+◌}
+use Rattle.calls.specs.Area.{open_above}
+use Rattle.calls.proofs.Counts.{open_above_none}
+use Rattle.area.specs.CountLaws.{open_above_le, open_above-last, open_above-more}
+use native.Mathlib.Omega.{arith}
+use Rattle.area.proofs.count.open_above.Given as goal
+
+abbrev pub invariant-loop-i : goal.invariant-loop-i
+invariant-loop-i l = l.sum + open_above l.n l.i ≡ open_above l.levels l.outputs
+
+abbrev pub decreases-loop-i : goal.decreases-loop-i
+decreases-loop-i l = l.n

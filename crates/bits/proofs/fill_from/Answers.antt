@@ -1,0 +1,14 @@
+-- `bits::fill_from` meets its contract: the whole words are filled, and then the rest.
+use Prim.Native.Nat.{◌+◌, ◌*◌, ◌/◌, ◌%◌}
+use native.Mathlib.Omega.{arith}
+use borrow.Author.Rules.{rules}
+use Rattle.bits.specs.FilledLaws.{filled_then}
+use Rattle.bits.proofs.fill_from.Goals as goal
+
+-- `bits::fill_from` meets its contract: the whole words are filled, and then the rest.
+
+pub returns : goal.returns
+returns c =
+    let a = c.args in
+    rw (c.fill_part.ensures, c.fill_words.ensures)
+    (filled_then a.block.now (64 * a.word) a.bytes.now (8 * a.byte + a.bit) (64 * (a.count / 64)) (a.count % 64) (omega arith) (omega arith) (omega arith) (omega arith) (omega arith))

@@ -1,0 +1,19 @@
+-- `bits::word_at` meets its contract: the same with bytes past the end as 0 (Reading).
+use mathlib.Core.Path.{◌∙◌}
+use native.Mathlib.Omega.{arith}
+use borrow.Author.Rules.{rules}
+use Rattle.lists.specs.Slices.{bytes_below}
+use Rattle.bits.proofs.Reading.{word_read}
+use Rattle.bits.proofs.word_at.Goals as goal
+
+-- `bits::word_at` meets its contract: the same with bytes past the end as 0 (Reading).
+
+pub returns-then-bytes-byte-ge9 : goal.returns-then-bytes-byte-ge9
+returns-then-bytes-byte-ge9 c =
+    let below = bytes_below c.args.bytes.now c.type_inv.bytes in
+    c.shifted.ensures ∙ rw c.load.ensures (word_read c.args.byte c.args.bit below (omega arith) (omega arith))
+
+pub returns : goal.returns
+returns c =
+    let below = bytes_below c.args.bytes.now c.type_inv.bytes in
+    c.shifted-2.ensures ∙ rw (c.load_end.ensures, c.byte_at.ensures) (word_read c.args.byte c.args.bit below (omega arith) (omega arith))

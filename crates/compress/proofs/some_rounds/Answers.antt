@@ -1,0 +1,42 @@
+-- `some_rounds` meets its contract: after k turns the first k constants of the part have had their rounds.
+use mathlib.Core.Path.{◌≡◌, sym, ap, ◌∙◌}
+use Prim.Native.Nat.{ℕ, ◌-◌, ◌+◌, ◌*◌, ◌≤◌}
+use native.Mathlib.Nat.{add-zero}
+use native.Mathlib.Omega.{arith}
+use lib.ListN.{get_or}
+use borrow.Author.Rules.{rules}
+use Rattle.constants.specs.Constants.{S, RoundTable}
+use Rattle.compress.specs.Buffer.{put_round, before, after, lane, Placed, Advances}
+use Rattle.compress.proofs.Laws.{round_window}
+use Rattle.compress.proofs.LaneLaws.{length-apart}
+use Rattle.compress.proofs.some_rounds.Goals as goal
+
+-- `some_rounds` meets its contract: after k turns the first k constants of the part have had their rounds.
+
+pub loop-k-init : goal.loop-k-init
+loop-k-init c = (search rules, search rules, λ q t. record { rule = λ j h N size e. rw (add-zero q) e })
+
+pub loop-k-preserved : goal.loop-k-preserved
+loop-k-preserved c =
+    let lanes = c.args.lanes in
+    let k = c.loop-k.k in
+    let place = c.next_place-place.result in
+    let a = c.next_place-place.new.0 in (
+      search rules,
+      (search rules, search rules, search rules, omega arith),
+      λ q t. record {
+        rule = λ j h N size e.
+            let words = lane lanes j a in
+            let more : q + k + 1 ≡ q + (k + 1) = omega arith in
+            let s : get_or c.args.part.now k 0 ≡ S (q + k) = t.rule k (omega arith) in
+            ap (before (place + 16)) (c.round.ensures j h ∙ ap (λ (v : ℕ). put_round 16 place v words) s)
+            ∙ round_window N words place (q + k) size (omega arith) (omega (arith, length-apart lanes j 345 a))
+            (c.next_place-place.ensures.2 j h ∙ (c.loop-k.invariant.2 q t).rule j h N size e)
+            ∙ ap (λ (r : ℕ). after (16 * r) N) more;
+      },
+    )
+
+pub returns : goal.returns
+returns c =
+    let all : c.loop-k.k ≡ c.args.n = omega arith in
+    (c.loop-k.invariant.1, λ q t. rw (sym all) (c.loop-k.invariant.2 q t))

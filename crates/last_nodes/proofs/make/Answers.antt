@@ -1,0 +1,25 @@
+-- `last_nodes::make` meets its contract.
+use mathlib.Core.Path.{◌∙◌}
+use Rattle.lists.specs.Slices.{words-below}
+use Rattle.calls.proofs.AreaLaws.{limit-word}
+use Rattle.calls.specs.Calls.{last_nodes_of}
+use Rattle.climb.specs.OpenArea.{open_ready, params-read}
+use Rattle.climb.specs.ReceiveLaws.{log-written}
+use Rattle.last_nodes.specs.LastLaws.{last-read}
+use native.Mathlib.Omega.{arith}
+use Rattle.last_nodes.proofs.make.Goals as goal
+
+-- `last_nodes::make` meets its contract.
+
+pub levels-requires : goal.levels-requires
+levels-requires c =
+    let area = c.args.area.now in
+    let ready = open_ready c.requires.0 c.first_part-first.result (words-below area c.type_inv.area) c.first_part-first.ensures (omega (arith, c.first_part-first.type_inv)) in
+    rw c.keyed_of-keyed.ensures record { ready = ready; long = c.requires.0.long; own = limit-word area; room = rw (last-read area) c.requires.1 }
+
+pub returns : goal.returns
+returns c =
+    let area = c.args.area.now in
+    let r = rw (c.keyed_of-keyed.ensures, last-read area, params-read area) at c.levels.ensures.words in
+    let l = rw (c.keyed_of-keyed.ensures, last-read area) at c.levels.ensures.logged in
+    (r, l ∙ log-written (last_nodes_of area) c.args.log.now c.requires.1)

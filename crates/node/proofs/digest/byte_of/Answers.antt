@@ -1,0 +1,9 @@
+-- `node::digest::byte_of` meets its contract.
+use Rattle.node.specs.DigestLaws.{byte-value}
+use borrow.Author.Rules.{rules}
+use Rattle.node.proofs.digest.byte_of.Goals as goal
+
+-- `node::digest::byte_of` meets its contract.
+
+pub returns : goal.returns
+returns c = byte-value c.args.words.now c.args.j c.requires

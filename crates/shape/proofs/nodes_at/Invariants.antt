@@ -1,0 +1,15 @@
+-- `shape::nodes_at` meets its contract. The loop's invariant: the nodes of the level that is reached.
+use Rattle.shape.specs.ShapeLaws.{level_nodes-more}
+use Rattle.tree.proofs.Count.{level_nodes, level_nodes-one}
+use Rattle.tree.specs.Tree.{blocks}
+use Prim.Native.Nat.{◌-◌, ◌≤◌, ◌<◌}
+use mathlib.Core.Path.{◌≡◌, ◌∙◌, ap, sym}
+use borrow.Author.Rules.{rules}
+use native.Mathlib.Omega.{arith}
+use Rattle.shape.proofs.nodes_at.Given as goal
+
+abbrev pub invariant-loop-at : goal.invariant-loop-at
+invariant-loop-at l = (0 < l.at) × (l.at ≤ l.level) × (l.nodes ≡ level_nodes l.bits l.at)
+
+abbrev pub decreases-loop-at : goal.decreases-loop-at
+decreases-loop-at l = l.level - l.at

@@ -1,0 +1,15 @@
+-- `shape::tree_nodes` meets its contract. The loop's invariant: the sum, with the nodes from this level up, is the tree's number.
+use Rattle.shape.specs.CountLaws.{nodes-sequential, nodes-start, nodes-one, nodes-more, nodes-last}
+use Rattle.tree.specs.Sizes.{nodes_from, tree_nodes}
+use Rattle.tree.specs.Tree.{blocks}
+use Prim.Native.Nat.{ℕ, ◌+◌, ◌-◌, ◌*◌, ◌^◌, ◌≤◌, ◌<◌}
+use mathlib.Core.Path.{◌≡◌, sym, ap, ◌∙◌}
+use borrow.Author.Rules.{rules}
+use native.Mathlib.Omega.{arith}
+use Rattle.shape.proofs.tree_nodes.Given as goal
+
+abbrev pub invariant-loop-left : goal.invariant-loop-left
+invariant-loop-left l = (0 < l.nodes) × (l.sum + 2 * l.nodes ≤ 2 ^ 54) × (l.sum + nodes_from l.left l.nodes ≡ tree_nodes l.limit l.bits)
+
+abbrev pub decreases-loop-left : goal.decreases-loop-left
+decreases-loop-left l = l.left
