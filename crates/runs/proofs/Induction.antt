@@ -104,7 +104,7 @@ list-fits {e} P s area text (c ∷ cs) f h g =
     let o : Outcome = outcome_of area c in
     let add : Share = share_of c o in
     let t = step P s.bits area text h c (fits-at f) g.0 in
-    let r = list-fits P (joined_shares s add) o.area (suspended text (role_of c o)) cs (effect-fits f t.effect) t.held g.1 in
+    let r = list-fits {e = t.after} P (joined_shares s add) o.area (suspended text (role_of c o)) cs (effect-fits f t.effect) t.held g.1 in
     (r.0, rw (← joined_assoc s add (shares (answered o.area cs))) r.1)
 
 -- ---- one call of the list
@@ -123,11 +123,11 @@ list_reached P s area text [] f h g before a after q = absurd (omega (arith, ap 
 list_reached {e} P s area text (c ∷ cs) f h g [] a after q =
     subst (λ (x : Answered). Reached P (joined_shares s nothing) x) (head-eq_of_cons-eq q)
     record { area = area; over = e; fits = rw (joined_none s) f; is = refl }
-list_reached P s area text (c ∷ cs) f h g (b ∷ before) a after q =
+list_reached {e} P s area text (c ∷ cs) f h g (b ∷ before) a after q =
     let o : Outcome = outcome_of area c in
     let add : Share = share_of c o in
     let t = step P s.bits area text h c (fits-at f) g.0 in
-    let r = list_reached P (joined_shares s add) o.area (suspended text (role_of c o)) cs (effect-fits f t.effect) t.held g.1 before a after (tail-eq_of_cons-eq q) in
+    let r = list_reached {e = t.after} P (joined_shares s add) o.area (suspended text (role_of c o)) cs (effect-fits f t.effect) t.held g.1 before a after (tail-eq_of_cons-eq q) in
     subst (λ (x : Answered). Reached P (joined_shares s (joined_shares (share_of x.call x.outcome) (shares before))) a) (head-eq_of_cons-eq q)
     (rw (joined_assoc s add (shares before)) at r)
 
