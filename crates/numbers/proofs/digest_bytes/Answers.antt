@@ -2,10 +2,7 @@
 use mathlib.Core.Path.{sym, ap, ◌∙◌}
 use Rattle.tree.specs.Tree.{digest_bytes}
 use Rattle.climb.specs.OpenArea.{open_range, size-read}
-use borrow.Author.Rules.{rules}
 use Rattle.numbers.proofs.digest_bytes.Goals as goal
-
--- `numbers::digest_bytes` meets its contract.
 
 pub digest_bytes-requires : goal.digest_bytes-requires
 digest_bytes-requires c = (open_range c.requires).d_high

@@ -3,7 +3,5 @@ use lib.ListN.{length}
 use Rattle.numbers.specs.NumberLaws.{half-short}
 use Rattle.numbers.proofs.is_short_log.Goals as goal
 
--- `numbers::is_short_log` meets its contract.
-
 pub returns : goal.returns
 returns c = half-short (length c.args.log.now) c.args.nodes

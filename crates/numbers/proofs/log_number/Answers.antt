@@ -1,9 +1,6 @@
 -- `numbers::log_number` meets its contract.
-use native.Mathlib.Omega.{arith}
 use mathlib.Core.Path.{sym, ◌∙◌}
 use Rattle.numbers.proofs.log_number.Goals as goal
-
--- `numbers::log_number` meets its contract.
 
 pub returns-then-is_short_log : goal.returns-then-is_short_log
 returns-then-is_short_log c = rw (sym c.is_short_log.ensures ∙ c.if-is_short_log.true)

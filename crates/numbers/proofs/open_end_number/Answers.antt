@@ -1,10 +1,7 @@
 -- `numbers::open_end_number` meets its contract.
 use mathlib.Core.Path.{◌∙◌}
 use Rattle.numbers.specs.NumberLaws.{end-output, end-log}
-use borrow.Author.Rules.{rules}
 use Rattle.numbers.proofs.open_end_number.Goals as goal
-
--- `numbers::open_end_number` meets its contract.
 
 pub returns-then-number-ne0 : goal.returns-then-number-ne0
 returns-then-number-ne0 c =

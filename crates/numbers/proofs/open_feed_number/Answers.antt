@@ -1,12 +1,9 @@
 -- `numbers::open_feed_number` meets its contract.
-use native.Mathlib.Omega.{arith}
 use mathlib.Core.Path.{sym, ◌∙◌}
 use Rattle.bits.specs.PieceLaws.{spanned}
 use Rattle.calls.specs.Area.{total_of}
 use Rattle.numbers.specs.NumberLaws.{total-fits, feed-over, feed-past, feed-log}
 use Rattle.numbers.proofs.open_feed_number.Goals as goal
-
--- `numbers::open_feed_number` meets its contract.
 
 pub returns-then-refused_bits : goal.returns-then-refused_bits
 returns-then-refused_bits c =
@@ -21,7 +18,7 @@ returns-then-number-ne0 c =
 pub nodes_made-requires : goal.nodes_made-requires
 nodes_made-requires c =
     let a = c.args in
-    record { opened = c.requires; c = total-fits (total_of a.area.now) a.span.bits c.total_number-number.ensures c.if-number-ne0.false }
+    record { opened = c.requires; total = total-fits (total_of a.area.now) a.span.bits c.total_number-number.ensures c.if-number-ne0.false }
 
 pub returns : goal.returns
 returns c =

@@ -4,10 +4,7 @@ use borrow.Author.Tests.{lt-ltb, le-ltb}
 use lib.ListN.{length}
 use Rattle.tree.specs.Tree.{digest_bytes}
 use Rattle.calls.specs.Area.{params_of}
-use borrow.Author.Rules.{rules}
 use Rattle.numbers.proofs.output_number.Goals as goal
-
--- `numbers::output_number` meets its contract.
 
 pub returns-then-digest-digest_bytes : goal.returns-then-digest-digest_bytes
 returns-then-digest-digest_bytes c =

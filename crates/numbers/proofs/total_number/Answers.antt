@@ -4,8 +4,6 @@ use Prim.Native.Nat.{◌+◌, ◌-◌, ◌^◌}
 use borrow.Author.Tests.{lt-ltb, le-ltb}
 use Rattle.numbers.proofs.total_number.Goals as goal
 
--- `numbers::total_number` meets its contract.
-
 pub returns-then-total-bits : goal.returns-then-total-bits
 returns-then-total-bits c = let a = c.args in rw (lt-ltb (2 ^ 64 - 1) (a.total + a.bits) (omega arith))
 
