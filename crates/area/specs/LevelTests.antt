@@ -1,5 +1,5 @@
 -- Laws: soundness of the levels as the code tests it, level by level, and that this is what Area says of them.
-use Rattle.std.specs.Prelude.{◌≡◌, refl, Bool, true, not, ◌||◌, ◌&&◌, List, [], ◌∷◌, ℕ, zero, suc, ◌+◌, ◌-◌, ◌*◌, ◌/◌, eqb, ltb, take, drop, replicate}
+use Rattle.std.specs.Prelude.{◌≡◌, refl, Bool, true, not, ◌||◌, ◌&&◌, List, [], ◌∷◌, ℕ, zero, suc, ◌+◌, ◌*◌, ◌/◌, eqb, ltb, take, drop, replicate}
 use Rattle.std.proofs.Common.{sym, ap, ◌∙◌, zero-add, eq-eqb, ne_eqb}
 use Rattle.std.proofs.Math.Dec.{leb-zero, leb-suc-suc, eqb-suc-zero}
 use Rattle.bits.specs.Bits.{bits_of}

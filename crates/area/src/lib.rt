@@ -119,7 +119,7 @@ impl Area {
     pub fn level(area: &[u64], level: usize) -> &[u64]
         requires { Long area.now × (1 ≤ level) × (level ≤ own_levels area.now) }
         ensures level_part { LevelPart area.now level result.now }
-        ensures ref_ptr_value { (result.ref_ptr.0 ≡ area.entry.ref_ptr.0) × (result.ref_ptr.1 ≡ level_start level * 8 + area.entry.ref_ptr.1) }
+        ensures place { (result.ref_ptr.0 ≡ area.entry.ref_ptr.0) × (result.ref_ptr.1 ≡ level_start level * 8 + area.entry.ref_ptr.1) }
     {
         let a = Area::level_start(level);
         let e = a + Area::LEVEL;

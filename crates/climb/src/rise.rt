@@ -18,7 +18,7 @@ fn receive_last(
     at: usize,
 ) -> usize
     requires coming { Coming keyed constants.now level i out.now area.old log.old at }
-    requires limit_lt_level { keyed.params.limit < level }
+    requires sequential { keyed.params.limit < level }
     ensures { Climbed level (received keyed level i out.now area.old)
         area.old log.old at area.new log.new result }
 {

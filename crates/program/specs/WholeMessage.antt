@@ -141,4 +141,4 @@ message {P} {M} {area} line (bytes ∷ reads) s (more h hs) few =
     let m = length-append M (bits_of 8 bytes) in
     let k = length-bits_of 8 bytes in
     let d = read_step s bytes (omega arith) (omega arith) line in
-    after_read reads d (message line reads d.stands hs (omega arith))
+    after_read reads d (message {P = P} {M = M ++ bits_of 8 bytes} {area = (fed_step line area bytes).area} line reads d.stands hs (omega arith))

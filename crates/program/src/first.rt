@@ -10,6 +10,9 @@ use super::{Phase, Program, Taken, message, put};
 use line::{Key, Reading, Rounds, State};
 use refusals::Params;
 
+// The byte that ends the line.
+const LINE_END: u8 = 10;
+
 // The line as far as bytes tell it: whether byte 10 has ended it, and the place behind that byte.
 #[derive(Clone, Copy)]
 pub struct Scanned {
@@ -25,7 +28,7 @@ fn scan(start: State, bytes: &[u8]) -> Scanned
     let mut line = start;
     let mut i = 0;
     while i < bytes.len() {
-        if bytes[i] == 10 {
+        if bytes[i] == LINE_END {
             return Scanned {
                 ended: true,
                 line,

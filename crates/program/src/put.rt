@@ -1,15 +1,26 @@
 // What is printed, put at the front of a text. Each function answers how many bytes it put.
-ghost use Rattle.std.specs.Prelude.{◌≡◌, ◌++◌, ◌*◌, ◌<◌, ◌≤◌, length, take};
+ghost use Rattle.std.specs.Prelude.{◌≡◌, ◌++◌, ◌*◌, ◌<◌, ◌≤◌, length, take, drop};
 ghost use Rattle.print.specs.Print.{node_lines, digest_line};
 ghost use Rattle.program.specs.Printed.{refused_line, refused_number};
 ghost use Rattle.program.specs.Taken.{text_bytes, put_of};
+
+// Copies a text to the front, and answers how many bytes it has.
+fn copy(text: &[u8], out: &mut [u8]) -> usize
+    requires { length text.now ≤ length out.old }
+    ensures count { result ≡ length text.now }
+    ensures copied { out.new ≡ text.now ++ drop (length text.now) out.old }
+{
+    let n = text.len();
+    out[..n].copy_from_slice(text);
+    n
+}
 
 // An unreadable first line.
 pub fn refused_line(out: &mut [u8]) -> usize
     requires { text_bytes ≤ length out.old }
     ensures { record { count = result; out = out.new } ≡ put_of refused_line out.old }
 {
-    bytes::copy(b"refused line\n", out)
+    copy(b"refused line\n", out)
 }
 
 // A refusal by number.
@@ -18,7 +29,7 @@ pub fn refused_number(out: &mut [u8], number: u64) -> usize
     ensures { record { count = result; out = out.new } ≡ put_of (refused_number number) out.old }
 {
     let n = number as u8;
-    bytes::copy(b"refused ", out);
+    copy(b"refused ", out);
     if n < 10 {
         out[8] = b'0' + n;
         out[9] = 10;

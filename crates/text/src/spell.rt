@@ -16,6 +16,7 @@ use digits::Reading;
 use writing::{held, lines, put};
 
 // The bytes of r in a text's line 1, if it is one that is read: one if the line ends where it did before M-108, otherwise two.
+#[tactic(auto, unfolding(texts::proofs::ReadForms::form_of))]
 fn width_of(text: &[u8]) -> usize
     ensures { result ≡ form_of text.now }
 {

@@ -8,8 +8,6 @@ use Rattle.calls.specs.Area.{area_words, own_words}
 use Rattle.calls.proofs.AreaLaws.{limit-word}
 use Rattle.area.proofs.is_short.Goals as goal
 
--- `area::is_short` meets its contract.
-
 pub returns-then-area-le-LIMIT : goal.returns-then-area-le-LIMIT
 returns-then-area-le-LIMIT c =
     let area = c.args.area.now in

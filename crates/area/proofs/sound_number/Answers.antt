@@ -1,10 +1,7 @@
 -- `area::sound_number` meets its contract.
-use native.Mathlib.Omega.{arith}
 use mathlib.Core.Path.{sym, ◌∙◌}
-use borrow.Author.Tests.{ltb-false, not-true, not-false}
+use borrow.Author.Tests.{ltb-false}
 use Rattle.area.proofs.sound_number.Goals as goal
-
--- `area::sound_number` meets its contract.
 
 pub returns-then-is_short : goal.returns-then-is_short
 returns-then-is_short c = rw (sym c.is_short.ensures ∙ c.if-is_short.true)
@@ -16,12 +13,12 @@ pub returns-then-not-is_sound : goal.returns-then-not-is_sound
 returns-then-not-is_sound c =
     rw (
       sym c.is_short.ensures ∙ c.if-is_short.false,
-      sym c.is_sound.ensures ∙ not-true c.is_sound.result c.if-not-is_sound.true,
+      sym c.is_sound.ensures ∙ c.if-not-is_sound.true,
     )
 
 pub returns : goal.returns
 returns c =
     rw (
       sym c.is_short.ensures ∙ c.if-is_short.false,
-      sym c.is_sound.ensures ∙ not-false c.is_sound.result c.if-not-is_sound.false,
+      sym c.is_sound.ensures ∙ c.if-not-is_sound.false,
     )

@@ -4,8 +4,6 @@ use Rattle.area.specs.CountLaws.{done-fits}
 use Rattle.climb.specs.FlushLaws.{first-passing, second-passing, second-passed}
 use Rattle.climb.proofs.flush_two.Goals as goal
 
--- `climb::flush_two` meets its contract: the second output is passed on where the first has left the log.
-
 pub overflow_add-done : goal.overflow_add-done
 overflow_add-done c = omega (arith, c.done_blocks-done.ensures, (done-fits c.args.total c.ranges.total.fits).0)
 
@@ -20,7 +18,7 @@ compress_two-two-requires c =
 pub pass_on-after-requires : goal.pass_on-after-requires
 pass_on-after-requires c =
     first-passing c.requires c.done_blocks-done.ensures c.full_place.ensures c.full_place-2.ensures
-    c.level.ensures.0.words c.compress_two-two.ensures c.ranges.total.fits
+    c.level.ensures.level_part.words (c.compress_two-two.ensures.first, c.compress_two-two.ensures.second) c.ranges.total.fits
 
 pub overflow_add-done-2 : goal.overflow_add-done-2
 overflow_add-done-2 c = omega (arith, c.done_blocks-done.ensures, (done-fits c.args.total c.ranges.total.fits).0)
@@ -28,10 +26,10 @@ overflow_add-done-2 c = omega (arith, c.done_blocks-done.ensures, (done-fits c.a
 pub pass_on-requires : goal.pass_on-requires
 pass_on-requires c =
     second-passing c.requires c.done_blocks-done.ensures c.full_place.ensures c.full_place-2.ensures
-    c.level.ensures.0.words c.compress_two-two.ensures c.pass_on-after.ensures c.ranges.total.fits
+    c.level.ensures.level_part.words (c.compress_two-two.ensures.first, c.compress_two-two.ensures.second) c.pass_on-after.ensures c.ranges.total.fits
 
 pub returns : goal.returns
 returns c =
     second-passed c.requires c.done_blocks-done.ensures c.full_place.ensures
     c.full_place-2.ensures
-    c.level.ensures.0.words c.compress_two-two.ensures c.pass_on-after.ensures c.pass_on.ensures
+    c.level.ensures.level_part.words (c.compress_two-two.ensures.first, c.compress_two-two.ensures.second) c.pass_on-after.ensures c.pass_on.ensures

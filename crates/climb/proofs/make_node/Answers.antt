@@ -1,13 +1,6 @@
 -- `climb::make_node` meets its contract.
-use native.Mathlib.Omega.{arith}
-use borrow.Author.Rules.{rules}
 use Rattle.node.specs.WordLaws.{v-made}
 use Rattle.climb.proofs.make_node.Goals as goal
-
--- `climb::make_node` meets its contract.
-
-pub log_node-requires : goal.log_node-requires
-log_node-requires c = (c.requires.0.range, omega arith)
 
 pub returns : goal.returns
 returns c =

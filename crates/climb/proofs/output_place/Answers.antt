@@ -1,8 +1,5 @@
 -- `climb::output_place` meets its contract.
-use native.Mathlib.Omega.{arith}
 use Rattle.climb.proofs.output_place.Goals as goal
-
--- `climb::output_place` meets its contract.
 
 pub returns-then-sequential : goal.returns-then-sequential
 returns-then-sequential c = rw c.if-sequential.true

@@ -2,10 +2,7 @@
 use mathlib.Core.Path.{ap}
 use lib.ListN.{set}
 use Rattle.compress.specs.Buffer.{put_at}
-use borrow.Author.Rules.{rules}
 use Rattle.compress.proofs.add_word.Goals as goal
-
--- `add_word` meets its contract: the word that is stored is the new one.
 
 pub returns : goal.returns
 unfolding put_at

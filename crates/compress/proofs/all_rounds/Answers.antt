@@ -2,12 +2,9 @@
 use mathlib.Core.Path.{◌≡◌}
 use Prim.Native.Nat.{◌+◌, min}
 use native.Mathlib.Omega.{arith}
-use borrow.Author.Rules.{rules}
 use Rattle.constants.specs.Constants.{part_entries}
 use Rattle.compress.proofs.Laws.{reworded, onward}
 use Rattle.compress.proofs.all_rounds.Goals as goal
-
--- `all_rounds` meets its contract: the rounds of the lent part, and those after them.
 
 pub returns : goal.returns
 returns c =

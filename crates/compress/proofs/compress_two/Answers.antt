@@ -9,9 +9,6 @@ use Rattle.compress.specs.Buffer.{before, after, lane}
 use Rattle.compress.proofs.Laws.{loaded, last-words}
 use Rattle.compress.proofs.compress_two.Goals as goal
 
--- `compress_two` meets its contract: each lane of the buffer begins with its window, and the rounds keep the last 89 words of the
--- report's array before `at`.
-
 pub returns : goal.returns
 returns c =
     let N = c.args.one.now in
@@ -19,13 +16,13 @@ returns c =
     let size-N : length N ≡ 89 = search rules in
     let size-O : length O ≡ 89 = search rules in
     let at = c.all_rounds-at.result in
-    let a = c.all_rounds-at.new.0 in
+    let a = c.all_rounds-at.new.a in
     let advance = c.all_rounds-at.ensures.1 in
-    let window-N : before 89 (lane 2 0 c.put_window-2.new.0) ≡ after (16 * 0) N =
+    let window-N : before 89 (lane 2 0 c.put_window-2.new.a) ≡ after (16 * 0) N =
     ap (before 89) (c.put_window-2.ensures.1 0 (omega arith) (omega arith) ∙ c.put_window.ensures.0)
     ∙ loaded (lane 2 0 (replicate 690 0)) N size-N in
-    let window-O : before 89 (lane 2 1 c.put_window-2.new.0) ≡ after (16 * 0) O =
-    ap (before 89) c.put_window-2.ensures.0 ∙ loaded (lane 2 1 c.put_window.new.0) O size-O in (
+    let window-O : before 89 (lane 2 1 c.put_window-2.new.a) ≡ after (16 * 0) O =
+    ap (before 89) c.put_window-2.ensures.0 ∙ loaded (lane 2 1 c.put_window.new.a) O size-O in (
       c.output-first_output.ensures
           ∙ last-words N (lane 2 0 a) at c.args.rounds (omega arith) (advance.rule 0 (omega arith) N size-N window-N),
       c.output-second_output.ensures ∙ last-words O (lane 2 1 a) at c.args.rounds (omega arith) (advance.rule 1 (omega arith) O size-O window-O),

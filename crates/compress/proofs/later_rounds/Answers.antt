@@ -1,14 +1,11 @@
 -- `later_rounds` meets its contract: before part p is fetched, the rounds of the parts below it are done, or all.
 use mathlib.Core.Path.{◌≡◌}
-use Prim.Native.Nat.{◌-◌, ◌+◌, ◌*◌, ◌≤◌, min}
+use Prim.Native.Nat.{◌+◌, ◌*◌, min}
 use native.Mathlib.Omega.{arith}
 use borrow.Author.Rules.{rules}
-use Rattle.constants.specs.Constants.{table_parts, part_entries}
-use Rattle.compress.specs.Buffer.{Placed, Advances}
+use Rattle.constants.specs.Constants.{part_entries}
 use Rattle.compress.proofs.Laws.{reworded, onward}
 use Rattle.compress.proofs.later_rounds.Goals as goal
-
--- `later_rounds` meets its contract: before part p is fetched, the rounds of the parts below it are done, or all.
 
 pub returns-then-rounds-le-PART : goal.returns-then-rounds-le-PART
 returns-then-rounds-le-PART c =

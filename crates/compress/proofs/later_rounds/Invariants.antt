@@ -1,11 +1,7 @@
 -- `later_rounds` meets its contract: before part p is fetched, the rounds of the parts below it are done, or all.
-use mathlib.Core.Path.{◌≡◌}
-use Prim.Native.Nat.{◌-◌, ◌+◌, ◌*◌, ◌≤◌, min}
-use native.Mathlib.Omega.{arith}
-use borrow.Author.Rules.{rules}
+use Prim.Native.Nat.{◌-◌, ◌*◌, ◌≤◌, min}
 use Rattle.constants.specs.Constants.{table_parts, part_entries}
 use Rattle.compress.specs.Buffer.{Placed, Advances}
-use Rattle.compress.proofs.Laws.{reworded, onward}
 use Rattle.compress.proofs.later_rounds.Given as goal
 
 abbrev pub invariant-loop-part : goal.invariant-loop-part

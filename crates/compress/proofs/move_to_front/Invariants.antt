@@ -1,11 +1,8 @@
 -- `move_to_front` meets its contract: after m turns the first m words are those from b on, and the words from m on are as they were.
-use mathlib.Core.Path.{◌≡◌, refl, ◌∙◌}
+use mathlib.Core.Path.{◌≡◌}
 use Prim.Native.Nat.{◌-◌, ◌≤◌}
-use lib.ListN.{length, drop, length-set}
-use lib.Seq.{paste, paste-zero}
-use Rattle.compress.proofs.Laws.{move_more}
-use borrow.Author.Rules.{rules}
-use native.Mathlib.Omega.{arith}
+use lib.ListN.{length, drop}
+use lib.Seq.{paste}
 use Rattle.compress.proofs.move_to_front.Given as goal
 
 abbrev pub invariant-loop-m : goal.invariant-loop-m

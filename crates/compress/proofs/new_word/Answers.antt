@@ -2,10 +2,7 @@
 use mathlib.Core.Path.{◌∙◌}
 use Rattle.compress.specs.Buffer.{new_word}
 use Rattle.compress.proofs.ReportLaws.{report_step_lem}
-use borrow.Author.Rules.{rules}
 use Rattle.compress.proofs.new_word.Goals as goal
-
--- `new_word` meets its contract: the word is the one that `step` makes of the words before it in its lane.
 
 pub returns : goal.returns
 unfolding new_word

@@ -8,8 +8,6 @@ use Rattle.compress.specs.Buffer.{before, lane}
 use Rattle.compress.proofs.LaneLaws.{move_lane}
 use Rattle.compress.proofs.next_place.Goals as goal
 
--- `next_place` meets its contract: a full buffer has the last 89 words of a lane at 256, and they are moved to its front.
-
 pub returns-then-at-lt-BUFFER : goal.returns-then-at-lt-BUFFER
 returns-then-at-lt-BUFFER c = (search rules, omega arith, λ j h. refl)
 

@@ -1,16 +1,12 @@
 -- `one_lane_round` meets its contract: after j turns the first j words of the round are written. The shifts are below 64.
 use mathlib.Core.Path.{◌≡◌, refl, ap, ◌∙◌}
-use Prim.Native.Nat.{◌-◌, ◌≤◌}
 use native.Mathlib.Numerals.{add-one}
 use lib.ListN.{length}
-use Rattle.compress.specs.Compress.{shifts_r, shifts_t}
 use Rattle.compress.specs.Buffer.{put_round}
 use Rattle.compress.proofs.Laws.{length_round, small_shifts}
 use borrow.Author.Rules.{rules}
 use native.Mathlib.Omega.{arith}
 use Rattle.compress.proofs.one_lane_round.Goals as goal
-
--- `one_lane_round` meets its contract: after j turns the first j words of the round are written. The shifts are below 64.
 
 pub loop-j-init : goal.loop-j-init
 unfolding put_round
@@ -25,13 +21,12 @@ add_word-requires c =
 
 pub loop-j-preserved : goal.loop-j-preserved
 unfolding put_round
-loop-j-preserved c =
-    (
-      search rules,
-      c.add_word.ensures ∙ rw (add-one, c.loop-j.invariant.1),
-      refl,
-      refl,
-    )
+loop-j-preserved c = (
+  search rules,
+  c.add_word.ensures ∙ rw (add-one, c.loop-j.invariant.1),
+  refl,
+  refl,
+)
 
 pub shape_of-a : goal.shape_of-a
 shape_of-a c =

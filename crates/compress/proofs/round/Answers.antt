@@ -1,18 +1,15 @@
 -- `round` meets its contract: there is one lane, or there are two.
 use mathlib.Core.Path.{◌≡◌}
-use borrow.Author.Rules.{rules}
 use native.Mathlib.Omega.{arith}
 use Rattle.compress.specs.Buffer.{put_round}
 use Rattle.compress.proofs.LaneLaws.{one_lane}
 use Rattle.compress.proofs.round.Goals as goal
 
--- `round` meets its contract: there is one lane, or there are two.
-
 pub returns-then-lanes-eq1 : goal.returns-then-lanes-eq1
 returns-then-lanes-eq1 c =
     let only : c.args.lanes ≡ 1 = omega arith in
     rw only
-    (one_lane (put_round 16 c.args.i c.args.s) c.args.a.now c.one_lane_round.new.0
+    (one_lane (put_round 16 c.args.i c.args.s) c.args.a.now c.one_lane_round.new.a
     (omega arith) (omega arith) c.one_lane_round.ensures)
 
 pub returns-else-lanes-eq1 : goal.returns-else-lanes-eq1

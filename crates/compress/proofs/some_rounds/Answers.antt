@@ -1,17 +1,15 @@
 -- `some_rounds` meets its contract: after k turns the first k constants of the part have had their rounds.
 use mathlib.Core.Path.{◌≡◌, sym, ap, ◌∙◌}
-use Prim.Native.Nat.{ℕ, ◌-◌, ◌+◌, ◌*◌, ◌≤◌}
+use Prim.Native.Nat.{ℕ, ◌+◌, ◌*◌}
 use native.Mathlib.Nat.{add-zero}
 use native.Mathlib.Omega.{arith}
 use lib.ListN.{get_or}
 use borrow.Author.Rules.{rules}
-use Rattle.constants.specs.Constants.{S, RoundTable}
-use Rattle.compress.specs.Buffer.{put_round, before, after, lane, Placed, Advances}
+use Rattle.constants.specs.Constants.{S}
+use Rattle.compress.specs.Buffer.{put_round, before, after, lane}
 use Rattle.compress.proofs.Laws.{round_window}
 use Rattle.compress.proofs.LaneLaws.{length-apart}
 use Rattle.compress.proofs.some_rounds.Goals as goal
-
--- `some_rounds` meets its contract: after k turns the first k constants of the part have had their rounds.
 
 pub loop-k-init : goal.loop-k-init
 loop-k-init c = (search rules, search rules, λ q t. record { rule = λ j h N size e. rw (add-zero q) e })
@@ -21,7 +19,7 @@ loop-k-preserved c =
     let lanes = c.args.lanes in
     let k = c.loop-k.k in
     let place = c.next_place-place.result in
-    let a = c.next_place-place.new.0 in (
+    let a = c.next_place-place.new.a in (
       search rules,
       (search rules, search rules, search rules, omega arith),
       λ q t. record {

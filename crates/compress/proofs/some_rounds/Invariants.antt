@@ -1,14 +1,7 @@
 -- `some_rounds` meets its contract: after k turns the first k constants of the part have had their rounds.
-use mathlib.Core.Path.{◌≡◌, sym, ap, ◌∙◌}
-use Prim.Native.Nat.{ℕ, ◌-◌, ◌+◌, ◌*◌, ◌≤◌}
-use native.Mathlib.Nat.{add-zero}
-use native.Mathlib.Omega.{arith}
-use lib.ListN.{get_or}
-use borrow.Author.Rules.{rules}
-use Rattle.constants.specs.Constants.{S, RoundTable}
-use Rattle.compress.specs.Buffer.{put_round, before, after, lane, Placed, Advances}
-use Rattle.compress.proofs.Laws.{round_window}
-use Rattle.compress.proofs.LaneLaws.{length-apart}
+use Prim.Native.Nat.{ℕ, ◌-◌, ◌+◌, ◌≤◌}
+use Rattle.constants.specs.Constants.{RoundTable}
+use Rattle.compress.specs.Buffer.{Placed, Advances}
 use Rattle.compress.proofs.some_rounds.Given as goal
 
 abbrev pub invariant-loop-k : goal.invariant-loop-k

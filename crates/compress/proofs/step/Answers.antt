@@ -3,8 +3,6 @@ use borrow.Author.Rules.{rules}
 use Rattle.compress.specs.Report.{report_step}
 use Rattle.compress.proofs.step.Goals as goal
 
--- `step` meets its contract: the code is the definition.
-
 pub returns : goal.returns
 unfolding report_step
 returns c = search rules

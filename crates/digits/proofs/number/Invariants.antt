@@ -1,13 +1,9 @@
 -- `digits::number` spells a number, digit by digit, until a byte is refused.
-use mathlib.Core.Path.{◌≡◌, refl, sym, ap, ◌∙◌}
+use mathlib.Core.Path.{◌≡◌}
 use mathlib.Core.Option.{some}
 use Prim.Native.Nat.{◌-◌, ◌≤◌}
 use lib.ListN.{length, take}
-use lib.Seq.{take_all}
 use Rattle.digits.specs.Digits.{spelt}
-use Rattle.digits.proofs.Loops.{digit-more, digit_none, digit-fits, digit-next-fits}
-use borrow.Author.Rules.{rules}
-use native.Mathlib.Omega.{arith}
 use Rattle.digits.proofs.number.Given as goal
 
 abbrev pub invariant-loop-i : goal.invariant-loop-i

@@ -1,16 +1,12 @@
 -- `digits::put_digits` writes the digits of a number, one after the other.
-use Prim.Native.Nat.{◌+◌, ◌-◌, ◌≤◌, ◌<◌}
+use Prim.Native.Nat.{◌<◌}
 use mathlib.Core.Path.{◌≡◌, refl, sym, ◌∙◌}
-use mathlib.Core.List.{◌++◌}
-use lib.ListN.{length, take, drop, length-set}
+use lib.ListN.{length, length-set}
 use Rattle.digits.specs.Digits.{hex_digits}
 use Rattle.digits.proofs.DigitLaws.{length_digits}
 use Rattle.digits.proofs.Loops.{copy_more, copy_all, get_d_digits}
-use borrow.Author.Rules.{rules}
 use native.Mathlib.Omega.{arith}
 use Rattle.digits.proofs.put_digits.Goals as goal
-
--- `digits::put_digits` writes the digits of a number, one after the other.
 
 pub loop-i-init : goal.loop-i-init
 loop-i-init c = (omega arith, refl, refl, refl)

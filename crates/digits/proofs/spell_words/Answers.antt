@@ -1,17 +1,14 @@
 -- `digits::spell_words` spells words, 16 digits at a time, until a byte is refused.
 use mathlib.Core.Path.{◌≡◌, refl, sym, ap, ◌∙◌}
-use mathlib.Core.List.{List, map}
-use mathlib.Core.Option.{Option, none, some}
+use mathlib.Core.List.{List}
+use mathlib.Core.Option.{Option, none}
 use Prim.Native.Nat.{ℕ, ◌+◌, ◌-◌, ◌*◌, ◌≤◌}
 use lib.ListN.{length, take, drop, get_or, length-set}
-use Rattle.digits.specs.Digits.{spelt, spelt_words, reading_number}
+use Rattle.digits.specs.Digits.{spelt, spelt_words}
 use Rattle.digits.proofs.DigitLaws.{length-spelt_words, all-at}
 use Rattle.digits.proofs.Loops.{get_d_spelt_words, word_more, word-all}
-use borrow.Author.Rules.{rules}
 use native.Mathlib.Omega.{arith}
 use Rattle.digits.proofs.spell_words.Goals as goal
-
--- `digits::spell_words` spells words, 16 digits at a time, until a byte is refused.
 
 -- the number of a turn is the word of its place
 turn : (n i : ℕ) (t : List ℕ) (o : Option ℕ) → i + 1 ≤ n → o ≡ spelt 0 (take (16 * i + 16 - 16 * i) (drop (16 * i) t)) → get_or (spelt_words n t) i none ≡ o
@@ -28,7 +25,7 @@ returns-in-NoDigit c =
     let t = a.part.now in
     let k = length a.words.now in
     sym (all-at (spelt_words k t) c.loop-i.i (omega (arith, length-spelt_words k t))
-    (turn k c.loop-i.i t _ (omega arith) c.number.ensures ∙ ap reading_number c.enum_told-1.given.1))
+    (turn k c.loop-i.i t _ (omega arith) c.in-NoDigit.ensures))
 
 pub loop-i-preserved : goal.loop-i-preserved
 loop-i-preserved c =
@@ -37,7 +34,7 @@ loop-i-preserved c =
     let k = length a.words.now in (
       omega arith,
       word_more (spelt_words k t) c.loop-i.words c.loop-i.i _ (omega (arith, length-spelt_words k t)) (omega arith) c.loop-i.invariant.1
-          (turn k c.loop-i.i t _ (omega arith) c.number.ensures ∙ ap reading_number c.w-1.given.1),
+          (turn k c.loop-i.i t _ (omega arith) c.in-Number.ensures),
       simp length-set c.loop-i.invariant.2,
     )
 

@@ -5,8 +5,6 @@ use borrow.Author.Rules.{rules}
 use Rattle.digits.proofs.HexLaws.{hex_low, hex_high}
 use Rattle.digits.proofs.value_digit.Goals as goal
 
--- `digits::value_digit` meets its contract.
-
 pub overflow_cast-result : goal.overflow_cast-result
 overflow_cast-result c = search rules
 

@@ -1,12 +1,8 @@
 -- `last_nodes::above` meets its contract.
-use Prim.Native.Nat.{◌+◌, ◌-◌}
 use native.Mathlib.Omega.{arith}
 use lib.Dec.{ltb}
-use Rattle.tree.specs.Tree.{most_levels}
-use Rattle.last_nodes.specs.LastLaws.{last_up, last_fits, LastLoop, loop_start, loop_joins, loop_room, loop_root, loop_more, loop_never}
+use Rattle.last_nodes.specs.LastLaws.{last_fits, loop_start, loop_joins, loop_room, loop_root, loop_more, loop_never}
 use Rattle.last_nodes.proofs.above.Goals as goal
-
--- `last_nodes::above` meets its contract.
 
 pub loop-k-init : goal.loop-k-init
 loop-k-init c = loop_start c.requires
@@ -26,7 +22,7 @@ returns-then-last-eq1 c =
     c.last_place-last.ensures c.make_node-next.ensures c.if-last-eq1.true
 
 pub overflow_add-at : goal.overflow_add-at
-overflow_add-at c = omega (arith, loop_room c.loop-k.invariant c.loop-k-test.true, c.loop-k.invariant.log_length, c.ranges)
+overflow_add-at c = omega (arith, loop_room c.loop-k.invariant c.loop-k-test.true, c.loop-k.invariant.log-length)
 
 pub loop-k-preserved : goal.loop-k-preserved
 loop-k-preserved c =

@@ -1,9 +1,7 @@
 -- `last_nodes::above` meets its contract.
 use Prim.Native.Nat.{◌+◌, ◌-◌}
-use native.Mathlib.Omega.{arith}
-use lib.Dec.{ltb}
 use Rattle.tree.specs.Tree.{most_levels}
-use Rattle.last_nodes.specs.LastLaws.{last_up, last_fits, LastLoop, loop_start, loop_joins, loop_room, loop_root, loop_more, loop_never}
+use Rattle.last_nodes.specs.LastLaws.{last_up, LastLoop}
 use Rattle.last_nodes.proofs.above.Given as goal
 
 abbrev pub invariant-loop-k : goal.invariant-loop-k

@@ -1,16 +1,13 @@
 -- `last_nodes::joined_block` meets its contract.
 use mathlib.Core.Path.{◌∙◌}
-use native.Mathlib.Omega.{arith}
 use Rattle.tree.specs.Tree.{output_words}
 use Rattle.calls.specs.Area.{level_words}
 use Rattle.climb.specs.Levels.{paste-put, level_copied}
 use Rattle.last_nodes.proofs.joined_block.Goals as goal
 
--- `last_nodes::joined_block` meets its contract.
-
 pub returns : goal.returns
 returns c =
     let a = c.args in
     c.copy-2.ensures
-    ∙ rw (level_copied c.level.ensures.0 c.copy.ensures)
+    ∙ rw (level_copied c.level.ensures.level_part c.copy.ensures)
     (paste-put (level_words a.area.now a.level) a.place output_words a.out.now c.requires.words)

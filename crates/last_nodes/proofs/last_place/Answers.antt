@@ -1,8 +1,5 @@
 -- `last_nodes::last_place` meets its contract.
-use native.Mathlib.Omega.{arith}
 use Rattle.last_nodes.proofs.last_place.Goals as goal
-
--- `last_nodes::last_place` meets its contract.
 
 pub returns-then-sequential : goal.returns-then-sequential
 returns-then-sequential c = rw c.if-sequential.true

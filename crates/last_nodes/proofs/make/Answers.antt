@@ -9,8 +9,6 @@ use Rattle.last_nodes.specs.LastLaws.{last-read}
 use native.Mathlib.Omega.{arith}
 use Rattle.last_nodes.proofs.make.Goals as goal
 
--- `last_nodes::make` meets its contract.
-
 pub levels-requires : goal.levels-requires
 levels-requires c =
     let area = c.args.area.now in
@@ -22,4 +20,4 @@ returns c =
     let area = c.args.area.now in
     let r = rw (c.keyed_of-keyed.ensures, last-read area, params-read area) at c.levels.ensures.words in
     let l = rw (c.keyed_of-keyed.ensures, last-read area) at c.levels.ensures.logged in
-    (r, l ∙ log-written (last_nodes_of area) c.args.log.now c.requires.1)
+    record { value = r; log_after = l ∙ log-written (last_nodes_of area) c.args.log.now c.requires.1 }

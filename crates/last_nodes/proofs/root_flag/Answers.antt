@@ -2,8 +2,6 @@
 use Rattle.last_nodes.specs.LastLaws.{flag-root, flag-other}
 use Rattle.last_nodes.proofs.root_flag.Goals as goal
 
--- `last_nodes::root_flag` meets its contract.
-
 pub returns-then-index-lt1 : goal.returns-then-index-lt1
 returns-then-index-lt1 c = flag-root _ c.if-index-lt1.true
 

@@ -2,13 +2,10 @@
 use mathlib.Core.Path.{refl, ◌∙◌}
 use Rattle.lists.specs.Slices.{words-below}
 use Rattle.node.specs.WordLaws.{words-made}
-use borrow.Author.Rules.{rules}
 use Rattle.node.proofs.compress_node.Goals as goal
 
--- `node::compress_node` meets its contract: what the compression makes of its window are the words of the node.
-
 pub fill_window-requires : goal.fill_window-requires
-fill_window-requires c = (c.requires.0.range, (c.requires.1, c.requires.0.words, refl))
+fill_window-requires c = record { in_range = c.requires.0.range; fields_fit = (c.requires.1, c.requires.0.words, refl) }
 
 pub returns : goal.returns
 returns c =

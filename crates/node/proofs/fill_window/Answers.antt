@@ -6,25 +6,22 @@ use lib.ListN.{length, set, length-set}
 use lib.Seq.{paste}
 use Rattle.node.specs.NodeLaws.{window-made}
 use native.Mathlib.Omega.{arith}
-use borrow.Author.Rules.{rules}
 use Rattle.node.proofs.fill_window.Goals as goal
 
--- `node::fill_window` meets its contract: Q, K, U, V and the block are written one after the other.
-
 pub put_key-requires : goal.put_key-requires
-put_key-requires c = (c.requires.1.2, c.requires.1.1)
+put_key-requires c = (c.requires.fields_fit.2, c.requires.fields_fit.1)
 
 pub bounds-w-23 : goal.bounds-w-23
-bounds-w-23 c = omega (arith, ap length c.requires.1.2, c.put_key.auto.0)
+bounds-w-23 c = omega (arith, ap length c.requires.fields_fit.2, c.put_key.auto.w)
 
 pub bounds-w-24 : goal.bounds-w-24
-bounds-w-24 c = simp length-set (omega (arith, ap length c.requires.1.2, c.put_key.auto.0))
+bounds-w-24 c = simp length-set (omega (arith, ap length c.requires.fields_fit.2, c.put_key.auto.w))
 
 pub copy-requires : goal.copy-requires
-copy-requires c = simp length-set (omega (arith, ap length c.requires.1.2, c.put_key.auto.0, c.requires.1.0.4))
+copy-requires c = simp length-set (omega (arith, ap length c.requires.fields_fit.2, c.put_key.auto.w, c.requires.fields_fit.0.4))
 
 pub shape_of-w : goal.shape_of-w
-shape_of-w c = omega (arith, c.put_key.auto.0, simp length-set at c.copy.auto.0)
+shape_of-w c = omega (arith, c.put_key.auto.w, simp length-set at c.copy.auto.dst)
 
 pub returns : goal.returns
 returns c =
@@ -33,5 +30,5 @@ returns c =
     let v = c.node_v.result in
     c.copy.ensures
     ∙ ap (λ (w : List ℕ). paste (set (set w 23 u) 24 v) 25 a.block.now (length a.block.now)) c.put_key.ensures
-    ∙ window-made a.keyed.k a.block.now u v c.requires.1.1 c.requires.1.0.4
+    ∙ window-made a.keyed.k a.block.now u v c.requires.fields_fit.1 c.requires.fields_fit.0.4
     ∙ rw (c.node_u.ensures, c.node_v.ensures)

@@ -2,7 +2,6 @@
 use lib.ListN.{length-replicate}
 use Prim.Native.Nat.{ℕ}
 use native.Mathlib.Omega.{arith}
-use borrow.Author.Rules.{rules}
 use Rattle.node.proofs.node_v.Goals as goal
 
 -- `node::node_v` meets its contract: no field of V reaches into the one above it.

@@ -5,17 +5,14 @@ use Prim.Native.Nat.{ℕ}
 use lib.ListN.{length, replicate}
 use lib.Seq.{paste}
 use native.Mathlib.Omega.{arith}
-use borrow.Author.Rules.{rules}
 use Rattle.node.specs.NodeLaws.{key-put}
 use Rattle.node.proofs.put_key.Goals as goal
-
--- `node::put_key` meets its contract: Q and then K are written.
 
 pub copy-requires : goal.copy-requires
 copy-requires c = omega (arith, ap length c.requires.0, ap length c.q_words-q.ensures)
 
 pub copy-requires-2 : goal.copy-requires-2
-copy-requires-2 c = omega (arith, ap length c.requires.0, c.copy.auto.0, c.requires.1)
+copy-requires-2 c = omega (arith, ap length c.requires.0, c.copy.auto.dst, c.requires.1)
 
 pub returns : goal.returns
 returns c =

@@ -9,9 +9,8 @@ use Rattle.piece.specs.FeedSteps.{free_le, base_place}
 use Rattle.piece.specs.ChunkLaws.{chunk_free}
 use Rattle.piece.specs.PieceLaws.{fed-start, whole_part}
 use native.Mathlib.Omega.{arith}
+use borrow.Author.Rules.{rules}
 use Rattle.piece.proofs.feed_levels.Goals as goal
-
--- `piece::feed_levels` meets its contract.
 
 pub bounds-area-4 : goal.bounds-area-4
 bounds-area-4 c = omega (arith, c.requires.opened.long)
@@ -40,4 +39,4 @@ returns c =
     let a = c.args in
     let area = a.area.now in
     rw (fed-start area (spanned a.piece.now a.span)) at
-    (chunk_free (whole_part c.requires) (words-below area c.type_inv.area) (keyed_of area) (get_or area 1 0) a.log.now 0 c.free_of-free.ensures c.if-free-span.false c.fill_level.ensures)
+    (chunk_free (whole_part c.requires) (words-below area (search rules)) (keyed_of area) (get_or area 1 0) a.log.now 0 c.free_of-free.ensures c.if-free-span.false c.fill_level.ensures)

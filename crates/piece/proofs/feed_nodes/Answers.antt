@@ -5,15 +5,14 @@ use Rattle.calls.proofs.AreaLaws.{limit-word}
 use Rattle.climb.specs.OpenArea.{open_ready}
 use Rattle.piece.specs.PieceLaws.{fed-read}
 use native.Mathlib.Omega.{arith}
+use borrow.Author.Rules.{rules}
 use Rattle.piece.proofs.feed_nodes.Goals as goal
-
--- `piece::feed_nodes` meets its contract.
 
 pub feed_bits-requires : goal.feed_bits-requires
 feed_bits-requires c =
     let a = c.args in
     let area = a.area.now in
-    let ready = open_ready c.requires.opened c.first_part-first.result (words-below area c.slice_known-1.given) c.first_part-first.ensures (omega arith) in
+    let ready = open_ready c.requires.opened c.first_part-first.result (words-below area (search rules)) c.first_part-first.ensures (omega arith) in
     rw c.keyed_of-keyed.ensures
     record { ready = ready; long = c.requires.opened.long; own = limit-word area; bits = c.requires.bits; total = c.requires.total; room = rw (fed-read area (spanned a.piece.now a.span)) c.requires.room }
 

@@ -2,10 +2,7 @@
 use lib.ListN.{length-set}
 use Rattle.piece.specs.PieceLaws.{count_fits, fed-piece}
 use native.Mathlib.Omega.{arith}
-use borrow.Author.Rules.{rules}
 use Rattle.piece.proofs.feed_piece.Goals as goal
-
--- `piece::feed_piece` meets its contract.
 
 pub bounds-area-1 : goal.bounds-area-1
 bounds-area-1 c = omega (arith, c.requires.opened.long)

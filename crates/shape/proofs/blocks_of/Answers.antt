@@ -3,7 +3,6 @@ use Rattle.shape.specs.CountLaws.{blocks_some, blocks_none}
 use native.Mathlib.Nat.{div-le_self}
 use Prim.Native.Nat.{◌-◌}
 use native.Mathlib.Omega.{arith}
-use borrow.Author.Rules.{rules}
 use Rattle.shape.proofs.blocks_of.Goals as goal
 
 -- `shape::blocks_of` meets its contract.

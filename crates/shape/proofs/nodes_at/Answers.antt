@@ -2,9 +2,7 @@
 use Rattle.shape.specs.ShapeLaws.{level_nodes-more}
 use Rattle.tree.proofs.Count.{level_nodes, level_nodes-one}
 use Rattle.tree.specs.Tree.{blocks}
-use Prim.Native.Nat.{◌-◌, ◌≤◌, ◌<◌}
 use mathlib.Core.Path.{◌≡◌, ◌∙◌, ap, sym}
-use borrow.Author.Rules.{rules}
 use native.Mathlib.Omega.{arith}
 use Rattle.shape.proofs.nodes_at.Goals as goal
 

@@ -1,11 +1,7 @@
 -- `shape::nodes_at` meets its contract. The loop's invariant: the nodes of the level that is reached.
-use Rattle.shape.specs.ShapeLaws.{level_nodes-more}
-use Rattle.tree.proofs.Count.{level_nodes, level_nodes-one}
-use Rattle.tree.specs.Tree.{blocks}
+use Rattle.tree.proofs.Count.{level_nodes}
 use Prim.Native.Nat.{◌-◌, ◌≤◌, ◌<◌}
-use mathlib.Core.Path.{◌≡◌, ◌∙◌, ap, sym}
-use borrow.Author.Rules.{rules}
-use native.Mathlib.Omega.{arith}
+use mathlib.Core.Path.{◌≡◌}
 use Rattle.shape.proofs.nodes_at.Given as goal
 
 abbrev pub invariant-loop-at : goal.invariant-loop-at

@@ -4,7 +4,6 @@ use Rattle.shape.specs.Shape.{taken}
 use Prim.Native.Nat.{ℕ, ◌-◌, ◌*◌}
 use mathlib.Core.Path.{◌∙◌, ap}
 use native.Mathlib.Omega.{arith}
-use borrow.Author.Rules.{rules}
 use Rattle.shape.proofs.padding.Goals as goal
 
 -- `shape::padding` meets its contract.

@@ -2,7 +2,6 @@
 use Rattle.shape.specs.ShapeLaws.{sequential_nodes-zero, sequential_nodes-more}
 use Rattle.tree.specs.Tree.{blocks}
 use mathlib.Core.Path.{◌∙◌, ap}
-use borrow.Author.Rules.{rules}
 use Rattle.shape.proofs.sequential_nodes.Goals as goal
 
 -- `shape::sequential_nodes` meets its contract.

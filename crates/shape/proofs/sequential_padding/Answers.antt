@@ -4,7 +4,6 @@ use Rattle.shape.specs.Shape.{taken}
 use Prim.Native.Nat.{ℕ, ◌-◌, ◌*◌}
 use mathlib.Core.Path.{◌∙◌, ap}
 use native.Mathlib.Omega.{arith}
-use borrow.Author.Rules.{rules}
 use Rattle.shape.proofs.sequential_padding.Goals as goal
 
 -- `shape::sequential_padding` meets its contract.

@@ -1,11 +1,8 @@
 -- `shape::top_level` meets its contract. The loop's invariant: the top is looked for from this level on.
 use Rattle.shape.specs.ShapeLaws.{level_nodes-more, top_start, top_one, top-more, top-past, top-most}
-use Rattle.tree.proofs.Count.{level_nodes, level_nodes-one}
-use Rattle.shape.specs.Shape.{top_from, top_level}
+use Rattle.tree.proofs.Count.{level_nodes-one}
 use Rattle.tree.specs.Tree.{blocks}
-use Prim.Native.Nat.{◌+◌, ◌-◌, ◌≤◌, ◌<◌}
-use mathlib.Core.Path.{◌≡◌, ◌∙◌, ap, sym}
-use borrow.Author.Rules.{rules}
+use mathlib.Core.Path.{◌∙◌, ap, sym}
 use native.Mathlib.Omega.{arith}
 use Rattle.shape.proofs.top_level.Goals as goal
 

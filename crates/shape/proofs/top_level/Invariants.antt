@@ -1,12 +1,8 @@
 -- `shape::top_level` meets its contract. The loop's invariant: the top is looked for from this level on.
-use Rattle.shape.specs.ShapeLaws.{level_nodes-more, top_start, top_one, top-more, top-past, top-most}
-use Rattle.tree.proofs.Count.{level_nodes, level_nodes-one}
+use Rattle.tree.proofs.Count.{level_nodes}
 use Rattle.shape.specs.Shape.{top_from, top_level}
-use Rattle.tree.specs.Tree.{blocks}
 use Prim.Native.Nat.{◌+◌, ◌-◌, ◌≤◌, ◌<◌}
-use mathlib.Core.Path.{◌≡◌, ◌∙◌, ap, sym}
-use borrow.Author.Rules.{rules}
-use native.Mathlib.Omega.{arith}
+use mathlib.Core.Path.{◌≡◌}
 use Rattle.shape.proofs.top_level.Given as goal
 
 abbrev pub invariant-loop-level : goal.invariant-loop-level

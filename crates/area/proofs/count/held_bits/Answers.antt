@@ -4,8 +4,6 @@ use Rattle.area.specs.CountLaws.{done_le}
 use native.Mathlib.Omega.{arith}
 use Rattle.area.proofs.count.held_bits.Goals as goal
 
--- `area::count::held_bits` meets its contract.
-
 pub overflow_mul-result : goal.overflow_mul-result
 overflow_mul-result c = let h : c.args.size * c.done_blocks.result ≤ c.args.total = rw c.done_blocks.ensures (done_le _ _) in omega arith
 

@@ -1,13 +1,10 @@
 -- `area::count::open_above` meets its contract.
 use mathlib.Core.Path.{◌≡◌, ap}
-use Prim.Native.Nat.{◌+◌}
 use Rattle.calls.specs.Area.{open_above}
 use Rattle.calls.proofs.Counts.{open_above_none}
 use Rattle.area.specs.CountLaws.{open_above_le, open_above-last, open_above-more}
 use native.Mathlib.Omega.{arith}
 use Rattle.area.proofs.count.open_above.Goals as goal
-
--- `area::count::open_above` meets its contract.
 
 pub overflow_add-result : goal.overflow_add-result
 overflow_add-result c = omega (arith, open_above-last c.loop-i.n c.loop-i.i c.if-n-lt1.true, open_above_le c.args.levels c.args.outputs)

@@ -1,10 +1,7 @@
 -- `area::count::open_above` meets its contract.
-use mathlib.Core.Path.{◌≡◌, ap}
+use mathlib.Core.Path.{◌≡◌}
 use Prim.Native.Nat.{◌+◌}
 use Rattle.calls.specs.Area.{open_above}
-use Rattle.calls.proofs.Counts.{open_above_none}
-use Rattle.area.specs.CountLaws.{open_above_le, open_above-last, open_above-more}
-use native.Mathlib.Omega.{arith}
 use Rattle.area.proofs.count.open_above.Given as goal
 
 abbrev pub invariant-loop-i : goal.invariant-loop-i

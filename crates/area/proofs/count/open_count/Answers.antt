@@ -5,8 +5,6 @@ use Rattle.area.specs.CountLaws.{open_count_none, open_count-more, open_above_le
 use native.Mathlib.Omega.{arith}
 use Rattle.area.proofs.count.open_count.Goals as goal
 
--- `area::count::open_count` meets its contract.
-
 pub returns-then-limit-lt1 : goal.returns-then-limit-lt1
 returns-then-limit-lt1 c = c.done_blocks.ensures ∙ sym (open_count_none _ _ c.if-limit-lt1.true)
 

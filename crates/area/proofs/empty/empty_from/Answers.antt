@@ -5,8 +5,6 @@ use Rattle.area.specs.EmptyLaws.{empty-end, empty-not, empty-rest}
 use native.Mathlib.Omega.{arith}
 use Rattle.area.proofs.empty.empty_from.Goals as goal
 
--- `area::empty::empty_from` meets its contract.
-
 pub returns-then-part-i : goal.returns-then-part-i
 returns-then-part-i c = sym (empty-end c.args.from c.args.part.now c.if-part-i.true)
 

@@ -1,15 +1,11 @@
 -- `area::empty::or_from` meets its contract.
-use mathlib.Core.Bool.{◌&&◌, and-true}
+use mathlib.Core.Bool.{and-true}
 use Rattle.area.specs.EmptyLaws.{or-more}
-use mathlib.Core.Path.{◌≡◌, refl, sym, ◌∙◌}
-use Prim.Native.Nat.{◌-◌}
+use mathlib.Core.Path.{refl, sym, ◌∙◌}
 use lib.Dec.{eqb}
-use lib.ListN.{length, drop, drop_of_length-le}
-use Rattle.calls.proofs.SoundParts.{empty_from}
+use lib.ListN.{drop_of_length-le}
 use native.Mathlib.Omega.{arith}
 use Rattle.area.proofs.empty.or_from.Goals as goal
-
--- `area::empty::or_from` meets its contract.
 
 pub loop-i-init : goal.loop-i-init
 loop-i-init c = refl

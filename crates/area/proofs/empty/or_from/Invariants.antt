@@ -1,12 +1,10 @@
 -- `area::empty::or_from` meets its contract.
-use mathlib.Core.Bool.{◌&&◌, and-true}
-use Rattle.area.specs.EmptyLaws.{or-more}
-use mathlib.Core.Path.{◌≡◌, refl, sym, ◌∙◌}
+use mathlib.Core.Bool.{◌&&◌}
+use mathlib.Core.Path.{◌≡◌}
 use Prim.Native.Nat.{◌-◌}
 use lib.Dec.{eqb}
-use lib.ListN.{length, drop, drop_of_length-le}
+use lib.ListN.{length, drop}
 use Rattle.calls.proofs.SoundParts.{empty_from}
-use native.Mathlib.Omega.{arith}
 use Rattle.area.proofs.empty.or_from.Given as goal
 
 abbrev pub invariant-loop-i : goal.invariant-loop-i

@@ -1,15 +1,9 @@
 -- `area::levels::above_sound` meets its contract. At every turn k, the level at hand, and n, the parallel levels left, add up to L + 1.
-use mathlib.Core.Path.{◌≡◌, refl, sym, ap, ◌∙◌}
-use mathlib.Core.Bool.{Bool, true, false, ◌&&◌}
-use mathlib.Core.List.{List}
-use Prim.Native.Nat.{ℕ, ◌+◌, ◌-◌, ◌*◌, ◌/◌, ◌%◌, ◌≤◌}
-use borrow.Author.Tests.{not-true, not-false}
+use mathlib.Core.Path.{◌≡◌}
+use Prim.Native.Nat.{◌+◌, ◌-◌, ◌≤◌}
 use Rattle.calls.specs.Area.{params_of, levels_up}
-use Rattle.calls.proofs.SoundParts.{empty_from}
-use Rattle.area.specs.LevelTests.{sound_sequential, sound_above}
-use Rattle.area.specs.SoundLaws.{above_more, above-last, above_none}
-use native.Mathlib.Omega.{arith}
-use Rattle.tree.specs.Tree.{output_bits, most_levels}
+use Rattle.area.specs.LevelTests.{sound_above}
+use Rattle.tree.specs.Tree.{most_levels}
 use Rattle.area.proofs.levels.above_sound.Given as goal
 
 abbrev pub invariant-loop-k : goal.invariant-loop-k

@@ -9,8 +9,6 @@ use Rattle.calls.proofs.SoundParts.{empty_from}
 use Rattle.area.specs.SoundLaws.{empty-all}
 use Rattle.area.proofs.levels.levels_empty.Goals as goal
 
--- `area::levels::levels_empty` meets its contract.
-
 pub slice_bounds-empty_from-start : goal.slice_bounds-empty_from-start
 slice_bounds-empty_from-start c = omega (arith, c.words-e.ensures, limit-word c.args.area.now)
 

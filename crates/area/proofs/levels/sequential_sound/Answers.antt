@@ -1,16 +1,12 @@
 -- `area::levels::sequential_sound` meets its contract.
-use native.Mathlib.Omega.{arith}
 use mathlib.Core.Path.{sym, ◌∙◌}
 use Prim.Native.Nat.{◌+◌}
 use lib.ListN.{take}
-use borrow.Author.Tests.{not-true, not-false}
 use Rattle.tree.specs.Tree.{output_bits, output_words}
 use Rattle.calls.proofs.SoundParts.{empty_from}
 use Rattle.lists.specs.And.{and_first, and_second}
 use Rattle.area.specs.SoundLaws.{sequential-kept, sequential_none}
 use Rattle.area.proofs.levels.sequential_sound.Goals as goal
-
--- `area::levels::sequential_sound` meets its contract.
 
 pub returns-then-done-ne0 : goal.returns-then-done-ne0
 returns-then-done-ne0 c = c.empty_from.ensures ∙ sym (sequential-kept c.args.done c.args.held c.args.part.now c.if-done-ne0.true)
@@ -18,12 +14,12 @@ returns-then-done-ne0 c = c.empty_from.ensures ∙ sym (sequential-kept c.args.d
 pub returns-then-not-empty_from : goal.returns-then-not-empty_from
 returns-then-not-empty_from c =
     let part = c.args.part.now in
-    let e = sym c.empty_from-2.ensures ∙ not-true c.empty_from-2.result c.if-not-empty_from.true in
+    let e = sym c.empty_from-2.ensures ∙ c.if-not-empty_from.true in
     sym (sequential_none c.args.done c.args.held part c.if-done-ne0.false ∙ and_first (empty_from 0 (take output_words part)) (empty_from (output_bits + c.args.held) part) e)
 
 pub returns : goal.returns
 returns c =
     let part = c.args.part.now in
-    let e = sym c.empty_from-2.ensures ∙ not-false c.empty_from-2.result c.if-not-empty_from.false in
+    let e = sym c.empty_from-2.ensures ∙ c.if-not-empty_from.false in
     c.empty_from-3.ensures
     ∙ sym (sequential_none c.args.done c.args.held part c.if-done-ne0.false ∙ and_second (empty_from 0 (take output_words part)) (empty_from (output_bits + c.args.held) part) e)

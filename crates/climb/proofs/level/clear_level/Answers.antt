@@ -1,13 +1,10 @@
 -- `climb::level::clear_level` meets its contract.
-use native.Mathlib.Omega.{arith}
 use mathlib.Core.Path.{ap, ◌∙◌}
 use Prim.Native.Nat.{ℕ}
 use lib.ListN.{replicate}
 use Rattle.calls.specs.Area.{empty_level}
 use Rattle.climb.specs.Levels.{lent-put, lent-size}
 use Rattle.climb.proofs.level.clear_level.Goals as goal
-
--- `climb::level::clear_level` meets its contract.
 
 pub returns : goal.returns
 unfolding empty_level

@@ -1,9 +1,6 @@
 -- `climb::level::join` meets its contract.
-use native.Mathlib.Omega.{arith}
 use Rattle.climb.specs.Levels.{lent_join}
 use Rattle.climb.proofs.level.join.Goals as goal
-
--- `climb::level::join` meets its contract.
 
 pub returns : goal.returns
 returns c =

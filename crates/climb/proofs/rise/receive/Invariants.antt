@@ -1,9 +1,7 @@
 -- `climb::rise::receive` meets its contract.
-use mathlib.Core.Bool.{false}
 use Prim.Native.Nat.{◌+◌, ◌-◌}
-use native.Mathlib.Omega.{arith}
 use Rattle.tree.specs.Tree.{most_levels}
-use Rattle.climb.specs.ReceiveLaws.{received, coming-joins, joined-level, Climb, climb-start, climb-coming, climb-end, climb-part, climb-room, climb-more, climb_none}
+use Rattle.climb.specs.ReceiveLaws.{received, Climb}
 use Rattle.climb.proofs.rise.receive.Given as goal
 
 abbrev pub invariant-loop-k : goal.invariant-loop-k

@@ -1,11 +1,8 @@
 -- `add_words` meets its contract: both words are made of the buffer as it was, and each is stored in its own lane.
 use lib.ListN.{length-set}
-use borrow.Author.Rules.{rules}
 use native.Mathlib.Omega.{arith}
 use Rattle.compress.proofs.LaneLaws.{put_both}
 use Rattle.compress.proofs.two_lanes.add_words.Goals as goal
-
--- `add_words` meets its contract: both words are made of the buffer as it was, and each is stored in its own lane.
 
 pub bounds-a-p-2 : goal.bounds-a-p-2
 bounds-a-p-2 c = simp length-set (omega arith)

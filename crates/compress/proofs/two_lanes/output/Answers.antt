@@ -1,17 +1,15 @@
 -- `output` meets its contract: after i turns the first i of the 16 words are copied.
 use mathlib.Core.Path.{◌≡◌, refl, sym, ap, ap₂, ◌∙◌}
 use mathlib.Core.List.{List, append-nil}
-use Prim.Native.Nat.{ℕ, ◌-◌, ◌≤◌, ◌+◌, ◌*◌}
+use Prim.Native.Nat.{ℕ, ◌-◌, ◌+◌, ◌*◌}
 use lib.ListN.{length, get_or, set, drop, replicate, length-set, length-drop}
-use lib.Seq.{paste, paste-zero, get_or-drop}
+use lib.Seq.{paste-zero, get_or-drop}
 use borrow.Author.Rules.{rules}
 use native.Mathlib.Omega.{arith}
 use Rattle.compress.specs.Buffer.{lane}
 use Rattle.compress.proofs.Laws.{copy_more}
 use Rattle.compress.proofs.LaneLaws.{length-apart, get_d_lane}
 use Rattle.compress.proofs.two_lanes.output.Goals as goal
-
--- `output` meets its contract: after i turns the first i of the 16 words are copied.
 
 pub loop-i-init : goal.loop-i-init
 loop-i-init c =

@@ -1,14 +1,9 @@
 -- `output` meets its contract: after i turns the first i of the 16 words are copied.
-use mathlib.Core.Path.{◌≡◌, refl, sym, ap, ap₂, ◌∙◌}
-use mathlib.Core.List.{List, append-nil}
-use Prim.Native.Nat.{ℕ, ◌-◌, ◌≤◌, ◌+◌, ◌*◌}
-use lib.ListN.{length, get_or, set, drop, replicate, length-set, length-drop}
-use lib.Seq.{paste, paste-zero, get_or-drop}
-use borrow.Author.Rules.{rules}
-use native.Mathlib.Omega.{arith}
+use mathlib.Core.Path.{◌≡◌}
+use Prim.Native.Nat.{◌-◌, ◌≤◌}
+use lib.ListN.{length, drop, replicate}
+use lib.Seq.{paste}
 use Rattle.compress.specs.Buffer.{lane}
-use Rattle.compress.proofs.Laws.{copy_more}
-use Rattle.compress.proofs.LaneLaws.{length-apart, get_d_lane}
 use Rattle.compress.proofs.two_lanes.output.Given as goal
 
 abbrev pub invariant-loop-i : goal.invariant-loop-i

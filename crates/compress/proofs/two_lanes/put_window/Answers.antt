@@ -1,18 +1,15 @@
 -- `put_window` meets its contract: after i turns the lane begins with the first i words of the window, and the other is as it was.
 use mathlib.Core.Path.{◌≡◌, refl, ap, ◌∙◌}
-use mathlib.Core.Logic.{◌≢◌}
 use mathlib.Core.List.{List}
-use Prim.Native.Nat.{ℕ, ◌-◌, ◌≤◌, ◌<◌}
+use Prim.Native.Nat.{ℕ}
 use lib.ListN.{length, get_or, set, length-set}
-use lib.Seq.{paste, paste-zero}
+use lib.Seq.{paste-zero}
 use borrow.Author.Rules.{rules}
 use native.Mathlib.Omega.{arith}
 use Rattle.compress.specs.Buffer.{lane}
 use Rattle.compress.proofs.Laws.{copy_more}
 use Rattle.compress.proofs.LaneLaws.{length-apart, store, store_beside}
 use Rattle.compress.proofs.two_lanes.put_window.Goals as goal
-
--- `put_window` meets its contract: after i turns the lane begins with the first i words of the window, and the other is as it was.
 
 pub loop-i-init : goal.loop-i-init
 loop-i-init c = (search rules, refl, paste-zero (lane 2 c.args.j c.args.a.now) 0 c.args.window.now, λ k h l. refl)

@@ -1,15 +1,10 @@
 -- `put_window` meets its contract: after i turns the lane begins with the first i words of the window, and the other is as it was.
-use mathlib.Core.Path.{◌≡◌, refl, ap, ◌∙◌}
+use mathlib.Core.Path.{◌≡◌}
 use mathlib.Core.Logic.{◌≢◌}
-use mathlib.Core.List.{List}
 use Prim.Native.Nat.{ℕ, ◌-◌, ◌≤◌, ◌<◌}
-use lib.ListN.{length, get_or, set, length-set}
-use lib.Seq.{paste, paste-zero}
-use borrow.Author.Rules.{rules}
-use native.Mathlib.Omega.{arith}
+use lib.ListN.{length}
+use lib.Seq.{paste}
 use Rattle.compress.specs.Buffer.{lane}
-use Rattle.compress.proofs.Laws.{copy_more}
-use Rattle.compress.proofs.LaneLaws.{length-apart, store, store_beside}
 use Rattle.compress.proofs.two_lanes.put_window.Given as goal
 
 abbrev pub invariant-loop-i : goal.invariant-loop-i

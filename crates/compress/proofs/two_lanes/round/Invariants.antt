@@ -1,14 +1,10 @@
 -- `round` meets its contract: after j turns the first j words of the round are written in both lanes.
-use mathlib.Core.Path.{◌≡◌, refl}
+use mathlib.Core.Path.{◌≡◌}
 use mathlib.Core.List.{List}
 use Prim.Native.Nat.{ℕ, ◌-◌, ◌≤◌}
 use lib.ListN.{length}
 use Rattle.compress.specs.Compress.{shifts_r, shifts_t}
 use Rattle.compress.specs.Buffer.{put_round, Lanes}
-use Rattle.compress.proofs.Laws.{small_shifts}
-use Rattle.compress.proofs.LaneLaws.{put_next}
-use borrow.Author.Rules.{rules}
-use native.Mathlib.Omega.{arith}
 use Rattle.compress.proofs.two_lanes.round.Given as goal
 
 abbrev pub invariant-loop-j : goal.invariant-loop-j

@@ -1,6 +1,5 @@
 -- `node::digest::byte_of` meets its contract.
 use Rattle.node.specs.DigestLaws.{byte-value}
-use borrow.Author.Rules.{rules}
 use Rattle.node.proofs.digest.byte_of.Goals as goal
 
 -- `node::digest::byte_of` meets its contract.

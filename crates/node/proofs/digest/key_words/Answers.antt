@@ -1,7 +1,6 @@
 -- `node::digest::key_words` meets its contract: the filled words are those of the key followed by zero bytes.
 use Rattle.node.specs.DigestLaws.{key-filled}
 use mathlib.Core.Path.{◌∙◌}
-use borrow.Author.Rules.{rules}
 use Rattle.node.proofs.digest.key_words.Goals as goal
 
 -- `node::digest::key_words` meets its contract: the filled words are those of the key followed by zero bytes.

@@ -1,11 +1,10 @@
 -- `node::digest::put_bytes` meets its contract. The loop's invariant: the first i bytes are written, the rest is as it was.
 use Rattle.node.specs.DigestLaws.{bytes_none, bytes-more}
 use Rattle.bits.specs.Bits.{bits_of, numbers}
-use lib.ListN.{length, drop, set, length-set}
-use Prim.Native.Nat.{ℕ, ◌-◌, ◌≤◌}
+use lib.ListN.{drop, set, length-set}
+use Prim.Native.Nat.{ℕ}
 use mathlib.Core.List.{List, ◌++◌}
 use mathlib.Core.Path.{◌≡◌, refl, ap, ◌∙◌}
-use borrow.Author.Rules.{rules}
 use native.Mathlib.Omega.{arith}
 use Rattle.node.proofs.digest.put_bytes.Goals as goal
 

@@ -1,16 +1,14 @@
 -- `piece::chunk::feed_bits` meets its contract.
 use native.Mathlib.Omega.{arith}
 use mathlib.Core.Path.{refl, sym}
-use Prim.Native.Nat.{◌+◌, ◌-◌}
+use Prim.Native.Nat.{◌+◌}
 use Rattle.bits.specs.Piece.{piece_bits}
 use Rattle.bits.specs.PieceLaws.{spanned}
 use Rattle.node.specs.Words.{tree_params}
 use Rattle.climb.specs.FlushLaws.{le_at}
 use Rattle.piece.specs.FeedSteps.{room_some, fits_sum, below_left, some_less, less_left}
-use Rattle.piece.specs.ChunkLaws.{Feeding, feeding_none, next-chunk, feeding_more, feeding_all}
+use Rattle.piece.specs.ChunkLaws.{feeding_none, next-chunk, feeding_more, feeding_all}
 use Rattle.piece.proofs.chunk.feed_bits.Goals as goal
-
--- `piece::chunk::feed_bits` meets its contract.
 
 pub loop-done-init : goal.loop-done-init
 loop-done-init c =
@@ -49,10 +47,10 @@ pub loop-done-preserved : goal.loop-done-preserved
 loop-done-preserved c = feeding_more c.requires c.loop-done.invariant c.less-count.result (below_left c.loop-done-test.true c.less-count.ensures.1) c.feed_chunk-at.ensures
 
 pub shape_of-area : goal.shape_of-area
-shape_of-area c = c.loop-done.invariant.area_length
+shape_of-area c = c.loop-done.invariant.area-length
 
 pub shape_of-log : goal.shape_of-log
-shape_of-log c = c.loop-done.invariant.log_length
+shape_of-log c = c.loop-done.invariant.log-length
 
 pub returns : goal.returns
 returns c = feeding_all c.requires c.loop-done.invariant c.loop-done-test.false

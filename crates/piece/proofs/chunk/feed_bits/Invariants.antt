@@ -1,13 +1,9 @@
 -- `piece::chunk::feed_bits` meets its contract.
-use native.Mathlib.Omega.{arith}
-use mathlib.Core.Path.{refl, sym}
-use Prim.Native.Nat.{◌+◌, ◌-◌}
+use Prim.Native.Nat.{◌-◌}
 use Rattle.bits.specs.Piece.{piece_bits}
 use Rattle.bits.specs.PieceLaws.{spanned}
 use Rattle.node.specs.Words.{tree_params}
-use Rattle.climb.specs.FlushLaws.{le_at}
-use Rattle.piece.specs.FeedSteps.{room_some, fits_sum, below_left, some_less, less_left}
-use Rattle.piece.specs.ChunkLaws.{Feeding, feeding_none, next-chunk, feeding_more, feeding_all}
+use Rattle.piece.specs.ChunkLaws.{Feeding}
 use Rattle.piece.proofs.chunk.feed_bits.Given as goal
 
 abbrev pub invariant-loop-done : goal.invariant-loop-done

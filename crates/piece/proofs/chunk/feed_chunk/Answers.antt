@@ -1,6 +1,6 @@
 -- `piece::chunk::feed_chunk` meets its contract: level 1 takes the bits, is flushed before, or two nodes are made.
 use mathlib.Core.Path.{refl, sym, ap, ◌∙◌}
-use Prim.Native.Nat.{ℕ, ◌-◌}
+use Prim.Native.Nat.{ℕ, ◌-◌, ◌<◌}
 use native.Mathlib.Omega.{arith}
 use borrow.Author.Rules.{rules}
 use Rattle.lists.specs.Slices.{words-below}
@@ -10,8 +10,6 @@ use Rattle.climb.specs.FlushLaws.{lt_at, le_at}
 use Rattle.piece.specs.FeedSteps.{free_le, room_free, room-full, next_one, size_pos, base_place}
 use Rattle.piece.specs.ChunkLaws.{chunk_free, chunk-room, flushed-long, chunk-full, two_flushing, both_long, two-most, chunk-two}
 use Rattle.piece.proofs.chunk.feed_chunk.Goals as goal
-
--- `piece::chunk::feed_chunk` meets its contract: level 1 takes the bits, is flushed before, or two nodes are made.
 
 -- two nodes
 
@@ -32,7 +30,7 @@ returns-then-free-gt0 c =
     let a = c.args in
     let F = c.free_of-free.ensures in
     let m = le_at refl (room_free a.keyed.params.limit a.total (lt_at refl F c.if-free-gt0.true) ∙ sym F) c.requires.most in
-    chunk_free c.requires.part (words-below a.area.now c.type_inv.area) a.keyed a.total a.log.now a.at F m
+    chunk_free c.requires.part (words-below a.area.now (search rules)) a.keyed a.total a.log.now a.at F m
     c.fill_level.ensures
 
 pub level-requires : goal.level-requires
@@ -41,44 +39,44 @@ level-requires c = omega (arith, c.requires.part.long)
 pub fill_level-requires-then-source-gt-BITS : goal.fill_level-requires-then-source-gt-BITS
 fill_level-requires-then-source-gt-BITS c =
     let p = c.requires.part in
-    (record { long = p.long; low = p.low; inside = omega (arith, p.inside, c.if-source-gt-BITS.true) }, omega arith)
+    (record { long = p.long; low = p.low; inside = omega (arith, p.inside) }, omega arith)
 
 pub flush_two-next-requires : goal.flush_two-next-requires
 flush_two-next-requires c =
-    two_flushing c.requires (le_at c.free_of-free.ensures refl c.if-free-gt0.false) c.if-source-gt-BITS.true
-    (level_copied c.level.ensures.0 c.copy.ensures) c.fill_level-then-source-gt-BITS.ensures
+    two_flushing c.requires (le_at c.free_of-free.ensures refl c.if-free-gt0.false) (omega arith)
+    (level_copied c.level.ensures.level_part c.copy.ensures) c.fill_level-then-source-gt-BITS.ensures
 
 pub overflow_add-byte : goal.overflow_add-byte
 overflow_add-byte c = omega (arith, c.requires.part.inside, c.ranges)
 
 pub overflow_sub-count : goal.overflow_sub-count
-overflow_sub-count c = omega (arith, c.if-source-gt-BITS.true)
+overflow_sub-count c = omega arith
 
 pub fill_level-requires-then-source-gt-BITS-2 : goal.fill_level-requires-then-source-gt-BITS-2
 fill_level-requires-then-source-gt-BITS-2 c =
     let p = c.requires in
     let full = le_at c.free_of-free.ensures refl c.if-free-gt0.false in
-    let more = c.if-source-gt-BITS.true in
-    let held = level_copied c.level.ensures.0 c.copy.ensures in (
+    let more : block_bits < c.args.source.count = omega arith in
+    let held = level_copied c.level.ensures.level_part c.copy.ensures in (
       record { long = both_long p full more held c.fill_level-then-source-gt-BITS.ensures c.flush_two-next.ensures; low = p.part.low; inside = omega (arith, p.part.inside, more) },
       omega (arith, two-most p full more),
     )
 
 pub returns-then-source-gt-BITS : goal.returns-then-source-gt-BITS
 returns-then-source-gt-BITS c =
-    chunk-two c.requires (le_at c.free_of-free.ensures refl c.if-free-gt0.false) c.if-source-gt-BITS.true
-    (level_copied c.level.ensures.0 c.copy.ensures) c.fill_level-then-source-gt-BITS.ensures c.flush_two-next.ensures (omega arith) c.fill_level-then-source-gt-BITS-2.ensures
+    chunk-two c.requires (le_at c.free_of-free.ensures refl c.if-free-gt0.false) (omega arith)
+    (level_copied c.level.ensures.level_part c.copy.ensures) c.fill_level-then-source-gt-BITS.ensures c.flush_two-next.ensures (omega arith) c.fill_level-then-source-gt-BITS-2.ensures
 
 pub flush-next-requires : goal.flush-next-requires
 flush-next-requires c = record { ready = c.requires.ready; long = c.requires.part.long; own = c.requires.own; room = chunk-room c.requires (le_at c.free_of-free.ensures refl c.if-free-gt0.false) (omega (arith, c.if-source-gt-BITS.false)) }
 
 pub overflow_sub-size : goal.overflow_sub-size
-overflow_sub-size c = le_at (sym c.type_size.ensures) refl (size_pos c.args.keyed.params.limit).1
+overflow_sub-size c = le_at (sym c.size_of-size.ensures) refl (size_pos c.args.keyed.params.limit).1
 
 pub fill_level-requires-2 : goal.fill_level-requires-2
 fill_level-requires-2 c =
     let a = c.args in
-    let S = c.type_size.ensures in
+    let S = c.size_of-size.ensures in
     let full = le_at c.free_of-free.ensures refl c.if-free-gt0.false in
     let m = next_one a.keyed.params.limit (le_at refl (room-full a.keyed.params.limit a.total full) c.requires.most) (omega (arith, c.if-source-gt-BITS.false)) in (
       record { long = flushed-long c.requires full (omega (arith, c.if-source-gt-BITS.false)) c.flush-next.ensures; low = c.requires.part.low; inside = c.requires.part.inside },
@@ -88,4 +86,4 @@ fill_level-requires-2 c =
 pub returns : goal.returns
 returns c =
     chunk-full c.requires (le_at c.free_of-free.ensures refl c.if-free-gt0.false) (omega (arith, c.if-source-gt-BITS.false))
-    c.flush-next.ensures (ap (λ (x : ℕ). block_bits - x) c.type_size.ensures) c.fill_level-2.ensures
+    c.flush-next.ensures (ap (λ (x : ℕ). block_bits - x) c.size_of-size.ensures) c.fill_level-2.ensures

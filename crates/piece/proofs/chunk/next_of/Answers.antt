@@ -1,10 +1,7 @@
 -- `piece::chunk::next_of` meets its contract.
 use mathlib.Core.Path.{sym}
-use native.Mathlib.Omega.{arith}
 use Rattle.piece.specs.FeedSteps.{next_none, next_some}
 use Rattle.piece.proofs.chunk.next_of.Goals as goal
-
--- `piece::chunk::next_of` meets its contract.
 
 pub returns-then-limit-lt1 : goal.returns-then-limit-lt1
 returns-then-limit-lt1 c = sym (next_none c.args.limit c.if-limit-lt1.true)

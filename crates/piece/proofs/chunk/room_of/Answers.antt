@@ -2,10 +2,7 @@
 use Rattle.piece.specs.FeedSteps.{room_free, room-full}
 use mathlib.Core.Path.{refl, sym, ◌∙◌}
 use Rattle.climb.specs.FlushLaws.{lt_at, le_at}
-use native.Mathlib.Omega.{arith}
 use Rattle.piece.proofs.chunk.room_of.Goals as goal
-
--- `piece::chunk::room_of` meets its contract.
 
 pub returns-then-free-gt0 : goal.returns-then-free-gt0
 returns-then-free-gt0 c =

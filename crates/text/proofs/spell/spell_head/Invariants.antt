@@ -1,16 +1,9 @@
 -- `text::spell::spell_head` stores the fields of line 1 in their words, then those of K, until a byte is refused.
-use mathlib.Core.Path.{◌≡◌, refl, sym, ap, ◌∙◌}
-use mathlib.Core.List.{List}
-use Prim.Native.Nat.{ℕ, ◌+◌, ◌-◌, ◌≤◌, ◌<◌}
-use lib.ListN.{length, take, drop, get_or, replicate, length-take, length-set}
+use mathlib.Core.Path.{◌≡◌}
+use Prim.Native.Nat.{◌-◌, ◌≤◌}
+use lib.ListN.{length, take, drop, replicate}
 use Rattle.calls.specs.Area.{head_words}
-use Rattle.digits.specs.Digits.{spelt, reading_number}
 use Rattle.texts.specs.Text.{line1_fields, digits_in, spelt_fields}
-use Rattle.texts.proofs.FieldLaws.{field_sizes}
-use Rattle.writing.specs.FieldAt.{Sized, sized}
-use Rattle.text.proofs.LinesSpelt.{field-read, field-refused, head_none, head_known}
-use borrow.Author.Rules.{rules}
-use native.Mathlib.Omega.{arith}
 use Rattle.text.proofs.spell.spell_head.Given as goal
 
 abbrev pub invariant-loop-i : goal.invariant-loop-i

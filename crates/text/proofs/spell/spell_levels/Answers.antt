@@ -1,17 +1,12 @@
 -- `text::spell::spell_levels`: the loop keeps `Spelling`, until a byte is refused.
-use mathlib.Core.Path.{◌≡◌, sym, ◌∙◌}
-use Prim.Native.Nat.{◌+◌, ◌-◌}
-use borrow.Author.Tests.{not-true, not-false}
+use mathlib.Core.Path.{sym, ◌∙◌}
+use Prim.Native.Nat.{◌+◌}
 use borrow.Rule.Slice.PartMut.{mid_len}
-use Rattle.calls.specs.Area.{own_levels}
 use Rattle.texts.specs.Text.{level_bytes}
 use Rattle.writing.specs.Lines.{above_most}
-use Rattle.text.proofs.SpellLevels.{Spelling, spelling_none, spelling_own, spelling_room, spelling_yes, spelling_no, spelling_refused, spelling_all}
-use borrow.Author.Rules.{rules}
+use Rattle.text.proofs.SpellLevels.{spelling_none, spelling_own, spelling_room, spelling_yes, spelling_no, spelling_refused, spelling_all}
 use native.Mathlib.Omega.{arith}
 use Rattle.text.proofs.spell.spell_levels.Goals as goal
-
--- `text::spell::spell_levels`: the loop keeps `Spelling`, until a byte is refused.
 
 pub loop-k-init : goal.loop-k-init
 loop-k-init c = (c.levels-last.ensures, spelling_none c.args.area.now c.args.text.now c.requires.0 c.requires.1 c.requires.2)
@@ -49,15 +44,15 @@ spell_level-requires c =
 pub returns-then-not-spell_level : goal.returns-then-not-spell_level
 returns-then-not-spell_level c =
     let z = c.loop-k in
-    spelling_refused z.invariant.1 (omega (arith, z.invariant.0)) c.spell_level.new.0 c.spell_level.result (omega arith)
-    (sym c.has_line.ensures ∙ c.if-has_line.true) c.spell_level.ensures (not-true c.spell_level.result c.if-not-spell_level.true)
+    spelling_refused z.invariant.1 (omega (arith, z.invariant.0)) c.spell_level.new.area c.spell_level.result (omega arith)
+    (sym c.has_line.ensures ∙ c.if-has_line.true) c.spell_level.ensures c.if-not-spell_level.true
 
 pub loop-k-preserved-then-has_line : goal.loop-k-preserved-then-has_line
 loop-k-preserved-then-has_line c =
     let z = c.loop-k in (
       z.invariant.0,
-      spelling_yes z.invariant.1 (omega (arith, z.invariant.0)) c.spell_level.new.0 c.spell_level.result (omega arith)
-          (sym c.has_line.ensures ∙ c.if-has_line.true) c.spell_level.ensures (not-false c.spell_level.result c.if-not-spell_level.false),
+      spelling_yes z.invariant.1 (omega (arith, z.invariant.0)) c.spell_level.new.area c.spell_level.result (omega arith)
+          (sym c.has_line.ensures ∙ c.if-has_line.true) c.spell_level.ensures c.if-not-spell_level.false,
     )
 
 pub loop-k-preserved : goal.loop-k-preserved

@@ -9,10 +9,7 @@ use Rattle.texts.specs.Text.{rounds_bytes, text_with}
 use Rattle.calls.specs.Area.{Long}
 use Rattle.texts.proofs.LengthLaws.{most_text}
 use Rattle.text.proofs.Again.{again_room, front_length, front_is, front-room}
-use borrow.Author.Rules.{rules}
 use Rattle.text.proofs.spell.writes.Goals as goal
-
--- `text::spell::writes`: the area's text is written again and compared.
 
 -- what is written again has room, and stands in front
 module _ (width : ℕ) (area text : List ℕ) (small : width ≤ rounds_bytes) (long : Long area) (size : length text ≡ length (text_with width area)) where
@@ -38,10 +35,10 @@ pub slice_bounds-same_bytes-end : goal.slice_bounds-same_bytes-end
 slice_bounds-same_bytes-end c =
     let p = c.put_text in
     let t = c.args.text.now in
-    front-room (replicate most_text 0) (length t) (room c.args.width c.args.area.now t c.requires.1 c.requires.0 c.requires.2) p.new.0 (ap length p.ensures ∙ sym c.requires.2)
+    front-room (replicate most_text 0) (length t) (room c.args.width c.args.area.now t c.requires.1 c.requires.0 c.requires.2) p.new.part (ap length p.ensures ∙ sym c.requires.2)
 
 pub returns : goal.returns
 returns c =
     let p = c.put_text in
     c.same_bytes.ensures
-    ∙ ap (λ (x : List ℕ). same x c.args.text.now) (in-front c.args.width c.args.area.now c.args.text.now c.requires.1 c.requires.0 c.requires.2 p.new.0 p.ensures ∙ p.ensures)
+    ∙ ap (λ (x : List ℕ). same x c.args.text.now) (in-front c.args.width c.args.area.now c.args.text.now c.requires.1 c.requires.0 c.requires.2 p.new.part p.ensures ∙ p.ensures)

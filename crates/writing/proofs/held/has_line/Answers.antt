@@ -1,10 +1,7 @@
 -- `writing::held::has_line`: each return is one of the cases of HeldAt.
 use Rattle.writing.proofs.HeldAt.{held-ended, held_first, held-sequential, held-parallel}
 use native.Mathlib.Omega.{arith}
-use borrow.Author.Rules.{rules}
 use Rattle.writing.proofs.held.has_line.Goals as goal
-
--- `writing::held::has_line`: each return is one of the cases of HeldAt.
 
 pub returns-then-area-eq2 : goal.returns-then-area-eq2
 returns-then-area-eq2 c = held-ended c.args.area.now c.args.level c.if-area-eq2.true

@@ -1,10 +1,7 @@
 -- `writing::held::levels`: by the area's word 4.
 use Rattle.calls.proofs.AreaLaws.{limit-word}
 use native.Mathlib.Omega.{arith}
-use borrow.Author.Rules.{rules}
 use Rattle.writing.proofs.held.levels.Goals as goal
-
--- `writing::held::levels`: by the area's word 4.
 
 pub returns : goal.returns
 returns c = omega (arith, c.levels.ensures, limit-word c.args.area.now)

@@ -1,13 +1,10 @@
 -- `writing::held::text_bytes`: the bytes so far and the lines still to come are the whole text.
-use mathlib.Core.Path.{◌≡◌, sym, ap, ◌∙◌}
+use mathlib.Core.Path.{◌≡◌}
 use Prim.Native.Nat.{◌+◌, ◌-◌, ◌≤◌}
 use lib.ListN.{length}
 use Rattle.calls.specs.Area.{own_levels}
 use Rattle.texts.specs.Text.{text_with}
-use Rattle.writing.specs.Lines.{lines_above, above-no, length-yes, above-all, length-text}
-use Rattle.texts.proofs.LengthLaws.{text-most}
-use borrow.Author.Rules.{rules}
-use native.Mathlib.Omega.{arith}
+use Rattle.writing.specs.Lines.{lines_above}
 use Rattle.writing.proofs.held.text_bytes.Given as goal
 
 abbrev pub invariant-loop-k : goal.invariant-loop-k

@@ -1,21 +1,12 @@
 -- `writing::lines::put_level` writes a level's number, its words and the end of the line.
 use mathlib.Core.Path.{ap, ◌∙◌}
-use lib.ListN.{length}
-use Rattle.calls.specs.Area.{level_words}
-use Rattle.calls.proofs.AreaLaws.{length-level_words}
 use Rattle.digits.specs.Digits.{word_digits}
-use Rattle.texts.proofs.LengthLaws.{length-level_line}
 use Rattle.writing.proofs.LineStores.{level-stored}
 use native.Mathlib.Omega.{arith}
-use borrow.Author.Rules.{rules}
 use Rattle.writing.proofs.lines.put_level.Goals as goal
 
--- `writing::lines::put_level` writes a level's number, its words and the end of the line.
-
-pub shape_of-part : goal.shape_of-part
-shape_of-part c =
-    let a = c.args in
-    ap length (stored c) ∙ length-level_line a.level (level_words a.area.now a.level) (length-level_words a.area.now a.level (omega arith) (omega arith)) ∙ omega arith
-
 pub returns : goal.returns
-returns c = stored c
+returns c =
+    let a = c.args in
+    level-stored a.part.now a.area.now c.put_digits.new.part c.put_words.new.part a.level (omega arith) (omega arith) (omega arith) c.put_digits.ensures
+    (c.put_words.ensures ∙ ap word_digits c.level-words.ensures.level_part.words)

@@ -1,15 +1,11 @@
 -- `writing::put::put_levels`: the loop keeps `Putting`.
-use mathlib.Core.Path.{sym, ap, ◌∙◌}
+use mathlib.Core.Path.{sym, ◌∙◌}
 use Prim.Native.Nat.{◌-◌}
 use borrow.Rule.Slice.PartMut.{mid_len}
-use lib.ListN.{length}
 use Rattle.texts.specs.Text.{level_bytes}
-use Rattle.writing.proofs.PutLevels.{Putting, put_none, put-room, put_in, put-yes, put-no, put_all}
-use borrow.Author.Rules.{rules}
+use Rattle.writing.proofs.PutLevels.{put_none, put-room, put_in, put-yes, put-no, put_all}
 use native.Mathlib.Omega.{arith}
 use Rattle.writing.proofs.put.put_levels.Goals as goal
-
--- `writing::put::put_levels`: the loop keeps `Putting`.
 
 pub loop-k-init : goal.loop-k-init
 loop-k-init c =
@@ -34,13 +30,10 @@ put_level-requires c =
 pub loop-k-preserved-then-has_line : goal.loop-k-preserved-then-has_line
 loop-k-preserved-then-has_line c =
     let z = c.loop-k in
-    put-yes z.invariant (omega arith) (omega arith) (z.e - level_bytes) c.put_level.new.0 (omega arith) (sym c.has_line.ensures ∙ c.if-has_line.true) c.put_level.ensures
+    put-yes z.invariant (omega arith) (omega arith) (z.e - level_bytes) c.put_level.new.part (omega arith) (sym c.has_line.ensures ∙ c.if-has_line.true) c.put_level.ensures
 
 pub loop-k-preserved : goal.loop-k-preserved
 loop-k-preserved c = put-no c.loop-k.invariant (omega arith) (omega arith) (sym c.has_line.ensures ∙ c.if-has_line.false)
 
-pub shape_of-part : goal.shape_of-part
-shape_of-part c = ap length (done c) ∙ omega arith
-
 pub returns : goal.returns
-returns c = done c
+returns c = put_all c.loop-k.invariant (omega arith)

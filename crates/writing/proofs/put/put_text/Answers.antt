@@ -1,13 +1,9 @@
 -- `writing::put::put_text`: the head, then the levels.
-use mathlib.Core.Path.{ap, ◌∙◌}
-use lib.ListN.{length, length-take}
+use lib.ListN.{length-take}
 use Rattle.writing.specs.Lines.{length-text}
 use Rattle.writing.proofs.PutLevels.{head-room, levels-length, text-put}
 use native.Mathlib.Omega.{arith}
-use borrow.Author.Rules.{rules}
 use Rattle.writing.proofs.put.put_text.Goals as goal
-
--- `writing::put::put_text`: the head, then the levels.
 
 pub slice_bounds-put_head-end : goal.slice_bounds-put_head-end
 slice_bounds-put_head-end c = let a = c.args in omega (arith, c.head_bytes-head.ensures, length-text a.width a.area.now (omega arith))
@@ -22,19 +18,22 @@ pub slice_bounds-put_levels-count : goal.slice_bounds-put_levels-count
 slice_bounds-put_levels-count c =
     let n = c.head_bytes-head in
     let a = c.args in
-    head-room a.width n.result a.area.now a.part.now c.put_head.new.0 n.ensures (omega arith) (omega arith) c.put_head.ensures
+    head-room a.width n.result a.area.now a.part.now c.put_head.new.part n.ensures (omega arith) (omega arith) c.put_head.ensures
 
 pub slice_bounds-put_levels-start : goal.slice_bounds-put_levels-start
-slice_bounds-put_levels-start c = behind c
+slice_bounds-put_levels-start c =
+    let n = c.head_bytes-head in
+    let a = c.args in
+    head-room a.width n.result a.area.now a.part.now c.put_head.new.part n.ensures (omega arith) (omega arith) c.put_head.ensures
 
 pub put_levels-requires : goal.put_levels-requires
 put_levels-requires c =
     let n = c.head_bytes-head in
     let a = c.args in
-    (omega arith, levels-length a.width n.result a.area.now a.part.now c.put_head.new.0 n.ensures (omega arith) (omega arith) c.put_head.ensures)
-
-pub shape_of-part : goal.shape_of-part
-shape_of-part c = ap length (stored c) ∙ omega arith
+    (omega arith, levels-length a.width n.result a.area.now a.part.now c.put_head.new.part n.ensures (omega arith) (omega arith) c.put_head.ensures)
 
 pub returns : goal.returns
-returns c = stored c
+returns c =
+    let n = c.head_bytes-head in
+    let a = c.args in
+    text-put a.width n.result a.area.now a.part.now c.put_head.new.part n.ensures (omega arith) (omega arith) c.put_head.ensures c.put_levels.new.part c.put_levels.ensures

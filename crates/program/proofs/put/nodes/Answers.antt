@@ -1,0 +1,8 @@
+-- `program::put::nodes` meets its contract: the lines are as long as their text.
+use Rattle.program.specs.PutLaws.{nodes-put}
+use Rattle.program.proofs.put.nodes.Goals as goal
+
+pub returns : goal.returns
+returns c =
+    let a = c.args in
+    nodes-put a.count a.log.now a.out.now c.put_nodes.ensures
