@@ -6,13 +6,15 @@ docs/PROOFS.md, "What has to be believed", lists exactly these.
     believed.py --all       also prints a chain of names for each file that is reached
     believed.py --self      shows that the check can fail: on a copy, with one fault put in at a time
 
+A `crate/File` is crates/crate/specs/File.antt or else crates/crate/proofs/File.antt, where laws and examples may stand.
 Roots are the contracts of the public calls and their exports, those of the functions that docs/PROOFS.md names as
 `crate::function`, and the names that it cites after a `crate/File`. Of a theorem the statement counts and not the proof;
 of a definition all of it. From each name to the names in it, and so on. A file that has a definition so reached has to
 be believed.
 
 A text is refused where this script and the prover could read it in two ways: comments in `/* */` and `{- -}`, a name
-that a file brings in or declares twice, an item or a clause that does not stand as `rt fmt` lays it out.
+that a file brings in or declares twice, an attribute that is not known here, an item or a clause that does not stand as
+`rt fmt` lays it out.
 """
 import os
 import re
@@ -24,24 +26,24 @@ import tempfile
 # another, and the definition that its contract is an equation with. Their contracts are roots, and none may have a `requires`.
 # First the fifteen, then those of the program.
 EQUATIONS = [
-    ("hash::hash", "hash/lib", "hashOf"),
-    ("hash::default_rounds", "hash/lib", "defaultRoundsOf"),
-    ("layers::layers", "layers/lib", "layersOf"),
-    ("layers::layer_words", "layers/lib", "layerWordsOf"),
-    ("layers::layer_log_words", "layers/lib", "layerLogWordsOf"),
-    ("stream::open", "stream/lib", "openOf"),
-    ("stream::feed", "stream/lib", "feedOf"),
-    ("stream::end", "ending/lib", "endOf"),
-    ("stream::preview", "ending/lib", "previewOf"),
-    ("stream::close", "ending/lib", "closeOf"),
-    ("stream::level", "stream/lib", "levelOf"),
-    ("stream::log_words", "stream/lib", "logWordsOf"),
-    ("stream::area_words", "stream/lib", "areaWordsOf"),
-    ("text::write", "text/lib", "writeOf"),
-    ("text::read", "text/lib", "readOf"),
-    ("program::Program::new", "program/lib", "startOf"),
-    ("program::take", "program/lib", "tookOf"),
-    ("program::finish", "program/lib", "tookLastOf"),
+    ("hash::hash", "hash/lib", "hash_of"),
+    ("hash::default_rounds", "hash/lib", "default_rounds_of"),
+    ("layers::layers", "layers/lib", "layers_of"),
+    ("layers::layer_words", "layers/lib", "layer_words_of"),
+    ("layers::layer_log_words", "layers/lib", "layer_log_words_of"),
+    ("stream::open", "stream/lib", "open_of"),
+    ("stream::feed", "stream/lib", "feed_of"),
+    ("stream::end", "ending/lib", "end_of"),
+    ("stream::preview", "ending/lib", "preview_of"),
+    ("stream::close", "ending/lib", "close_of"),
+    ("stream::level", "stream/lib", "level_of"),
+    ("stream::log_words", "stream/lib", "log_words_of"),
+    ("stream::area_words", "stream/lib", "area_words_of"),
+    ("text::write", "text/lib", "write_of"),
+    ("text::read", "text/lib", "read_of"),
+    ("program::Program::new", "program/lib", "start_of"),
+    ("program::take", "program/lib", "took_of"),
+    ("program::finish", "program/lib", "took_last_of"),
 ]
 CALLS = [(call, key) for call, key, _ in EQUATIONS]
 # A contract is its equation alone, but for this call's, which also says where the part that it gives back stands.
@@ -63,10 +65,16 @@ NO_CITATIONS = {TABLE, "Sizes", EDITS}
 NO_NAMES = {"requires", "ensures", "axioms=", "read", "write"}
 
 # the characters past ASCII that a source or a definition may have: of two that look alike only one
-LETTERS = set("«»·¬×λᴰ′₀₁₂₃ℓℕ←→↔↦∙∣∥∷≡≢≤⊎⊥⌜⌝⟦⟧")
+LETTERS = set("«»¬×λᴰ₀₁₂₃ℓℕ←→↔↦∙∣∥∷≡≢≤⊎⊥⌜⌝◌")
+
+# our definitions that the toolchain's library has a namesake of: no source and no file here may bring that
+NAMESAKES = {"decimal": "line/Line"}
 
 # what the language brings of its own into every file and clause
-PRELUDE = {"now", "ℓ", "⊥", "¬", "Unit"}
+PRELUDE = {"ℓ", "⊥", "¬", "Unit", "tt", "absurd"}
+
+# where an operator's name, as `◌+◌`, has its arguments
+PLACE = "◌"
 
 KINDS = ("-- Definitions: ", "-- Laws: ", "-- Examples: ")
 
@@ -90,7 +98,8 @@ def plain(text, *never):
     for number, line in enumerate(text.split("\n"), 1):
         for mark in never:
             if mark in line:
-                raise Unreadable("line %d has `%s`: comments are `//` and `--` alone" % (number, mark))
+                why = "an escaped name is another spelling of the bare one" if mark == "«" else "comments are `//` and `--` alone"
+                raise Unreadable("line %d has `%s`: %s" % (number, mark, why))
         for c in line:
             if not (" " <= c <= "~" or c in LETTERS):
                 raise Unreadable("line %d has the character U+%04X, which LETTERS does not have" % (number, ord(c)))
@@ -111,11 +120,16 @@ def live(line, mark):
     return line
 
 
+def marks(name):
+    """The parts of an operator, as they are written between its arguments; of another name none."""
+    return [p for p in name.split(PLACE) if p] if PLACE in name else []
+
+
 def once(names):
     """In one file a name, and a part of an operator, stands for one thing."""
     seen = {}
     for name in names:
-        for word in {name} | {p for p in name.split("_") if p}:
+        for word in {name} | set(marks(name)):
             if word in seen:
                 both = " (%s, %s)" % (seen[word], name) if seen[word] != name else ""
                 raise Unreadable("`%s` is brought in or declared twice%s" % (word, both))
@@ -125,7 +139,7 @@ def once(names):
 def words(text):
     for m in WORD.finditer(text):
         w = m.group()
-        if w[0] == '"' or w in "⌜⌝":
+        if w[0] == '"':
             continue
         if re.search(r"[\[\]⌜⌝@]", w) and w not in "[]" and not w.endswith(".[]"):
             raise Unreadable("a bracket within a word: " + w)
@@ -398,7 +412,8 @@ def declarations(lines, file, tele, on_use=None):
     return out
 
 
-OURS = re.compile(r"^(?:package\.)?Rattle·([^.·]+)(?:·specs)?\.specs\.(.+)$")
+# a file of a crate's specs/ or proofs/; the toolchain's own crates are written so too, and ours are those in crates/
+MODULE = re.compile(r"^Rattle\.([^.]+)\.(specs|proofs)\.(.+)$")
 
 
 class Imports:
@@ -419,7 +434,8 @@ class Imports:
         if items is None:
             name = alias or module.split(".")[-1]
             self.modules[name] = module
-            self.brought.append(name)
+            if not self.both(name):
+                self.brought.append(name)
             return
         for item in items.split(","):
             item = item.split()
@@ -432,11 +448,16 @@ class Imports:
             name = item[2] if len(item) == 3 else path[-1]
             if name not in self.names:
                 self.names[name] = (where, path[-1])
-                self.brought.append(name)
+                if not self.both(name):
+                    self.brought.append(name)
             elif self.names[name] != (where, path[-1]):
                 self.others.setdefault(name, []).append((where, path[-1]))
             if public:
                 self.passed[name] = (where, path[-1])
+
+    def both(self, name):
+        """Whether a name is brought as a type and as the module of that type: which has its path, or in which it stands."""
+        return name in self.names and self.modules.get(name) in (".".join(self.names[name]), self.names[name][0])
 
     def once(self, own=()):
         """Fails if a name stands for two things, or if a `use` line begins with a name that is the file's own."""
@@ -451,9 +472,7 @@ class File:
         self.key = key
         self.text = text
         self.imports = Imports()
-        plain(text, "{-")
-        if "«" in text:  # an escaped name is another spelling of the bare one
-            raise Unreadable("an escaped name is not read")
+        plain(text, "{-", "«")
         self.all = declarations([live(l, "--") for l in text.split("\n")], key, [], self.imports.add)
         self.decls = {d.name: d for d in self.all}
         self.constructors = {m: d for d in self.all if d.kind == "data" for m, _ in d.members}
@@ -464,7 +483,7 @@ class File:
                 for m, _ in d.members:
                     self.fields.setdefault(m, d)
         # an operator's parts, as it is written between its arguments
-        self.operators = {p: d for d in self.all if "_" in d.name for p in d.name.split("_") if p}
+        self.operators = {p: d for d in self.all for p in marks(d.name)}
 
     def own(self, name):
         return self.decls.get(name) or self.constructors.get(name) or self.operators.get(name)
@@ -489,13 +508,18 @@ def matching(text, i):
 
 CLAUSE = re.compile(r" +(?:requires|ensures|decreases)(?: \w+)? \{ .* \}")
 OPENED = re.compile(r" +(?:requires|ensures|decreases)(?: \w+)? \{ ")
-ITEM = re.compile(r"\b(?:ghost|requires|ensures|decreases|fn|impl|mod|use)\b")
+ITEM = re.compile(r"\b(?:ghost|requires|ensures|decreases|fn|impl|trait|mod|use|extern|macro_rules)\b")
+# the attributes that a source may have, each on a line of its own: none of them says what is compiled or under which name but the last
+ATTRIBUTE = re.compile(r" *#!?\[(?:tactic\([\w, ():'{}◌≡-]*\)|derive\([\w, ]+\)|repr\(C\)|unsafe\(no_mangle\))\]")
+EXPORTED = "#[unsafe(no_mangle)]"
 
 
 def joined(lines):
-    """The lines of a source, with each clause on one line."""
+    """The lines of a source, with each clause and each attribute on one line."""
     lines = iter(lines)
     for line in lines:
+        while re.match(r" *#!?\[", line) and line.count("[") > line.count("]"):
+            line += " " + next(lines, "]").strip()
         opened = OPENED.match(line)
         while opened and line.count("{") > line.count("}"):
             more = next(lines, None)
@@ -510,7 +534,7 @@ class Source:
     line of its own, a clause on lines of its own, with no comment, and a function at the top of the file or in an `impl` there."""
 
     def __init__(self, text):
-        plain(text, "/*", "{-")
+        plain(text, "/*", "{-", "«")
         self.imports = Imports()
         self.functions = {}  # name, or Type::name -> (parameters, clauses), of the public ones
         self.order = {}  # the same name -> the parameters in their order
@@ -519,8 +543,9 @@ class Source:
         self.modules = []
         self.open = []  # the public ones among them
         self.uses = {}
+        seen = ["result"]  # what a clause sees with no `ghost use`
         brought, declared, found = [], [], []  # found: (the place behind its name, what is written before it, name)
-        code, size, depth, within = [], 0, 0, ""
+        code, size, depth, within, last = [], 0, 0, "", ""
         for line in joined(text.split("\n")):
             if re.fullmatch(r"ghost use [^;]*;", line) and depth == 0 and "--" not in line:
                 self.imports.add(line)
@@ -535,9 +560,20 @@ class Source:
                 fn = re.fullmatch(r' *((?:pub )?(?:extern "C" )?)fn (\w+)[(<].*', line)
                 impl = re.fullmatch(r"impl (\w+) \{", line)
                 mod = re.fullmatch(r"(?:pub )?mod (\w+);", line)
-                use = re.fullmatch(r"use (?:\w+::)*(\w+);", line)
-                passed = re.fullmatch(r"pub use (\w+)::(\w+);", line)
-                if fn and (depth == 0 or depth == 1 and within) and not ITEM.search(line, fn.end(2)):
+                use = re.fullmatch(r"use (?:\w+::)*(?:(\w+)|\{(\w+(?:, \w+)*)\});", line)
+                passed = re.fullmatch(r"pub use (\w+)::(?:(\w+)|\{(\w+(?:, \w+)*)\});", line)
+                if line.lstrip().startswith("#") and not ATTRIBUTE.fullmatch(line):
+                    raise Unreadable("not read: " + line.strip())
+                if (last == EXPORTED) != (fn is not None and "extern" in fn.group(1)):
+                    raise Unreadable("an export has `%s` before it, and nothing else has: %s" % (EXPORTED, line.strip()))
+                last = line
+                # a clause sees a constant, a type and a variant by its bare name
+                own = re.match(r"(?:pub )?(?:const|static|struct|enum|type) (\w+)", line) if depth == 0 else re.match(r"    (\w+)\b", line)
+                if own and (depth == 0 or depth == 1 and within == "enum"):
+                    seen.append(own.group(1))
+                if depth == 0 and re.match(r"(?:pub )?enum\b", line):
+                    within = "enum"
+                if fn and (depth == 0 or depth == 1 and within not in ("", "enum")) and not ITEM.search(line, fn.end(2)):
                     declared.append((within + "::" if depth else "") + fn.group(2))
                     found.append((size + fn.end(2), fn.group(1), declared[-1]))
                 elif impl and depth == 0:
@@ -546,10 +582,11 @@ class Source:
                     self.modules.append(mod.group(1))
                     self.open += [mod.group(1)] if line.startswith("pub ") else []
                 elif use and depth == 0:
-                    brought.append(use.group(1))
+                    brought += (use.group(1) or use.group(2)).split(", ")
                 elif passed and depth == 0:
-                    self.uses[passed.group(2)] = passed.group(1)
-                    brought.append(passed.group(2))
+                    for passes in (passed.group(2) or passed.group(3)).split(", "):
+                        self.uses[passes] = passed.group(1)
+                        brought.append(passes)
                 elif ITEM.search(line):
                     raise Unreadable("not read: " + line.strip())
             code.append(line)
@@ -562,7 +599,8 @@ class Source:
             if name in brought:
                 raise Unreadable("`%s` is brought in or declared, and a use line begins with it" % name)
         self.imports.once()
-        for names in (brought, declared, list(self.imports.others) * 2):
+        other = [n for n, (module, _) in self.imports.names.items() if ".specs.declared" not in module] + list(self.imports.modules)
+        for names in (brought, declared, list(self.imports.others) * 2, [n for n in seen if n in other] * 2):
             for name in names:
                 if names.count(name) > 1:
                     raise Unreadable("`%s` is brought in or declared twice" % name)
@@ -580,7 +618,7 @@ class Source:
         params = set(re.findall(r"(\w+)\s*:", re.sub(r"::", "  ", text[i:end])))
         self.order[name] = re.findall(r"(\w+): ", text[i:end])
         self.changed[name] = re.findall(r"(\w+): &mut\b", text[i:end])
-        params |= {"«%s»" % p for p in params if "_" in p}  # so a clause spells a name with a low line
+        params.add("result")
         clauses = []
         j = end
         while True:
@@ -665,6 +703,7 @@ class Repository:
         self.failures = []
         self.notes = []
         self.files = {}
+        self.folders = {}  # of each of the files, whether it stands in specs/ or in proofs/
         self.sources = {}
         self.crates = sorted(c for c in os.listdir(os.path.join(root, "crates")) if os.path.isdir(os.path.join(root, "crates", c)))
         for c in self.crates:
@@ -677,14 +716,20 @@ class Repository:
                         path = os.path.join(base, n)
                         text = read(path)
                         name = os.path.relpath(path, root)
-                        if kind is None or n == "Lib.antt":
+                        # in proofs/ laws and examples stand beside the folders of the functions' own proofs, and say what they are
+                        laws = folder == "proofs" and base == at and text.startswith(KINDS)
+                        if kind is None and not laws or n == "Lib.antt":
                             if "{-" in text:
                                 self.fail("%s has `{-`: comments are `//` and `--` alone" % name)
-                            if kind and re.search(r"^(?!(pub )?mod \w+$|--|$)", text, re.M):
+                            if n == "Lib.antt" and base == at and re.search(r"^(?!(pub )?mod [\w'-]+$|--|$)", text, re.M):
                                 self.fail("%s has more than mod lines" % name)
                             continue
                         key = c + "/" + os.path.relpath(path, at)[: -len(end)]
-                        (self.files if kind is File else self.sources)[key] = cached(kind, key, text, name)
+                        if key in self.folders:
+                            self.fail("%s stands in specs/ and in proofs/" % key)
+                        if kind is not Source:
+                            self.folders[key] = folder
+                        (self.sources if kind is Source else self.files)[key] = cached(kind or File, key, text, name)
         self.page = read(os.path.join(root, PAGE))
         if "<!--" in self.page:
             self.fail("%s has a comment, which a reader does not see" % PAGE)
@@ -698,15 +743,20 @@ class Repository:
 
     # -- names
 
+    def ours(self, module):
+        """The parts of a module's path, if it is one of our crates': crate, specs or proofs, the rest."""
+        m = MODULE.match(module)
+        return m if m and m.group(1) in self.crates else None
+
     def lookup(self, module, name):
         """A name of a module: a declaration of ours, or None for the library's and for what the sources declare."""
-        m = OURS.match(module)
-        if not m and re.match(r"^(?:package\.)?Rattle·(%s)\b" % "|".join(self.crates), module):
+        m = self.ours(module)
+        if not m and set(self.crates) & set(module.split(".")[:3]):
             self.fail("not read: %s.%s" % (module, name))
-        if not m or m.group(1) not in self.crates or m.group(2).split(".")[0] == "declared":
+        if not m or m.group(2) == "specs" and m.group(3).split(".")[0] == "declared":
             return None
-        key = m.group(1) + "/" + m.group(2).replace(".", "/")
-        if key not in self.files:
+        key = m.group(1) + "/" + m.group(3).replace(".", "/")
+        if self.folders.get(key) != m.group(2):
             self.fail("no file %s (used as %s)" % (key, module))
             return None
         f = self.files[key]
@@ -724,7 +774,7 @@ class Repository:
             head = module.split(".")
             if module in imports.modules:
                 return self.lookup(imports.modules[module], name)
-            if OURS.match(module):
+            if self.ours(module):
                 return self.lookup(module, name)
             if head[0] in imports.modules:
                 return self.lookup(".".join([imports.modules[head[0]]] + head[1:]), name)
@@ -734,7 +784,7 @@ class Repository:
         if word in imports.names:
             return self.lookup(*imports.names[word])
         for full in imports.names:  # an operator between its arguments
-            if "_" in full and word in full.split("_"):
+            if word in marks(full):
                 return self.lookup(*imports.names[full])
         return None
 
@@ -750,7 +800,7 @@ class Repository:
         """A name is brought into a file as one thing, but for constructors, which the prover tells apart by their types."""
         for key, f in sorted(self.files.items()):
             for name, others in sorted(f.imports.others.items()):
-                ours = [(at[1], self.lookup(*at)) for at in [f.imports.names[name]] + others if OURS.match(at[0])]
+                ours = [(at[1], self.lookup(*at)) for at in [f.imports.names[name]] + others if self.ours(at[0])]
                 if not ours or not all(d and d.kind == "data" and n in dict(d.members) for n, d in ours):
                     self.fail("%s: `%s` is brought in or declared twice" % (key, name))
 
@@ -798,7 +848,7 @@ class Repository:
     def clauses(self, scan, d, env):
         for left, right, local in d.clauses:
             inside = set(env)
-            scan.pattern([x for x in left if x != d.name and x not in d.name.split("_")], inside)
+            scan.pattern([x for x in left if x != d.name and x not in marks(d.name)], inside)
             inside.update(l.name for l in local)
             scan.term(right, inside)
             for l in local:
@@ -810,7 +860,7 @@ class Repository:
         name = word.split(".")[0]
         if name in PRELUDE or name in imports.names or name in imports.modules:
             return
-        if not any(name in full.split("_") for full in imports.names if "_" in full):
+        if not any(name in marks(full) for full in imports.names):
             self.fail("cannot tell what %s in %s means" % (word, where))
 
     # -- roots
@@ -857,25 +907,25 @@ class Repository:
         """The clauses that a function ensures, as they would stand on one line, with its parameters numbered."""
         found = [" ".join(text.split()).replace("; }", " }") for kind, text in self.sources[key].functions[name][1] if kind == "ensures"]
         for i, param in enumerate(self.sources[key].order[name]):
-            found = [re.sub(r"(?<![\w.])(«%s»|%s)(?!\w| =)" % (param, param), "#%d" % i, text) for text in found]
+            found = [re.sub(r"(?<![\w.])%s(?!\w| =)" % param, "#%d" % i, text) for text in found]
         return found
 
     def equation(self, key, name, call, definition):
-        """What a call's equation has on its right, or None if its contract has another form: `λ o. ⌜ LEFT ≡ definition ..⌝`. LEFT is what
+        """What a call's equation has on its right, or None if its contract has another form: `LEFT ≡ definition ..`. LEFT is what
         is answered, or a record each field of which is a part of that or what is left of something lent; all that is lent to be
         changed is there, and the right has every parameter, and of what is lent what it was on entry."""
         source = self.sources[key]
         texts = self.ensured(key, name)
         if len(texts) != CLAUSES.get(call, 1):
             self.fail("%s has not as many clauses as it should" % call)
-        whole = re.fullmatch(r"λ (\w+)\. ⌜ (now \1|\1|record \{ (.*?) \}) ≡ (%s\b[^≡⌜⌝]*) ⌝" % definition, texts[0]) if texts else None
-        right = whole and [i for i in groups(whole.group(4)) if isinstance(i, str)]
-        if not whole or not all(re.fullmatch(r"[\w'#]+", w) for w in right) or ".exit" in whole.group(4):
+        whole = re.fullmatch(r"(result|result\.now|record \{ (.*?) \}) ≡ (%s(?![\w.'-])[^≡]*)" % definition, texts[0]) if texts else None
+        right = whole and [i for i in groups(whole.group(3)) if isinstance(i, str)]
+        if not whole or not all(re.fullmatch(r"[\w'#]+(\.\w+)*", w) for w in right) or re.search(r"\.new\b|\.exit\b|\bresult\b", whole.group(3)):
             self.fail("%s has no equation with %s" % (call, definition))
             return None
-        out, left = whole.group(1), []
-        for field in whole.group(3).split("; ") if whole.group(3) else []:
-            part = re.fullmatch(r"(\w+) = (?:%s|%s \.\1|now \(#(\d+) \.exit\))" % (out, out), field)
+        left = []
+        for field in whole.group(2).split("; ") if whole.group(2) else []:
+            part = re.fullmatch(r"(\w+) = (?:result|result\.\1|#(\d+)\.new)", field)
             if not part:
                 self.fail("the equation of %s has a field that is not what was answered or left: %s" % (call, field))
                 return None
@@ -884,9 +934,12 @@ class Repository:
             if left.count(lent) != 1:
                 self.fail("the equation of %s does not say what is left of %s" % (call, lent))
         for i, param in enumerate(source.order[name]):
-            if not re.search(r"#%d\b" % i, whole.group(4)):
+            said = re.findall(r"#%d\b((?:\.\w+)*)" % i, whole.group(3))
+            if not said:
                 self.fail("the equation of %s leaves out %s" % (call, param))
-        return whole.group(4)
+            if param in source.changed[name] and set(said) - {".old"}:
+                self.fail("the equation of %s does not have %s as it was on entry" % (call, param))
+        return whole.group(3)
 
     def exported(self, rights):
         """An export's contract is that of the call with its name."""
@@ -896,7 +949,7 @@ class Repository:
             if call is None or key not in self.sources:
                 self.fail("no call is exported as %s" % export)
             elif export == NUMBER_ALONE:
-                form = "λ n. ⌜ (let h : Hashed = %s in (n ≡ h .number) × (now (#7 .exit) ≡ h .digest)) ⌝" % rights.get(call)
+                form = "(let h : Hashed = %s in (result ≡ h.number) × (#7.new ≡ h.digest))" % rights.get(call)
                 if self.ensured(at, export) != [form]:
                     self.fail("%s has not the contract of %s, less the count" % (export, call))
             elif self.ensured(at, export) != self.ensured(key, call.split("::", 1)[1]):
@@ -971,8 +1024,8 @@ class Repository:
         library = set()
         for f in list(self.files.values()) + list(self.sources.values()):
             for n, (module, _) in f.imports.names.items():
-                if not OURS.match(module):
-                    library.update([n] + [p for p in n.split("_") if p])
+                if not self.ours(module):
+                    library.update([n] + marks(n))
         section = ""
         file = None
         for number, line in enumerate(self.page.split("\n"), 1):
@@ -1039,7 +1092,7 @@ class Repository:
         elif found:
             self.fail("%s line %d cites `%s`, which is in several files: %s" % (PAGE, number, name, ", ".join(d.file for d in found)))
         else:
-            self.fail("%s line %d cites `%s`, and no file of specs/ has that name" % (PAGE, number, name))
+            self.fail("%s line %d cites `%s`, and no file of specs/ or proofs/ has that name" % (PAGE, number, name))
 
     # -- the check
 
@@ -1102,9 +1155,10 @@ class Repository:
         for key in sorted(set(self.believed) - self.examples):
             brought = list(self.files[key].imports.names.values()) + [(m, "all") for m in self.files[key].imports.modules.values()]
             for m, n in brought:
-                ours = OURS.match(m)
-                if ours and "/".join(ours.groups()) in self.examples:
-                    self.fail("%s is a file of definitions and takes %s from the examples %s" % (key, n, "/".join(ours.groups())))
+                ours = self.ours(m)
+                at = ours and ours.group(1) + "/" + ours.group(3)
+                if at in self.examples:
+                    self.fail("%s is a file of definitions and takes %s from the examples %s" % (key, n, at))
 
     def definitions(self, key):
         return [d for d in self.files[key].all if not self.is_theorem(d)]
@@ -1121,14 +1175,15 @@ class Repository:
     def library_names(self):
         rt = shutil.which("rt")
         kit = os.path.dirname(os.path.dirname(os.path.realpath(rt))) if rt else ""
-        found = os.path.isdir(os.path.join(kit, "logic", "Lib"))
+        found = os.path.isdir(os.path.join(kit, "rattle", "logic", "Lib"))
         if not found:
             self.notes.append("the toolchain's library is not found: names are not compared with its names")
-        modules = set()
-        for f in list(self.files.values()) + list(self.sources.values()):
+        modules = {WORDS}
+        read_here = list(self.sources.values()) + [self.files[k] for k in sorted(self.believed)]
+        for f in read_here:
             modules.update(m for m, _ in f.imports.names.values())
             modules.update(f.imports.modules.values())
-        theirs = library(kit, frozenset(m for m in modules if not OURS.match(m))) if found else {}
+        theirs = library(kit, {m for m in modules if not self.ours(m)}) if found else {}
         # a module of the primitives has no source: its names are those that are brought from it
         for f in list(self.files.values()) + list(self.sources.values()):
             for m, n in f.imports.names.values():
@@ -1136,19 +1191,26 @@ class Repository:
                     theirs.setdefault(n, m)
         ours = {d.name: key for key in sorted(set(self.believed) - self.examples) for d in self.definitions(key)}
         for name, key in ours.items():
-            if name in theirs:
+            if name in theirs and NAMESAKES.get(name) == key:
+                for at, f in list(self.sources.items()) + list(self.files.items()):
+                    if name in f.imports.names and not self.ours(f.imports.names[name][0]):
+                        self.fail("%s brings the library's %s, and %s has another" % (at, name, key))
+                del theirs[name]
+            elif name in theirs:
                 self.fail("%s of %s has the name of the library's %s.%s" % (name, key, theirs[name], name))
-        self.brought_as(dict(theirs, **ours))
+        self.brought_as(dict(theirs, **ours), kit if found else "")
 
-    def brought_as(self, taken):
+    def brought_as(self, taken, kit):
         """In a source and in a file that is believed a library's name means one thing, and nothing has a name that is taken."""
         modules = {}
         for key, f in [(k + ".rt", f) for k, f in sorted(self.sources.items())] + [(k, self.files[k]) for k in sorted(self.believed)]:
             for name, (module, there) in f.imports.names.items():
                 if name != there and name in taken:
                     self.fail("%s brings %s.%s under the name of %s.%s" % (key, module, there, taken[name], name))
-                if not OURS.match(module) and modules.setdefault(name, module) != module:
-                    self.fail("%s brings %s of %s, which elsewhere is that of %s" % (key, name, module, modules[name]))
+                if kit and not self.ours(module):
+                    at = origin(kit, module, there)
+                    if modules.setdefault(name, at) != at:
+                        self.fail("%s brings %s of %s, which elsewhere is that of %s" % (key, name, at[0], modules[name][0]))
 
     def headers(self):
         none, other = [], []
@@ -1156,8 +1218,11 @@ class Repository:
             first = self.files[key].text.split("\n", 1)[0]
             if not first.startswith(KINDS):
                 none.append(key)
-            elif key in self.believed and key not in self.examples and not first.startswith(KINDS[0]):
-                other.append(key)
+            elif key in self.believed and key not in self.examples:
+                if not first.startswith(KINDS[0]):
+                    other.append(key)
+                if self.folders[key] != "specs":
+                    self.fail("%s has to be believed and does not stand in specs/" % key)
         if none:
             some = ", ".join(none[:12]) + (", .." if len(none) > 12 else "")
             self.fail("%d files of specs/ do not begin with one of '%s': %s" % (len(none), "', '".join(k.strip() for k in KINDS), some))
@@ -1166,34 +1231,55 @@ class Repository:
 
 
 LIBRARY = {}
+# the words that most clauses and definitions take from the toolchain
+WORDS = "Rattle.std.specs.Prelude"
+
+
+def source_of(kit, module):
+    """The text of a module of the toolchain's library, or "" if it has no source: that of a primitive, or made from one."""
+    if (kit, module) not in LIBRARY:
+        at = module.split(".")
+        roots = {"mathlib": "antt/port/mathlib/src", "lib": "logic/Lib", "native": "antt/lib/native/src", "borrow": "logic/Borrow", "Rattle": ""}
+        path = os.path.join(kit, "rattle", roots[at[0]], *at[1:]) + ".antt" if at[0] in roots else ""
+        LIBRARY[kit, module] = read(path) if kit and os.path.isfile(path) else ""
+    return LIBRARY[kit, module]
+
+
+def passes_on(kit, module):
+    """What a module of the library passes on: name -> (module, name there)."""
+    passed = {}
+    for m, items in re.findall(r"^pub use ([^\s{}]+)\.\{([^{}]*)\}", source_of(kit, module), re.M):
+        for item in items.split(","):
+            item = item.split()
+            if item:
+                passed[item[-1]] = (m, item[0])
+    return passed
+
+
+def origin(kit, module, name):
+    """Where in the library a name is declared that a module has: behind what passes it on, or passes on the module."""
+    seen = set()
+    while kit and (module, name) not in seen:
+        seen.add((module, name))
+        above, _, last = module.rpartition(".")
+        whole = re.search(r"^pub use ([^\s{}]+\.%s)$" % re.escape(last), source_of(kit, above), re.M) if above else None
+        module, name = (whole.group(1), name) if whole else passes_on(kit, module).get(name, (module, name))
+    return module, name
 
 
 def library(kit, modules):
-    """The names that these modules of the toolchain's library export, and those of the kit's own crates, each with its module."""
-    if (kit, modules) in LIBRARY:
-        return dict(LIBRARY[kit, modules])
-    paths = {}
-    for m in sorted(modules):
-        at = m.split(".")
-        roots = {"mathlib": "antt/port/mathlib/src", "lib": "logic/Lib"}
-        if at[0] in roots:
-            paths[m] = os.path.join(kit, roots[at[0]], *at[1:]) + ".antt"
-    libs = os.path.join(kit, "libs")
-    for crate in sorted(os.listdir(libs)) if os.path.isdir(libs) else []:
-        specs = os.path.join(libs, crate, "specs")
-        for n in sorted(os.listdir(specs)) if os.path.isdir(specs) else []:
-            paths["Rattle·%s.specs.%s" % (crate, n[: -len(".antt")])] = os.path.join(specs, n)
+    """The names that these modules of the toolchain's library export, each with its module."""
     names = {}
-    for m, path in paths.items():
-        if os.path.isfile(path):
-            text = read(path)
-            for d in re.finditer(r"^ *(?:unfoldable |abbrev |axiom )*pub (?:data |record )?(\S+)(?: [({].*)? :", text, re.M):
-                names.setdefault(d.group(1), m)
-            for d in re.finditer(r"^( *)pub data .* where\n((?:\1 +.*\n|\n)*)", text, re.M):
-                for c in re.findall(r"^ +(\S+) :", d.group(2), re.M):
-                    names.setdefault(c, m)
-    LIBRARY[kit, modules] = names
-    return dict(names)
+    for m in sorted(modules):
+        text = source_of(kit, m)
+        for name in passes_on(kit, m):
+            names.setdefault(name, m)
+        for d in re.finditer(r"^ *(?:unfoldable |abbrev |axiom )*pub (?:data |record )?(\S+)(?: [({].*)? :", text, re.M):
+            names.setdefault(d.group(1), m)
+        for d in re.finditer(r"^( *)pub data .* where\n((?:\1 +.*\n|\n)*)", text, re.M):
+            for c in re.findall(r"^ +(\S+) :", d.group(2), re.M):
+                names.setdefault(c, m)
+    return names
 
 
 def check(root):
@@ -1208,8 +1294,8 @@ def check(root):
 def self_test(root):
     """Faults, one at a time, on a copy: each must be found, and told by what it is."""
     base = check(root)
-    helper = next(k for k in sorted(base.files) if k not in base.believed and k not in base.listed)
-    listed = next(k for k in base.listed if k in base.believed)
+    helper = next(k for k in sorted(base.files) if k not in base.believed and k not in base.listed and base.folders[k] == "specs")
+    listed = next(k for k in base.listed if k in base.believed and base.folders[k] == "specs")
     theorem = base.theorems[0].name
     # the call that most faults are tried on, and a definition that its contract names
     call, key = CALLS[0]
@@ -1217,14 +1303,17 @@ def self_test(root):
     source = "crates/%s.rt" % key.replace("/", "/src/")
     brought = base.sources[key].imports.names
     params, clauses = base.sources[key].functions[name]
-    word = next(n for n, (module, _) in brought.items() if OURS.match(module) and n not in params and n in re.findall(r"\w+", clauses[0][1]))
-    operator = next(n for n in brought if n.count("_") == 2)
+    word = next(n for n, (module, _) in brought.items() if base.ours(module) and n not in params and n in re.findall(r"\w+", clauses[0][1]))
+    operator = next(n for n in brought if len(marks(n)) == 1 and n.count(PLACE) == 2)
     spec = "crates/%s.antt" % listed.replace("/", "/specs/")
     in_spec = next(iter(base.files[listed].imports.names))
     proofs = os.path.join("crates", crate, "proofs")
-    proof = next(os.path.join(at, n) for at, _, names in os.walk(os.path.join(root, proofs)) for n in names if n.endswith(".antt"))
+    of_functions = [os.path.join(at, n) for at, _, names in os.walk(os.path.join(root, proofs)) for n in names if n.endswith(".antt")]
+    proof = next(path for path in sorted(of_functions) if os.path.dirname(path) != os.path.join(root, proofs))
 
-    helps = "Rattle·%s.specs.%s" % tuple(helper.split("/"))
+    law = next(k for k in sorted(base.files) if k.startswith(crate + "/") and base.folders[k] == "proofs")
+    laws, of_laws = "crates/%s.antt" % law.replace("/", "/proofs/"), "Rattle.%s.proofs.%s" % tuple(law.split("/"))
+    helps = "Rattle.%s.specs.%s" % tuple(helper.split("/"))
     to_believe = "%s has to be believed and %s does not list it: %s -> %s (%s)" % (helper, PAGE, call, "%s", helper)
 
     def define(d, body="%s n = n"):
@@ -1247,7 +1336,7 @@ def self_test(root):
         ("an edit that is gone", [(PAGE, r"`(\w+/all_refused)`", r"`\1_twice`")], "%s names the edit hash/all_refused_twice, and" % PAGE),
         (
             "a helper of a contract in a file that is not listed",
-            [define("twisted"), bring(".{twisted}"), ensure("ensures { λ o. ⌜ o .count ≡ twisted (o .count) ⌝ }")],
+            [define("twisted"), bring(".{twisted}"), ensure("ensures { result.count ≡ twisted result.count }")],
             to_believe % "twisted",
         ),
         (
@@ -1260,8 +1349,8 @@ def self_test(root):
         ),
         (
             "a word of a contract that no line brings",
-            [ensure("ensures { λ o. ⌜ o .count ≡ «guess» ⌝ }")],
-            "cannot tell what «guess» in %s means" % call,
+            [ensure("ensures { result.count ≡ guess }")],
+            "cannot tell what guess in %s means" % call,
         ),
         (
             "a row missing in the table",
@@ -1281,7 +1370,7 @@ def self_test(root):
         (
             "a theorem cited that does not exist",
             [(PAGE, "`%s`" % re.escape(theorem), "`no-such-theorem`")],
-            "cites `no-such-theorem`, and no file of specs/ has that name",
+            "cites `no-such-theorem`, and no file of specs/ or proofs/ has that name",
         ),
         # comments that the prover skips and a reader by lines does not
         (
@@ -1291,12 +1380,12 @@ def self_test(root):
         ),
         (
             "the honest function in a comment of a source",
-            [ensure("ensures { λ o. ⌜ o ≡ o ⌝ }"), (source, r"\Z", "/*\n%s\n}\n*/\n" % signature.replace("\\", "\\\\"))],
+            [ensure("ensures { result ≡ result }"), (source, r"\Z", "/*\n%s\n}\n*/\n" % signature.replace("\\", "\\\\"))],
             "%s: line " % source + "%d has `/*`",
         ),
         (
             "a comment in a clause, which reads as a binder",
-            [ensure("ensures { λ o. {- %s : o -} ⌜ o ≡ o ⌝ }" % word)],
+            [ensure("ensures { {- %s : result -} result ≡ result }" % word)],
             "%s: line " % source + "%d has `{-`",
         ),
         (
@@ -1311,59 +1400,59 @@ def self_test(root):
         ),
         (
             "a comment in a clause that is none to the prover",
-            [ensure("ensures { λ o. ⌜ o ≡ o // %s ⌝ }" % word)],
+            [ensure("ensures { result ≡ result // %s }" % word)],
             "a comment or a quotation in a clause",
         ),
         (
             "a comment in the second line of a clause",
-            [ensure("ensures { λ o. ⌜ o .count\n        ≡ o .count // %s ⌝ }" % word)],
+            [ensure("ensures { result.count\n        ≡ result.count // %s }" % word)],
             "a comment or a quotation in a clause",
         ),
-        ("a clause that another one closes", [ensure("ensures { λ o. ⌜ o\n    ensures { λ o. ⌜ o ≡ o ⌝ } }")], "a clause is open: ensures"),
+        ("a clause that another one closes", [ensure("ensures { result\n    ensures { result ≡ result } }")], "a clause is open: ensures"),
         # a call's equation, and calls that no list has
         (
             "an equation under a condition",
-            [(source, r"⌜ record \{(?=[^⌝]*≡ hashOf)", "⌜ 0 ≡ 1 → record {")],
-            "%s has no equation with hashOf" % call,
+            [(source, r"\{ record \{(?=[^}]*\}\s*≡ hash_of)", "{ 0 ≡ 1 → record {")],
+            "%s has no equation with hash_of" % call,
         ),
         (
             "an equation that is one with what is left",
-            [(source, r"\(now \(digest \.entry\)\)(?=[^⌝]*⌝ \}\n\{\n    let span)", "(now (digest .exit))")],
-            "%s has no equation with hashOf" % call,
+            [(source, r"\bdigest\.old(?= \}\n\{\n    let span)", "digest.new")],
+            "%s has no equation with hash_of" % call,
         ),
         (
             "an equation of something else than what is left",
-            [(source, r"now \(digest \.exit\)(?=[^⌝]*≡ hashOf)", "now (digest .entry)")],
-            "the equation of %s has a field that is not what was answered or left: digest = now (#7 .entry)" % call,
+            [(source, r"digest\.new(?=[^}]*\}\s*≡ hash_of)", "digest.old")],
+            "the equation of %s has a field that is not what was answered or left: digest = #7.old" % call,
         ),
         (
             "an equation of something else than what is answered",
-            [(source, r"number = o \.number(?=[^⌝]*≡ hashOf)", "number = 0")],
+            [(source, r"number = result\.number(?=[^}]*\}\s*≡ hash_of)", "number = 0")],
             "the equation of %s has a field that is not what was answered or left: number = 0" % call,
         ),
         (
             "an equation with a definition of other arguments",
-            [(source, r"start = start;(?=[^⌝]*⌝ \}\n\{\n    let span)", "start = 0;")],
+            [(source, r"start = start;(?=[^≡]*\}\n\{\n    let span)", "start = 0;")],
             "the equation of %s leaves out start" % call,
         ),
         (
             "an equation with another definition",
-            [("crates/stream/src/lib.rt", r"≡ areaWordsOf limit", "≡ logWordsOf (limit ∷ []) limit")],
-            "stream::area_words has no equation with areaWordsOf",
+            [("crates/stream/src/lib.rt", r"≡ area_words_of limit", "≡ log_words_of (limit ∷ []) limit")],
+            "stream::area_words has no equation with area_words_of",
         ),
         (
             "a clause dropped",
-            [("crates/stream/src/lib.rt", r"^    ensures \{ λ r\. ⌜ \(r \.ptr(.|\n)*?⌝ \}\n", "")],
+            [("crates/stream/src/lib.rt", r"^    ensures \w+ \{ \(result\.ref_ptr(.|\n)*? \}\n", "")],
             "stream::level has not as many clauses as it should",
         ),
         (
             "an export with another contract",
-            [("crates/md6_c/src/lib.rt", r"≡ areaWordsOf limit", "≡ areaWordsOf 0")],
+            [("crates/md6_c/src/lib.rt", r"≡ area_words_of limit", "≡ area_words_of 0")],
             "md6_area_words has not the contract of stream::area_words",
         ),
         (
             "an export that answers the number alone, of another call",
-            [("crates/md6_c/src/lib.rt", r"\(n ≡ h \.number\)", "(n ≡ 0)")],
+            [("crates/md6_c/src/lib.rt", r"\(result ≡ h\.number\)", "(result ≡ 0)")],
             "md6_hash has not the contract of hash::hash, less the count",
         ),
         (
@@ -1379,7 +1468,7 @@ def self_test(root):
         ),
         (
             "a public function that no list has",
-            [(source, r"\Z", "pub fn decoy() -> u64\n    ensures { λ r. ⌜ r ≡ r ⌝ }\n{\n    0\n}\n")],
+            [(source, r"\Z", "pub fn decoy() -> u64\n    ensures { result ≡ result }\n{\n    0\n}\n")],
             "decoy of %s is public, and no list has it" % source,
         ),
         # one name, two things
@@ -1389,6 +1478,9 @@ def self_test(root):
             [define("twisted"), (spec, r"^(?=use )", "use %s.{twisted as %s}\n" % (helps, in_spec))],
             "%s: `%s` is brought in or declared twice" % (listed, in_spec),
         ),
+        ("a constant with the name of a definition", [(source, r"\Z", "const %s: u64 = 0;\n" % word)], "%s: `%s` is brought in or declared twice" % (source, word)),
+        ("a variant with the name of a definition", [(source, r"\Z", "enum Decoy {\n    %s,\n}\n" % word)], "%s: `%s` is brought in or declared twice" % (source, word)),
+        ("another word for what is answered", [bring(".{twisted as result}")], "%s: `result` is brought in or declared twice" % source),
         (
             "an operator with the parts of another",
             [bring(".{%s%s}" % (operator, operator[1:]))],
@@ -1413,11 +1505,11 @@ def self_test(root):
         (
             "a symbol from another place of the library",
             [(source, r"\b%s(?=\.\{[^}]*%s)" % (re.escape(brought[operator][0]), re.escape(operator)), "mathlib.Other")],
-            "brings %s of mathlib.Other, which elsewhere is that of %s" % (operator, brought[operator][0]),
+            "brings %s of mathlib.Other, which elsewhere is that of " % operator,
         ),
         (
             "a clause that binds the name of a definition",
-            [ensure("ensures { λ %s. ⌜ %s ≡ %s ⌝ }" % (word, word, word))],
+            [ensure("ensures { (%s : ℕ) → %s ≡ %s }" % (word, word, word))],
             "%s binds %s, which its file brings in" % (call, word),
         ),
         # items, words and letters that are not what they seem
@@ -1429,7 +1521,7 @@ def self_test(root):
         ),
         (
             "an item behind a clause on its line",
-            [(source, r"\Z", "fn decoy()\n    ensures { λ _. ⌜ 0 ≡ 0 ⌝ } {} %s fn other() { }\n" % evil)],
+            [(source, r"\Z", "fn decoy()\n    ensures { 0 ≡ 0 } {} %s fn other() { }\n" % evil)],
             "%s: something stands behind a clause: " % source,
         ),
         (
@@ -1449,18 +1541,54 @@ def self_test(root):
         ),
         (
             "a name that begins like a clause",
-            [define("⌜twisted"), bring(".{⌜twisted}"), ensure("ensures { λ o. ⌜ o .count ≡ ⌜twisted (o .count) ⌝ }")],
+            [define("⌜twisted"), bring(".{⌜twisted}"), ensure("ensures { result.count ≡ ⌜twisted result.count }")],
             "a bracket within a word: ⌜twisted",
         ),
         (
             "a name that begins like a number",
-            [define("1twisted"), bring(".{1twisted}"), ensure("ensures { λ o. ⌜ o .count ≡ 1twisted (o .count) ⌝ }")],
+            [define("1twisted"), bring(".{1twisted}"), ensure("ensures { result.count ≡ 1twisted result.count }")],
             to_believe % "1twisted",
         ),
         (
             "the empty list that is another thing",
-            [define("twisted"), bring(".{twisted as []}"), ensure("ensures { λ o. ⌜ o .count ≡ [] (o .count) ⌝ }")],
+            [define("twisted"), bring(".{twisted as []}"), ensure("ensures { result.count ≡ [] result.count }")],
             to_believe % "twisted",
+        ),
+        (
+            "an escaped name in a clause",
+            [ensure("ensures { result.count ≡ «%s» }" % word)],
+            "has `«`: an escaped name",
+        ),
+        (
+            "an equation with what is answered on both sides",
+            [(source, r"\bdigest\.old(?= \}\n\{\n    let span)", "result.digest")],
+            "%s has no equation with hash_of" % call,
+        ),
+        ("a source that stands elsewhere", [(source, r"\Z", '#[path = "decoy.rt"]\nmod decoy;\n')], "%s: not read: #[path" % source),
+        (
+            "an export under no name",
+            [("crates/md6_c/src/lib.rt", r"^#\[unsafe\(no_mangle\)\]\n", "")],
+            "crates/md6_c/src/lib.rt: an export has `#[unsafe(no_mangle)]` before it",
+        ),
+        (
+            "a definition in proofs/",
+            [
+                (laws, r"\A.*\n", "-- Definitions: decoy.\n"),
+                (laws, r"\Z", "\nabbrev pub twisted : Type 0\ntwisted = Unit\n"),
+                (source, r"^(?=ghost use )", "ghost use %s.{twisted};\n" % of_laws),
+                ensure("ensures { twisted }"),
+            ],
+            "%s has to be believed and does not stand in specs/" % law,
+        ),
+        (
+            "a file of proofs/ brought as one of specs/",
+            [(source, r"^(?=ghost use )", "ghost use %s.{twisted};\n" % of_laws.replace(".proofs.", ".specs.")), ensure("ensures { twisted }")],
+            "no file %s (used as %s)" % (law, of_laws.replace(".proofs.", ".specs.")),
+        ),
+        (
+            "the library's word for one of ours",
+            [(source, r"^(?=ghost use )", "ghost use %s.{%s};\n" % (WORDS, next(iter(NAMESAKES))))],
+            "brings the library's %s, and" % next(iter(NAMESAKES)),
         ),
         (
             "a letter that looks like another",
@@ -1471,18 +1599,19 @@ def self_test(root):
     for c, k in [CALLS[0]] + [c for c in CALLS if c[0].count("::") > 1]:
         path = "crates/%s.rt" % k.replace("/", "/src/")
         message = "%s is a public call and has a `requires`" % c
-        faults.append(("a public call with a requires", [ensure("requires { ⌜ 0 ≡ 0 ⌝ }", path, c)], message))
+        faults.append(("a public call with a requires", [ensure("requires { 0 ≡ 0 }", path, c)], message))
     for c, k in [c for c in CALLS if c[1] != c[0].split("::")[0] + "/lib"][:1]:
         at, n = c.split("::")
         lib = "crates/%s/src/lib.rt" % at
-        use = "pub use %s::%s;" % (base.sources[at + "/lib"].uses[n], n)
+        of = base.sources[at + "/lib"].uses[n]
+        use = r"^pub use %s::((?:\{.*)?)\b%s\b" % (of, n)
         message = "%s does not pass on %s of crates/%s.rt" % (lib, n, k.replace("/", "/src/"))
         k_crate, k_file = k.split("/")
         other = (lib, r"\A", "mod %s;\n" % k_crate) if k_file == "lib" else (lib, r"^mod %s;.*\n" % k_file, "")
         faults += [
-            ("another function passed on", [(lib, "^" + use, "pub use decoy::%s;" % n)], message),
+            ("another function passed on", [(lib, use, r"pub use decoy::\1%s" % n)], message),
             ("a function passed on of a crate for that of a module, or the other way", [other], message),
-            ("another function passed on under the name", [(lib, "^" + use, use.replace("::", "::other as "))], "%s: not read: pub use " % lib),
+            ("another function passed on under the name", [(lib, use, r"pub use %s::\1other as %s" % (of, n))], "%s: not read: pub use " % lib),
         ]
     missed = 0
     with tempfile.TemporaryDirectory() as copy:

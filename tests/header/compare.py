@@ -8,9 +8,9 @@ LENT_WORDS = {"words": "words_count"}  # a slice that is itself called words
 
 
 def exported(source):
-    """name -> (parameters as C declares them, result) of each export"""
+    """name -> (parameters as C declares them, result) of each export; without the attribute before it a function has no name for C"""
     out = {}
-    for name, params, result in re.findall(r'pub extern "C" fn (\w+)\(([^)]*)\)\s*->\s*([\w:]+)', source):
+    for name, params, result in re.findall(r'^#\[unsafe\(no_mangle\)\]\npub extern "C" fn (\w+)\(([^)]*)\)\s*->\s*([\w:]+)', source, re.M):
         c = []
         for p in [x.strip() for x in params.split(",") if x.strip()]:
             n, t = [x.strip() for x in p.split(":", 1)]
@@ -40,7 +40,7 @@ def faults(header, source, answer):
     for name in sorted(set(e) | set(d)):
         if e.get(name) != d.get(name):
             found.append("%s: the source has %s, the header %s" % (name, e.get(name), d.get(name)))
-    fields = re.findall(r"pub (\w+): u64", re.search(r"#\[repr\(C\)\]\s*pub struct Answer \{(.*?)\}", answer, re.S)[1])
+    fields = re.findall(r"pub (\w+): u64", re.search(r"^#\[repr\(C\)\]\n(?:#\[derive\([\w, ]+\)\]\n)?pub struct Answer \{(.*?)\}", answer, re.S | re.M)[1])
     words = re.search(r"typedef struct \{\s*uint64_t ([^;]*);\s*\} md6_answer;", header)[1].replace(" ", "").split(",")
     if fields != words:
         found.append("md6_answer: the source has %s, the header %s" % (fields, words))
@@ -57,6 +57,7 @@ if "--self" in sys.argv:
         (h.replace("const uint8_t *text", "uint8_t *text", 1), s, n),
         (h.replace("const uint8_t *digest", "uint8_t *digest", 1), s, n),
         (h, s.replace("words: &mut [u64],\n    log: &mut [u64],", "log: &mut [u64],\n    words: &mut [u64],", 1), n),
+        (h, s.replace("#[unsafe(no_mangle)]\n", "", 1), n),
     ]
     missed = [i for i, w in enumerate(wrong) if w == tuple(files) or not faults(*w)[0]]
     print("self-test: %d faults put in, %s" % (len(wrong), "not found: %s" % missed if missed else "each found"))

@@ -1,5 +1,5 @@
 -- Laws: of Hash: the answers of a call that is refused or accepted, and the digest.
-use Rattle.std.specs.Prelude.{◌≡◌, Bool, true, false, cond, List, [], ◌∷◌, ◌++◌, ℕ, suc, ◌-◌, ◌≤◌, ltb, length, drop, replicate}
+use Rattle.std.specs.Prelude.{◌≡◌, Bool, true, false, cond, List, [], ◌∷◌, ◌++◌, ℕ, suc, ◌-◌, ltb, length, drop, replicate}
 use Rattle.std.proofs.Math.Path.{refl}
 use Rattle.std.proofs.Common.{sym, ap, ◌∙◌, ltb-false}
 use Rattle.lists.specs.Below.{Below}
@@ -8,8 +8,8 @@ use Rattle.constants.specs.Constants.{RoundTable, part_entries}
 use Rattle.tree.specs.Tree.{Params, key_words, digest, order, digest_bytes}
 use Rattle.tree.proofs.TreeLaws.{length-key_words, key_back}
 use Rattle.bits.specs.Piece.{Piece, piece_bits, refused_bits, bits_test}
-use Rattle.bits.specs.PieceLaws.{Fits, length-piece_bits, bits-there}
-use Rattle.refusals.specs.Refusals.{first_refusal, range_tests, param_tests, output_test}
+use Rattle.bits.specs.PieceLaws.{length-piece_bits, bits-there}
+use Rattle.refusals.specs.Refusals.{first_refusal, param_tests, output_test}
 use Rattle.hash.specs.Hash.{hash_number, Hashed, hash_of}
 use Rattle.hash.specs.Accepted.{with_key, Accepted, ranges_of, number_for}
 use Rattle.refusals.specs.declared.Params as declared

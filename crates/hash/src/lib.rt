@@ -82,7 +82,7 @@ pub fn hash(
 ) -> Answer
     ensures { record { number = result.number; count = result.count; digest = digest.new }
         ≡ hash_of (record { bytes = message.now; start = start; count = bits })
-        (record { key = key.entry.now; d = d; limit = limit; rounds = rounds }) digest.old }
+        (record { key = key.now; d = d; limit = limit; rounds = rounds }) digest.old }
 {
     let span = Span { start, bits };
     let params = Params::new(key.len() as u64, d, limit, rounds);

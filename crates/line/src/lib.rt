@@ -262,6 +262,7 @@ impl State {
     }
 
     // What the line says, once all its bytes have come.
+    #[tactic(auto, unfolding(crate::specs::Fold::reading_of))]
     pub fn reading(self) -> Reading
         ensures { result ≡ reading_of self }
     {

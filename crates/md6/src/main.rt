@@ -5,45 +5,39 @@
 ghost use Rattle.std.specs.Prelude.{◌≤◌, length};
 
 use area::Area;
-use libc::{STDIN_FILENO, STDOUT_FILENO};
-use program::{OUT, Phase, Program};
+use program::{BUFFER, OUT, Phase, Program};
+use std::io;
+use std::io::Read;
 
-// Writes the first bytes of a text. Answers whether all were written.
-fn write_first(text: &[u8], n: usize) -> bool
+// Writes the first bytes of a text.
+fn write_first(rt: &impl Print, text: &[u8], n: usize) -> io::Result<()>
     requires { n ≤ length text.now }
 {
-    io::write_all(STDOUT_FILENO, &text[0..n])
+    rt.write_all(&text[..n])
 }
 
-// Reads until the input ends, a read or a write fails, or the input is refused. The turns are counted down because a loop has
+// Reads until the input ends, a read or a write fails, or the input is refused. The turns are counted because a loop has
 // to end; no input of fewer than 2^64 - 1 bytes uses them up.
-fn main() {
-    let mut buf = io::large_buffer();
+fn main(rt: HostRuntime) -> io::Result<()> {
+    let mut input = rt.stdin();
+    let mut buf = [0u8; BUFFER];
     let mut area = [0u64; Area::WORDS];
     let mut out = [0u8; OUT];
     let mut program = Program::new();
-    let mut turns = u64::MAX;
-    while turns > 0 {
-        let got = libc::read(STDIN_FILENO, &mut buf);
-        if got < 0 {
-            return;
-        }
-        if got == 0 {
+    for _ in 0..u64::MAX {
+        let n = input.read(&mut buf)?;
+        if n == 0 {
             let last = program::finish(program, &mut area, &mut out);
-            write_first(&out, last);
-            return;
+            return write_first(&rt, &out, last);
         }
-        let n = io::count(got, &buf);
         let taken = program::take(program, &buf, n, &mut area, &mut out);
-        if !write_first(&out, taken.count) {
-            return;
-        }
+        write_first(&rt, &out, taken.count)?;
         let next = taken.program;
         let phase = next.phase;
         if let Phase::Refused = phase {
-            return;
+            return Ok(());
         }
         program = next;
-        turns -= 1;
     }
+    Ok(())
 }

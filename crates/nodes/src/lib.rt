@@ -45,7 +45,7 @@ fn one_value(
     block: &[u64; 64],
 ) -> [u64; 16]
     requires ready { Ready keyed constants.now }
-    requires level_nonzero { (0 < level) × (level < 256) × (index < level_nodes bits level) × (z < 16) }
+    requires in_level { (0 < level) × (level < 256) × (index < level_nodes bits level) × (z < 16) }
     ensures { result ≡ node_words (tree_params keyed) level index z (block_padding bits level index) block.now }
 {
     let p = shape::padding(bits, level, index);
@@ -125,7 +125,7 @@ fn values(
     n: u64,
 ) -> [u64; 64]
     requires given { Given (spanned message.now span) keyed constants.now }
-    requires level_nonzero { (0 < level) × (level < 256) × (n ≤ 4) × (index + n ≤ level_nodes span.bits level) }
+    requires in_level { (0 < level) × (level < 256) × (n ≤ 4) × (index + n ≤ level_nodes span.bits level) }
     ensures { result ≡ child_words (level_values (tree_params keyed) (span_bits message.now span) level) 4 index n }
 {
     if level == 1 {
@@ -150,7 +150,7 @@ fn values(
 // of its children, one level below.
 fn top_value(message: &[u8], span: Span, keyed: Keyed, constants: &[u64], level: u64) -> [u64; 16]
     requires given { Given (spanned message.now span) keyed constants.now }
-    requires level_nonzero { (0 < level) × (level < 256) }
+    requires in_level { (0 < level) × (level < 256) }
     ensures { result ≡ value (tree_params keyed) (span_bits message.now span) level 0 1 }
 {
     if level == 1 {

@@ -68,8 +68,8 @@ fn is_shown(area: &[u64], level: u64) -> bool
 // That level's part of the caller's area, or an empty part if the area is short or unsound or has no such level. A part
 // is told by what it holds, and by its address: the lent allocation, and a place in it in bytes, 8 a word.
 pub fn level(area: &[u64], level: u64) -> &[u64]
-    ensures result_value { result.now ≡ level_of area.now level }
-    ensures ref_ptr_value { (result.ref_ptr.0 ≡ area.entry.ref_ptr.0)
+    ensures words { result.now ≡ level_of area.now level }
+    ensures place { (result.ref_ptr.0 ≡ area.entry.ref_ptr.0)
         × (shown area.now level ≡ true → result.ref_ptr.1 ≡ level_start level * 8 + area.entry.ref_ptr.1) }
 {
     if !is_shown(area, level) {

@@ -4,7 +4,7 @@
 
 ghost use Rattle.std.specs.Prelude.{◌≤◌, ◌<◌};
 
-use libc::STDOUT_FILENO;
+use std::io;
 
 // The words of an area for a height limit, by document 02, M-109: 16, and 64 times the smaller of L + 1 and 27.
 pub fn area_words(limit: u64) -> usize
@@ -16,72 +16,57 @@ pub fn area_words(limit: u64) -> usize
     1744
 }
 
-fn wide(b: u8) -> u64 {
-    b as u64
-}
-
 // Writes bytes in hexadecimal.
-pub fn bytes(bytes: &[u8]) {
-    let mut i = 0;
-    while i < bytes.len() {
-        io::print_hex(STDOUT_FILENO, wide(bytes[i]), 2);
-        i += 1;
+pub fn bytes(rt: &impl Print, bytes: &[u8]) -> io::Result<()> {
+    for b in bytes {
+        print!(rt; "{b:02x}")?;
     }
+    Ok(())
 }
 
 // Writes the number and the count of an answer.
-pub fn answer(number: u64, count: u64) {
-    io::print_decimal(STDOUT_FILENO, number);
-    io::write_all(STDOUT_FILENO, b" ");
-    io::print_decimal(STDOUT_FILENO, count);
+pub fn answer(rt: &impl Print, number: u64, count: u64) -> io::Result<()> {
+    print!(rt; "{number} {count}")
 }
 
 // Whether words are those of a copy, from a place on.
 fn is_same(words: &[u64], before: &[u64], from: usize) -> bool {
-    let mut i = from;
-    while i < words.len() {
+    for i in from..words.len() {
         if before.len() <= i {
             return false;
         }
         if words[i] != before[i] {
             return false;
         }
-        i += 1;
     }
     true
 }
 
 // Writes whether words are those of a copy, from a place on.
-pub fn same(words: &[u64], before: &[u64], from: usize) {
+pub fn same(rt: &impl Print, words: &[u64], before: &[u64], from: usize) -> io::Result<()> {
     if is_same(words, before, from) {
-        io::write_all(STDOUT_FILENO, b" same");
-        return;
+        return print!(rt; " same");
     }
-    io::write_all(STDOUT_FILENO, b" changed");
+    print!(rt; " changed")
 }
 
 // What follows a word: the last of a row ends the line.
-fn between(i: usize, width: usize)
+fn between(rt: &impl Print, i: usize, width: usize) -> io::Result<()>
     requires { 0 < width }
 {
     if i % width == width - 1 {
-        io::write_all(STDOUT_FILENO, b"\n");
-        return;
+        return println!(rt; "");
     }
-    io::write_all(STDOUT_FILENO, b" ");
+    print!(rt; " ")
 }
 
 // Writes the first words, in rows of so many: a log in rows of two, a node a line.
-pub fn rows(words: &[u64], count: usize, width: usize)
+pub fn rows(rt: &impl Print, words: &[u64], count: usize, width: usize) -> io::Result<()>
     requires { 0 < width }
 {
-    let mut i = 0;
-    while i < words.len() {
-        if count <= i {
-            return;
-        }
-        io::print_hex(STDOUT_FILENO, words[i], 16);
-        between(i, width);
-        i += 1;
+    for (i, word) in words.iter().take(count).enumerate() {
+        print!(rt; "{word:016x}")?;
+        between(rt, i, width)?;
     }
+    Ok(())
 }

@@ -11,8 +11,6 @@ use Rattle.numbers.specs.NumberLaws.{area-passed, close-decided}
 use Rattle.ending.specs.EndLaws.{log_copied}
 use Rattle.ending.proofs.close.Goals as goal
 
--- `ending::close` meets its contract: one equation for every area, figure and log.
-
 pub returns-then-unfit-ne0 : goal.returns-then-unfit-ne0
 returns-then-unfit-ne0 c =
     let a = c.args in

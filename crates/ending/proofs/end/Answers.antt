@@ -1,10 +1,7 @@
 -- `ending::end` meets its contract: one equation for every area, output and log.
 use mathlib.Core.Path.{sym, ◌∙◌}
 use Rattle.calls.proofs.CallLaws.{end-passed, end_refused, end-accepted}
-use native.Mathlib.Omega.{arith}
 use Rattle.ending.proofs.end.Goals as goal
-
--- `ending::end` meets its contract: one equation for every area, output and log.
 
 pub returns-then-number-ne0 : goal.returns-then-number-ne0
 returns-then-number-ne0 c =

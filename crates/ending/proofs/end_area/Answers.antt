@@ -2,10 +2,7 @@
 use mathlib.Core.Path.{◌∙◌}
 use Rattle.ending.specs.EndLaws.{count_fits, wiped-area}
 use native.Mathlib.Omega.{arith}
-use borrow.Author.Rules.{rules}
 use Rattle.ending.proofs.end_area.Goals as goal
-
--- `ending::end_area` meets its contract.
 
 pub overflow_add-all : goal.overflow_add-all
 overflow_add-all c = omega (arith, c.nodes_left-nodes.ensures, count_fits c.requires (omega (arith, c.type_inv.area 1)))

@@ -1,14 +1,11 @@
 -- `ending::figure_number` meets its contract.
 use native.Mathlib.Omega.{arith}
-use borrow.Author.Rules.{rules}
 use mathlib.Core.Path.{ap, ◌∙◌}
 use Prim.Native.Nat.{◌-◌}
 use lib.ListN.{length, take, replicate}
 use Rattle.numbers.specs.NumberLaws.{digest-small, close-numbers}
 use Rattle.calls.proofs.Previews.{digest-front, length-digest_out}
 use Rattle.ending.proofs.figure_number.Goals as goal
-
--- `ending::figure_number` meets its contract.
 
 pub make_digest-requires : goal.make_digest-requires
 make_digest-requires c = record { opened = c.requires.0; output = digest-small c.requires.0; room = c.requires.1 }

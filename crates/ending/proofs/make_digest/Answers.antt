@@ -4,10 +4,7 @@ use lib.ListN.{get_or}
 use Rattle.climb.specs.OpenArea.{open_range}
 use Rattle.ending.specs.EndLaws.{digest-room, digest-written}
 use native.Mathlib.Omega.{arith}
-use borrow.Author.Rules.{rules}
 use Rattle.ending.proofs.make_digest.Goals as goal
-
--- `ending::make_digest` meets its contract.
 
 pub write_digest-requires : goal.write_digest-requires
 write_digest-requires c =
@@ -19,6 +16,6 @@ returns c =
     let a = c.args in
     let area = a.area.now in (
       c.write_digest.ensures ∙ digest-written area a.digest.now c.make-root.result (get_or area 3 0)
-          c.requires.opened.long refl c.make-root.ensures.0,
-      c.make-root.ensures.1,
+          c.requires.opened.long refl c.make-root.ensures.value,
+      c.make-root.ensures.log_after,
     )

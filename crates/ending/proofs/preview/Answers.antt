@@ -5,8 +5,6 @@ use Rattle.calls.proofs.CallLaws.{preview-passed, preview-refused, preview-accep
 use Rattle.calls.proofs.LogWords.{last_bound}
 use Rattle.ending.proofs.preview.Goals as goal
 
--- `ending::preview` meets its contract: one equation for every area and output.
-
 pub returns-then-number-ne0 : goal.returns-then-number-ne0
 returns-then-number-ne0 c =
     let a = c.args in

@@ -2,10 +2,7 @@
 use Rattle.refusals.specs.RefusalLaws.{answer_refused}
 use Rattle.hash.specs.Hash.{default_rounds_of}
 use mathlib.Core.Path.{sym, ◌∙◌}
-use borrow.Author.Rules.{rules}
 use Rattle.hash.proofs.default_rounds.Goals as goal
-
--- `hash::default_rounds` meets its contract.
 
 pub returns-then-number-ne0 : goal.returns-then-number-ne0
 unfolding default_rounds_of

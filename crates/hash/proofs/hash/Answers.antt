@@ -1,50 +1,41 @@
 -- `hash::hash` meets its contract: one equation for every input.
 use mathlib.Core.Path.{◌≡◌, sym, ap, ◌∙◌}
-use borrow.Author.Rules.{rules}
-use Rattle.bits.specs.Piece.{piece_of}
+use Rattle.std.proofs.Common.{List, ℕ, length}
+use Rattle.bits.specs.Piece.{Piece, piece_of}
 use Rattle.tree.specs.Sizes.{tree_nodes}
 use Rattle.refusals.specs.declared.Params.{Params}
 use Rattle.hash.specs.Hash.{hash_number, hash_of}
-use Rattle.hash.specs.Accepted.{with_key}
+use Rattle.hash.specs.Accepted.{with_key, number_for}
 use Rattle.hash.proofs.HashLaws.{number_for_lem, number-accepted, hash_refused, hash_accepted}
 use Rattle.hash.proofs.hash.Goals as goal
 
--- `hash::hash` meets its contract: one equation for every input.
-
 -- the number is that of the definition, by the parameters that were made
-numbered : (c : tie.After-hash-number)
-    → (let new = c.before.before in
-    let a = new.before.before.before.before.args in
-    let m = piece_of a.message.now a.start a.bits in
-    c.hash-number.result ≡ hash_number m (with_key a.key.now new.new.result) a.digest.now)
-numbered c =
-    let new = c.before.before in
-    let a = new.before.before.before.before.args in
-    c.hash-number.ensures
-    ∙ number_for_lem (piece_of a.message.now a.start a.bits) a.key.now new.new.result a.digest.now
-    (ap (λ (p : Params). p.keylen) new.new.ensures)
+numbered : (m : Piece) (key : List ℕ) (params : Params) (d limit rounds : ℕ) (out : List ℕ) (number : ℕ)
+    → params ≡ record { keylen = length key; d = d; limit = limit; rounds = rounds } → number ≡ number_for m params out
+    → number ≡ hash_number m (with_key key params) out
+numbered m key params d limit rounds out number p e = e ∙ number_for_lem m key params out (ap (λ (p : Params). p.keylen) p)
 
 pub returns-then-number-ne0 : goal.returns-then-number-ne0
 returns-then-number-ne0 c =
     let a = c.args in
     let m = piece_of a.message.now a.start a.bits in
     rw (c.refused.ensures.0, c.refused.ensures.1)
-    (hash_refused m (with_key a.key.now c.new-params.result) a.digest.now _ (numbered c) c.if-number-ne0.taken
+    (hash_refused m (with_key a.key.now c.new-params.result) a.digest.now _ (numbered _ _ _ _ _ _ _ _ c.new-params.ensures c.hash_number-number.ensures) c.if-number-ne0.true
     ∙ ap (λ (p : Params). hash_of m (with_key a.key.now p) a.digest.now) c.new-params.ensures)
 
 pub put_digest-requires : goal.put_digest-requires
-put_digest-requires c = (number-accepted _ _ _ (sym (numbered c) ∙ c.if-number-ne0.left), ap (λ (p : Params). p.keylen) c.new-params.ensures)
+put_digest-requires c = (number-accepted _ _ _ (sym (numbered _ _ _ _ _ _ _ _ c.new-params.ensures c.hash_number-number.ensures) ∙ c.if-number-ne0.false), ap (λ (p : Params). p.keylen) c.new-params.ensures)
 
 pub tree_nodes-requires : goal.tree_nodes-requires
 tree_nodes-requires c =
     rw (ap (λ (p : Params). p.limit) c.new-params.ensures) at
-    (number-accepted _ _ _ (sym (numbered c) ∙ c.if-number-ne0.left)).ranges.limit_high
+    (number-accepted _ _ _ (sym (numbered _ _ _ _ _ _ _ _ c.new-params.ensures c.hash_number-number.ensures) ∙ c.if-number-ne0.false)).ranges.limit_high
 
 pub returns : goal.returns
 returns c =
     let a = c.args in
     let m = piece_of a.message.now a.start a.bits in
     rw (c.accepted.ensures.0, c.accepted.ensures.1)
-    (hash_accepted m (with_key a.key.now c.new-params.result) a.digest.now _ _ (sym (numbered c) ∙ c.if-number-ne0.left)
+    (hash_accepted m (with_key a.key.now c.new-params.result) a.digest.now _ _ (sym (numbered _ _ _ _ _ _ _ _ c.new-params.ensures c.hash_number-number.ensures) ∙ c.if-number-ne0.false)
     (c.tree_nodes.ensures ∙ ap (λ (p : Params). tree_nodes p.limit a.bits) (sym c.new-params.ensures)) c.put_digest.ensures
     ∙ ap (λ (p : Params). hash_of m (with_key a.key.now p) a.digest.now) c.new-params.ensures)

@@ -1,30 +1,11 @@
 -- `hash::hash_number` meets its contract.
-use mathlib.Core.Bool.{Bool, true, false, cond}
-use mathlib.Core.Path.{◌≡◌, sym, ◌∙◌}
-use borrow.Author.Rules.{rules}
+use mathlib.Core.Bool.{true, false}
+use mathlib.Core.Path.{sym, ◌∙◌}
 use borrow.Author.Tests.{lt-ltb, le-ltb}
-use lib.Dec.{ltb}
-use lib.ListN.{length}
 use Rattle.bits.specs.PieceLaws.{spanned}
 use Rattle.refusals.specs.RefusalLaws.{in_range}
-use Rattle.hash.specs.Accepted.{number_for}
 use Rattle.hash.proofs.HashLaws.{number-bits, number-ranges, number-output}
 use Rattle.hash.proofs.hash_number.Goals as goal
-
--- `hash::hash_number` meets its contract.
-
--- neither the bits nor the parameters are refused: the output decides
-decided : (c : tie.After-digest-bytes) (short : Bool)
-    → (let a = c.before.before.before.before.before.before.before.args in
-    ltb (length a.digest.now) c.digest-bytes.result ≡ short
-    → cond short 9 0 ≡ number_for (spanned a.message.now a.span) a.params a.digest.now)
-decided c short e =
-    let params = c.before.before in
-    let test = params.before in
-    let a = test.before.before.before.before.args in
-    number-output (spanned a.message.now a.span) a.params a.digest.now
-    (sym test.before.refused-bits.ensures ∙ test.if1.false) (sym params.params-number.ensures ∙ c.before.if2.false)
-    short (rw c.digest-bytes.ensures at e)
 
 pub returns-then-refused_bits : goal.returns-then-refused_bits
 returns-then-refused_bits c =
@@ -44,7 +25,15 @@ digest_bytes-requires c =
     (in_range p.keylen p.d p.limit p.rounds (sym c.params_number-number.ensures ∙ c.if-number-ne0.false)).d_high
 
 pub returns-then-digest-digest_bytes : goal.returns-then-digest-digest_bytes
-returns-then-digest-digest_bytes c = decided c true (lt-ltb _ _ c.if-digest-digest_bytes.true)
+returns-then-digest-digest_bytes c =
+    let a = c.args in
+    number-output (spanned a.message.now a.span) a.params a.digest.now
+    (sym c.refused_bits.ensures ∙ c.if-refused_bits.false) (sym c.params_number-number.ensures ∙ c.if-number-ne0.false)
+    true (rw c.digest_bytes.ensures at (lt-ltb _ _ c.if-digest-digest_bytes.true))
 
 pub returns : goal.returns
-returns c = decided c false (le-ltb _ _ c.if-digest-digest_bytes.false)
+returns c =
+    let a = c.args in
+    number-output (spanned a.message.now a.span) a.params a.digest.now
+    (sym c.refused_bits.ensures ∙ c.if-refused_bits.false) (sym c.params_number-number.ensures ∙ c.if-number-ne0.false)
+    false (rw c.digest_bytes.ensures at (le-ltb _ _ c.if-digest-digest_bytes.false))

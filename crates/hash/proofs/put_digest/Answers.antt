@@ -11,10 +11,7 @@ use Prim.Native.Nat.{ℕ}
 use mathlib.Core.List.{List, ◌++◌}
 use mathlib.Core.Path.{◌≡◌, ap, ◌∙◌}
 use native.Mathlib.Omega.{arith}
-use borrow.Author.Rules.{rules}
 use Rattle.hash.proofs.put_digest.Goals as goal
-
--- `hash::put_digest` meets its contract: the root worked out node by node is the root of the levels.
 
 pub root-root-requires : goal.root-root-requires
 root-root-requires c =
@@ -23,7 +20,7 @@ root-root-requires c =
     let bytes = bytes_below a.key.now c.type_inv.key in
     let ready = key-ready a.key.now a.params bytes c.requires.1 c.requires.0.ranges in
     record {
-      ready = rw c.key_words-k.ensures (ready first.result first.ensures (omega (arith, first.type-inv)));
+      ready = rw c.key_words-k.ensures (ready first.result first.ensures (omega (arith, first.type_inv)));
       enough = c.requires.0.enough;
     }
 
@@ -33,7 +30,7 @@ returns c =
     let M = span_bits a.message.now a.span in
     let bytes = bytes_below a.key.now c.type_inv.key in
     let P = with_key a.key.now a.params in
-    let e : tree_params record { c = c.key_words-k.result; params = a.params } ≡ with_key a.key.now a.params =
+    let e : tree_params record { k = c.key_words-k.result; params = a.params } ≡ with_key a.key.now a.params =
     rw c.key_words-k.ensures (params-key a.key.now a.params bytes c.requires.1 c.requires.0.ranges) in
     c.write_digest.ensures
     ∙ ap (λ (w : List ℕ). w ++ drop (digest_bytes a.params.d) a.out.now)

@@ -8,16 +8,13 @@ use mathlib.Core.List.{List}
 use mathlib.Core.Path.{◌∙◌, ap, sym}
 use lib.ListN.{length}
 use native.Mathlib.Omega.{arith}
-use borrow.Author.Rules.{rules}
 use Rattle.nodes.proofs.leaf_block.Goals as goal
-
--- `nodes::leaf_block` meets its contract.
 
 pub taken-n-requires : goal.taken-n-requires
 taken-n-requires c = leaf-index c.args.span.bits c.args.index c.requires.1
 
 pub overflow_mul-byte : goal.overflow_mul-byte
-overflow_mul-byte c = record { fits = omega (arith, leaf-index c.args.span.bits c.args.index c.requires.1, c.ranges.1.0) }
+overflow_mul-byte c = record { fits = omega (arith, leaf-index c.args.span.bits c.args.index c.requires.1) }
 
 pub slice_bounds-fill-end : goal.slice_bounds-fill-end
 slice_bounds-fill-end c = sym (ap length c.new-empty.ensures)

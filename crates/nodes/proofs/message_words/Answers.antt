@@ -4,16 +4,13 @@ use Rattle.shape.specs.ShapeLaws.{message-index}
 use Rattle.nodes.specs.SequentialLaws.{message-filled}
 use mathlib.Core.Path.{◌∙◌}
 use native.Mathlib.Omega.{arith}
-use borrow.Author.Rules.{rules}
 use Rattle.nodes.proofs.message_words.Goals as goal
-
--- `nodes::message_words` meets its contract.
 
 pub taken-n-requires : goal.taken-n-requires
 taken-n-requires c = message-index c.args.span.bits c.args.index c.requires.1
 
 pub overflow_mul-byte : goal.overflow_mul-byte
-overflow_mul-byte c = record { fits = omega (arith, message-index c.args.span.bits c.args.index c.requires.1, c.ranges.1.0) }
+overflow_mul-byte c = record { fits = omega (arith, message-index c.args.span.bits c.args.index c.requires.1) }
 
 pub fill-requires : goal.fill-requires
 fill-requires c =

@@ -7,13 +7,11 @@ use native.Mathlib.Omega.{arith}
 use borrow.Author.Rules.{rules}
 use Rattle.nodes.proofs.one_value.Goals as goal
 
--- `nodes::one_value` meets its contract.
-
 pub compress_node-requires : goal.compress_node-requires
 compress_node-requires c =
     let a = c.args in
-    let i = node-index a.bits a.level a.index (omega (arith, c.ranges.bits.fits)) c.requires.1.0 c.requires.1.2 in
-    (c.requires.0, (c.requires.1.1, i, c.requires.1.3, c.padding-p.ensures.1, search rules))
+    let i = node-index a.bits a.level a.index (omega (arith, c.ranges.bits.fits)) c.requires.in_level.0 c.requires.in_level.2 in
+    (c.requires.ready, (c.requires.in_level.1, i, c.requires.in_level.3, c.padding-p.ensures.1, search rules))
 
 pub returns : goal.returns
 returns c =

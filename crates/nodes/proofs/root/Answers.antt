@@ -7,10 +7,7 @@ use Rattle.bits.specs.PieceLaws.{spanned, span_bits}
 use Prim.Native.Nat.{ℕ, ◌<◌}
 use mathlib.Core.Path.{◌∙◌, ap}
 use native.Mathlib.Omega.{arith}
-use borrow.Author.Rules.{rules}
 use Rattle.nodes.proofs.root.Goals as goal
-
--- `nodes::root` meets its contract.
 
 pub returns-then-limit-top : goal.returns-then-limit-top
 returns-then-limit-top c =
@@ -23,7 +20,7 @@ pub top_value-requires : goal.top_value-requires
 top_value-requires c =
     let e = c.top_level-top.ensures.0 in
     let some : 0 < c.top_level-top.result = omega (arith, e, top_some c.args.span.bits c.args.keyed.params.limit 1) in
-    (c.requires, (some, omega (arith, c.if-limit-top.false, c.requires.ready.range.limit_high)))
+    record { given = c.requires; in_level = (some, omega (arith, c.if-limit-top.false, c.requires.ready.range.limit_high)) }
 
 pub returns : goal.returns
 returns c =

@@ -3,18 +3,13 @@ use Rattle.nodes.specs.SequentialLaws.{chain_more, chain-all}
 use Rattle.node.specs.Words.{tree_params}
 use Rattle.nodes.specs.ValueLaws.{chain-zero}
 use Rattle.shape.specs.Shape.{sequential_nodes}
-use Rattle.nodes.specs.Value.{chain}
 use Rattle.bits.specs.PieceLaws.{spanned, span_bits}
 use Rattle.bits.specs.Bits.{digit}
-use lib.ListN.{length}
 use lib.Dec.{eqb}
-use Prim.Native.Nat.{ℕ, suc, ◌-◌, ◌≤◌}
+use Prim.Native.Nat.{ℕ, suc}
 use mathlib.Core.Path.{◌≡◌, refl, sym, ◌∙◌, ap}
-use borrow.Author.Rules.{rules}
 use native.Mathlib.Omega.{arith}
 use Rattle.nodes.proofs.sequential.Goals as goal
-
--- `nodes::sequential` meets its contract. The loop's invariant: the chain after i nodes.
 
 pub loop-i-init : goal.loop-i-init
 loop-i-init c =
@@ -29,14 +24,14 @@ slice_bounds-sequential_value-end c = sym c.loop-i.invariant.2
 
 pub sequential_value-next-requires : goal.sequential_value-next-requires
 sequential_value-next-requires c =
-    (
-      c.requires,
-      (
+    record {
+      given = c.requires;
+      index_bound = (
         omega (arith, c.sequential_nodes-nodes.ensures, c.loop-i-test.true),
         omega (arith, c.last_flag-z.ensures.1),
         c.loop-i.invariant.2,
-      ),
-    )
+      );
+    }
 
 pub overflow_add-i : goal.overflow_add-i
 overflow_add-i c = omega (arith, c.loop-i-test.true)

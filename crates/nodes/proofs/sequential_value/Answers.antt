@@ -10,19 +10,17 @@ use native.Mathlib.Omega.{arith}
 use borrow.Author.Rules.{rules}
 use Rattle.nodes.proofs.sequential_value.Goals as goal
 
--- `nodes::sequential_value` meets its contract.
-
 pub chained_block-block-requires : goal.chained_block-block-requires
-chained_block-block-requires c = (c.requires.1.2, omega (arith, c.sequential_words-rest.type_inv))
+chained_block-block-requires c = (c.requires.index_bound.2, omega (arith, c.sequential_words-rest.type_inv))
 
 pub compress_node-requires : goal.compress_node-requires
 compress_node-requires c =
     let a = c.args in (
-      c.requires.0.ready,
+      c.requires.given.ready,
       (
-        omega (arith, c.requires.0.ready.range.limit_high),
-        sequential-index a.keyed.params.limit a.span.bits a.index (omega (arith, c.ranges.1.0)) c.requires.1.0,
-        c.requires.1.1,
+        omega (arith, c.requires.given.ready.range.limit_high),
+        sequential-index a.keyed.params.limit a.span.bits a.index (omega arith) c.requires.index_bound.0,
+        c.requires.index_bound.1,
         c.sequential_padding-p.ensures.1,
         search rules,
       ),
@@ -34,5 +32,5 @@ returns c =
     let m = spanned a.message.now a.span in
     c.compress_node.ensures
     ∙ chained-made (tree_params a.keyed) a.keyed.params.limit m a.index a.z _ a.before.now c.chained_block-block.result
-    c.requires.0.enough c.sequential_padding-p.ensures.0
+    c.requires.given.enough c.sequential_padding-p.ensures.0
     (c.chained_block-block.ensures ∙ ap (λ (w : List ℕ). a.before.now ++ w) c.sequential_words-rest.ensures)

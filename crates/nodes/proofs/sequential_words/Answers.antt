@@ -15,10 +15,8 @@ use native.Mathlib.Omega.{arith}
 use borrow.Author.Rules.{rules}
 use Rattle.nodes.proofs.sequential_words.Goals as goal
 
--- `nodes::sequential_words` meets its contract: above L = 0 the first 48 words of those that have room for four children.
-
 pub message_words-requires : goal.message_words-requires
-message_words-requires c = (c.requires.0.enough, rw c.if-limit-eq0.true at c.requires.1)
+message_words-requires c = (c.requires.given.enough, rw c.if-limit-eq0.true at c.requires.index_bound)
 
 pub returns-then-limit-eq0 : goal.returns-then-limit-eq0
 returns-then-limit-eq0 c =
@@ -33,12 +31,12 @@ pub taken-n-requires : goal.taken-n-requires
 taken-n-requires c =
     let a = c.args in
     rw c.nodes_at.ensures
-    (third-index a.keyed.params.limit a.span.bits a.index (omega (arith, c.if-limit-eq0.false)) c.requires.1)
+    (third-index a.keyed.params.limit a.span.bits a.index (omega (arith, c.if-limit-eq0.false)) c.requires.index_bound)
 
 pub overflow_mul-index : goal.overflow_mul-index
 overflow_mul-index c =
     let a = c.args in
-    let i = sequential-index a.keyed.params.limit a.span.bits a.index (omega (arith, c.ranges.1.0)) c.requires.1 in
+    let i = sequential-index a.keyed.params.limit a.span.bits a.index (omega arith) c.requires.index_bound in
     record { fits = omega (arith, i) }
 
 pub values-children-requires : goal.values-children-requires
@@ -46,9 +44,9 @@ values-children-requires c =
     let a = c.args in
     let n = c.taken-n.ensures in
     let some : 0 < a.keyed.params.limit = omega (arith, c.if-limit-eq0.false) in
-    let i = third-index a.keyed.params.limit a.span.bits a.index some c.requires.1 in
-    let high = c.requires.0.ready.range.limit_high in
-    (c.requires.0, (some, omega (arith, high), omega (arith, n), omega (arith, i, n, c.nodes_at.ensures)))
+    let i = third-index a.keyed.params.limit a.span.bits a.index some c.requires.index_bound in
+    let high = c.requires.given.ready.range.limit_high in
+    record { given = c.requires.given; in_level = (some, omega (arith, high), omega (arith, n), omega (arith, i, n, c.nodes_at.ensures)) }
 
 pub slice_bounds-copy-end-2 : goal.slice_bounds-copy-end-2
 slice_bounds-copy-end-2 c = let W = c.values-children.result in sym (length-take-le 48 W (search rules))
@@ -70,5 +68,5 @@ returns c =
     ∙ ap (take 48) c.values-children.ensures
     ∙ child_fewer (level_values P (piece_bits m) limit) 3 (3 * a.index) n (length-values P (piece_bits m) limit some)
     (omega (arith, c.taken-n.ensures))
-    ∙ words_children P limit m a.index n some c.requires.0.enough
+    ∙ words_children P limit m a.index n some c.requires.given.enough
     (c.taken-n.ensures ∙ ap (λ (c : ℕ). taken 3 c a.index) c.nodes_at.ensures)

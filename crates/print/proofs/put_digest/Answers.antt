@@ -1,16 +1,14 @@
 -- `print::put_digest` puts the line of a digest, byte after byte.
-use Prim.Native.Nat.{ℕ, ◌*◌, ◌-◌, ◌≤◌}
+use Prim.Native.Nat.{ℕ, ◌*◌}
 use mathlib.Core.List.{List}
 use mathlib.Core.Path.{◌≡◌, refl, ap, ◌∙◌}
-use lib.ListN.{length, take, set, length-set}
+use lib.ListN.{take, set, length-set}
 use native.Mathlib.Omega.{arith}
 use borrow.Author.Rules.{rules}
 use Rattle.lists.specs.Part.{put}
 use Rattle.print.specs.Print.{byte_digits}
 use Rattle.print.specs.PrintLaws.{bytes-step, digest-stored}
 use Rattle.print.proofs.put_digest.Goals as goal
-
--- `print::put_digest` puts the line of a digest, byte after byte.
 
 pub loop-i-init : goal.loop-i-init
 unfolding mathlib.Core.List.flatten

@@ -1,13 +1,9 @@
 -- `print::put_digest` puts the line of a digest, byte after byte.
-use Prim.Native.Nat.{ℕ, ◌*◌, ◌-◌, ◌≤◌}
-use mathlib.Core.List.{List}
-use mathlib.Core.Path.{◌≡◌, refl, ap, ◌∙◌}
-use lib.ListN.{length, take, set, length-set}
-use native.Mathlib.Omega.{arith}
-use borrow.Author.Rules.{rules}
+use Prim.Native.Nat.{◌*◌, ◌-◌, ◌≤◌}
+use mathlib.Core.Path.{◌≡◌}
+use lib.ListN.{length, take}
 use Rattle.lists.specs.Part.{put}
 use Rattle.print.specs.Print.{byte_digits}
-use Rattle.print.specs.PrintLaws.{bytes-step, digest-stored}
 use Rattle.print.proofs.put_digest.Given as goal
 
 abbrev pub invariant-loop-i : goal.invariant-loop-i

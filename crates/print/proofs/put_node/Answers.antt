@@ -4,13 +4,10 @@ use mathlib.Core.List.{List}
 use mathlib.Core.Path.{ap, ◌∙◌}
 use lib.ListN.{set, length-set}
 use native.Mathlib.Omega.{arith}
-use borrow.Author.Rules.{rules}
 use Rattle.lists.specs.Part.{put}
 use Rattle.digits.specs.Digits.{hex_digits}
 use Rattle.print.specs.PrintLaws.{node-stored}
 use Rattle.print.proofs.put_node.Goals as goal
-
--- `print::put_node` puts the line of a node.
 
 pub put_hex-requires-2 : goal.put_hex-requires-2
 put_hex-requires-2 c = simp length-set (omega arith)
@@ -18,12 +15,12 @@ put_hex-requires-2 c = simp length-set (omega arith)
 pub bounds-text-at-2 : goal.bounds-text-at-2
 bounds-text-at-2 c =
     let s = c.args in
-    omega (arith, length-set c.put_hex.new.0 (s.at + 16) 32)
+    omega (arith, length-set c.put_hex.new.text (s.at + 16) 32)
 
 pub shape_of-text : goal.shape_of-text
 shape_of-text c =
     let s = c.args in
-    simp length-set (omega (arith, length-set c.put_hex.new.0 (s.at + 16) 32))
+    simp length-set (omega (arith, length-set c.put_hex.new.text (s.at + 16) 32))
 
 pub returns : goal.returns
 returns c =

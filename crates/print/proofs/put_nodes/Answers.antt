@@ -1,15 +1,12 @@
 -- `print::put_nodes` puts the lines of nodes, one after the other.
-use Prim.Native.Nat.{ℕ, ◌*◌, ◌-◌, ◌≤◌}
+use Prim.Native.Nat.{ℕ, ◌*◌}
 use mathlib.Core.Path.{◌≡◌, refl, ap, ◌∙◌}
-use lib.ListN.{length}
 use native.Mathlib.Omega.{arith}
 use Rattle.lists.specs.Part.{put}
 use Rattle.print.specs.Print.{line_bytes, node_lines}
 use Rattle.print.specs.PrintLaws.{nodes_none, nodes-step}
 use borrow.Author.Rules.{rules}
 use Rattle.print.proofs.put_nodes.Goals as goal
-
--- `print::put_nodes` puts the lines of nodes, one after the other.
 
 pub loop-i-init : goal.loop-i-init
 loop-i-init c = (omega arith, refl, nodes_none _ _)

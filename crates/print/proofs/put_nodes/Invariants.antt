@@ -1,12 +1,9 @@
 -- `print::put_nodes` puts the lines of nodes, one after the other.
-use Prim.Native.Nat.{ℕ, ◌*◌, ◌-◌, ◌≤◌}
-use mathlib.Core.Path.{◌≡◌, refl, ap, ◌∙◌}
+use Prim.Native.Nat.{◌*◌, ◌-◌, ◌≤◌}
+use mathlib.Core.Path.{◌≡◌}
 use lib.ListN.{length}
-use native.Mathlib.Omega.{arith}
 use Rattle.lists.specs.Part.{put}
 use Rattle.print.specs.Print.{line_bytes, node_lines}
-use Rattle.print.specs.PrintLaws.{nodes_none, nodes-step}
-use borrow.Author.Rules.{rules}
 use Rattle.print.proofs.put_nodes.Given as goal
 
 abbrev pub invariant-loop-i : goal.invariant-loop-i

@@ -1,8 +1,6 @@
 -- `refusals::first_of_two` meets its contract.
 use Rattle.refusals.proofs.first_of_two.Goals as goal
 
--- `refusals::first_of_two` meets its contract.
-
 pub returns-then-first : goal.returns-then-first
 returns-then-first c = rw c.if-first.true
 

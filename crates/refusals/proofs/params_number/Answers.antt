@@ -8,8 +8,6 @@ use Rattle.refusals.specs.Refusals.{size_tests, range_tests}
 use Rattle.refusals.specs.RefusalLaws.{first_part, passed}
 use Rattle.refusals.proofs.params_number.Goals as goal
 
--- `refusals::params_number` meets its contract.
-
 pub returns-then-size-ne0 : goal.returns-then-size-ne0
 returns-then-size-ne0 c =
     let p = c.args.params in

@@ -2,8 +2,6 @@
 use borrow.Author.Tests.{lt-ltb, le-ltb}
 use Rattle.refusals.proofs.size_number.Goals as goal
 
--- `refusals::size_number` meets its contract.
-
 pub returns-then-d-lt1 : goal.returns-then-d-lt1
 returns-then-d-lt1 c = simp (lt-ltb _ _ c.if-d-lt1.true)
 

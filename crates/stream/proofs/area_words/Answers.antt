@@ -7,8 +7,6 @@ use Rattle.calls.specs.Area.{area_words}
 use Rattle.calls.specs.Calls.{area_words_of}
 use Rattle.stream.proofs.area_words.Goals as goal
 
--- `stream::area_words` meets its contract: one equation for every limit.
-
 pub returns-then-limit-gt-MOST_LIMIT : goal.returns-then-limit-gt-MOST_LIMIT
 unfolding area_words_of
 returns-then-limit-gt-MOST_LIMIT c =

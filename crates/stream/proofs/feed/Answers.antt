@@ -1,11 +1,8 @@
 -- `stream::feed` meets its contract: one equation for every area, piece and log.
-use native.Mathlib.Omega.{arith}
 use mathlib.Core.Path.{sym, ◌∙◌}
 use Rattle.bits.specs.Piece.{piece_of}
 use Rattle.calls.proofs.CallLaws.{feed-passed, feed-refused, feed-accepted}
 use Rattle.stream.proofs.feed.Goals as goal
-
--- `stream::feed` meets its contract: one equation for every area, piece and log.
 
 pub returns-then-number-ne0 : goal.returns-then-number-ne0
 returns-then-number-ne0 c =

@@ -4,15 +4,9 @@ use mathlib.Core.Path.{◌≡◌, ap, ◌∙◌}
 use lib.Dec.{leb}
 use Rattle.calls.specs.Area.{own_levels}
 use Rattle.calls.proofs.AreaLaws.{limit-word}
-use Rattle.area.specs.SoundLaws.{LongSound, sound-passed}
+use Rattle.area.specs.SoundLaws.{sound-passed}
 use Rattle.stream.specs.LevelLaws.{shown-refused, shown_low, shown_high}
 use Rattle.stream.proofs.is_shown.Goals as goal
-
--- `stream::is_shown` meets its contract.
-
--- what is known after the first test
-abbrev known : (e : tie.Else1) → LongSound e.before.before.before.args.area.now
-known e = sound-passed e.before.before.before.args.area.now e.before.sound-number.ensures e.if1.false
 
 pub returns-then-sound_number-ne0 : goal.returns-then-sound_number-ne0
 returns-then-sound_number-ne0 c =
@@ -20,13 +14,13 @@ returns-then-sound_number-ne0 c =
     shown-refused a.area.now a.level c.sound_number.ensures c.if-sound_number-ne0.true
 
 pub returns-then-level-lt1 : goal.returns-then-level-lt1
-returns-then-level-lt1 c = let a = c.args in shown_low a.area.now a.level (known c) c.if-level-lt1.true
+returns-then-level-lt1 c = let a = c.args in shown_low a.area.now a.level (sound-passed c.args.area.now c.sound_number.ensures c.if-sound_number-ne0.false) c.if-level-lt1.true
 
 pub bounds-area-4 : goal.bounds-area-4
-bounds-area-4 c = omega (arith, (known c).long)
+bounds-area-4 c = omega (arith, (sound-passed c.args.area.now c.sound_number.ensures c.if-sound_number-ne0.false).long)
 
 pub returns : goal.returns
 returns c =
     let a = c.args in
     let n : c.levels.result ≡ own_levels a.area.now = omega (arith, c.levels.ensures, limit-word a.area.now) in
-    ap (leb a.level) n ∙ shown_high a.area.now a.level (known c) c.if-level-lt1.false
+    ap (leb a.level) n ∙ shown_high a.area.now a.level (sound-passed c.args.area.now c.sound_number.ensures c.if-sound_number-ne0.false) c.if-level-lt1.false

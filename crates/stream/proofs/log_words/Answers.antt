@@ -5,8 +5,6 @@ use Rattle.calls.proofs.CallLaws.{log_words-refused, log_words-accepted, log_wor
 use Rattle.numbers.specs.NumberLaws.{words-fit}
 use Rattle.stream.proofs.log_words.Goals as goal
 
--- `stream::log_words` meets its contract: one equation for every area and bit count.
-
 pub returns-then-number-ne0 : goal.returns-then-number-ne0
 returns-then-number-ne0 c =
     let a = c.args in

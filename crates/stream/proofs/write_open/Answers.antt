@@ -6,8 +6,6 @@ use Rattle.stream.specs.OpenLaws.{open_written}
 use native.Mathlib.Omega.{arith}
 use Rattle.stream.proofs.write_open.Goals as goal
 
--- `stream::write_open` meets its contract.
-
 pub bounds-area-0 : goal.bounds-area-0
 bounds-area-0 c = omega (arith, c.requires.0)
 
@@ -31,12 +29,6 @@ slice_bounds-clear-start c = omega (arith, c.words-e.ensures)
 
 pub slice_bounds-clear-end : goal.slice_bounds-clear-end
 slice_bounds-clear-end c = simp length-set (omega (arith, c.words-e.ensures, c.requires.0))
-
-pub slice_bounds-fill-end : goal.slice_bounds-fill-end
-slice_bounds-fill-end c = rw c.area-1.given.1 (simp length-set (omega arith))
-
-pub shape_of-area : goal.shape_of-area
-shape_of-area c = c.area-2-1.given.1 ∙ c.area-1.given.1 ∙ simp length-set
 
 pub returns : goal.returns
 returns c =

@@ -1,10 +1,7 @@
 -- `line::State::step` meets its contract: the test for a space is the definition's.
 use Rattle.line.specs.Fold.{step_of}
 use borrow.Author.Tests.{eq-eqb, ne_eqb}
-use borrow.Author.Rules.{rules}
 use Rattle.line.proofs.State.step.Goals as goal
-
--- `line::State::step` meets its contract: the test for a space is the definition's.
 
 pub returns-then-b-eq32 : goal.returns-then-b-eq32
 unfolding step_of
