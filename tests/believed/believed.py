@@ -510,7 +510,7 @@ CLAUSE = re.compile(r" +(?:requires|ensures|decreases)(?: \w+)? \{ .* \}")
 OPENED = re.compile(r" +(?:requires|ensures|decreases)(?: \w+)? \{ ")
 ITEM = re.compile(r"\b(?:ghost|requires|ensures|decreases|fn|impl|trait|mod|use|extern|macro_rules)\b")
 # the attributes that a source may have, each on a line of its own: none of them says what is compiled or under which name but the last
-ATTRIBUTE = re.compile(r" *#!?\[(?:tactic\([\w, ():'{}◌≡-]*\)|derive\([\w, ]+\)|repr\(C\)|unsafe\(no_mangle\))\]")
+ATTRIBUTE = re.compile(r" *#!?\[(?:tactic\([\w, ():'{}◌≡-]*\)|derive\([\w, ]+\)|repr\(C\)|unsafe\(no_mangle\)|test)\]")
 EXPORTED = "#[unsafe(no_mangle)]"
 
 
@@ -562,6 +562,7 @@ class Source:
                 mod = re.fullmatch(r"(?:pub )?mod (\w+);", line)
                 use = re.fullmatch(r"use (?:\w+::)*(?:(\w+)|\{(\w+(?:, \w+)*)\});", line)
                 passed = re.fullmatch(r"pub use (\w+)::(?:(\w+)|\{(\w+(?:, \w+)*)\});", line)
+                items = re.sub(r"(\w+: (?:&(?:mut )?)?)impl (?=[A-Z]\w*\b)", r"\1", line)  # a parameter of any type that has a trait is no item
                 if line.lstrip().startswith("#") and not ATTRIBUTE.fullmatch(line):
                     raise Unreadable("not read: " + line.strip())
                 if (last == EXPORTED) != (fn is not None and "extern" in fn.group(1)):
@@ -573,7 +574,7 @@ class Source:
                     seen.append(own.group(1))
                 if depth == 0 and re.match(r"(?:pub )?enum\b", line):
                     within = "enum"
-                if fn and (depth == 0 or depth == 1 and within not in ("", "enum")) and not ITEM.search(line, fn.end(2)):
+                if fn and (depth == 0 or depth == 1 and within not in ("", "enum")) and not ITEM.search(items, fn.end(2)):
                     declared.append((within + "::" if depth else "") + fn.group(2))
                     found.append((size + fn.end(2), fn.group(1), declared[-1]))
                 elif impl and depth == 0:
@@ -587,7 +588,7 @@ class Source:
                     for passes in (passed.group(2) or passed.group(3)).split(", "):
                         self.uses[passes] = passed.group(1)
                         brought.append(passes)
-                elif ITEM.search(line):
+                elif ITEM.search(items):
                     raise Unreadable("not read: " + line.strip())
             code.append(line)
             size += len(line) + 1
@@ -1478,8 +1479,16 @@ def self_test(root):
             [define("twisted"), (spec, r"^(?=use )", "use %s.{twisted as %s}\n" % (helps, in_spec))],
             "%s: `%s` is brought in or declared twice" % (listed, in_spec),
         ),
-        ("a constant with the name of a definition", [(source, r"\Z", "const %s: u64 = 0;\n" % word)], "%s: `%s` is brought in or declared twice" % (source, word)),
-        ("a variant with the name of a definition", [(source, r"\Z", "enum Decoy {\n    %s,\n}\n" % word)], "%s: `%s` is brought in or declared twice" % (source, word)),
+        (
+            "a constant with the name of a definition",
+            [(source, r"\Z", "const %s: u64 = 0;\n" % word)],
+            "%s: `%s` is brought in or declared twice" % (source, word),
+        ),
+        (
+            "a variant with the name of a definition",
+            [(source, r"\Z", "enum Decoy {\n    %s,\n}\n" % word)],
+            "%s: `%s` is brought in or declared twice" % (source, word),
+        ),
         ("another word for what is answered", [bring(".{twisted as result}")], "%s: `result` is brought in or declared twice" % source),
         (
             "an operator with the parts of another",

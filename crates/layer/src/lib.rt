@@ -83,7 +83,7 @@ pub fn place(layer: Layer, index: u64) -> Place
 // outputs of its children, which stand in the words.
 pub fn fill(part: &mut [u64], message: &[u8], words: &[u64], layer: Layer, index: u64)
     requires source { Source message.now words.now layer × (layer.size * index ≤ layer.span.bits) }
-    requires part_value { (part.old ≡ replicate (length part.old) 0) × (64 * length part.old ≡ layer.size) }
+    requires part { (part.old ≡ replicate (length part.old) 0) × (64 * length part.old ≡ layer.size) }
     ensures { part.new
         ≡ numbers 64 (length part.old) (taken_at message.now words.now layer index) }
 {

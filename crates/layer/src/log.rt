@@ -9,7 +9,7 @@ use refusals::Params;
 // Writes U and V of a layer's nodes to the log from a place on. Answers the place after them.
 pub fn put_layer(log: &mut [u64], at: usize, params: Params, layer: Layer) -> usize
     requires in_range { InRange params.keylen params.d params.limit params.rounds × Counted layer }
-    requires layer_in_bounds { at + 2 * nodes_in layer ≤ length log.old }
+    requires room { at + 2 * nodes_in layer ≤ length log.old }
     ensures { (result ≡ at + 2 * nodes_in layer) × LayerLogged params layer at log.old log.new }
 {
     let nodes = super::nodes(layer);

@@ -1,9 +1,6 @@
 -- `layer::place` meets its contract.
-use borrow.Author.Rules.{rules}
 use Rattle.layer.specs.IndexLaws.{some_size, index-room}
 use Rattle.layer.proofs.place.Goals as goal
-
--- `layer::place` meets its contract.
 
 pub nodes-requires : goal.nodes-requires
 nodes-requires c = some_size c.args.layer c.requires.0

@@ -7,8 +7,6 @@ use lib.ListN.{length}
 use lib.Seq.{paste}
 use Rattle.node.proofs.chained_block.Goals as goal
 
--- `node::chained_block` meets its contract.
-
 pub returns : goal.returns
 returns c =
     c.copy-2.ensures

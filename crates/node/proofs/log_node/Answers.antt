@@ -4,8 +4,6 @@ use native.Mathlib.Omega.{arith}
 use lib.ListN.{length-set}
 use Rattle.node.proofs.log_node.Goals as goal
 
--- `node::log_node` meets its contract.
-
 pub bounds-log-at-2 : goal.bounds-log-at-2
 bounds-log-at-2 c = simp length-set (omega arith)
 

@@ -5,8 +5,6 @@ use Prim.Native.Nat.{◌-◌}
 use native.Mathlib.Omega.{arith}
 use Rattle.shape.proofs.blocks_of.Goals as goal
 
--- `shape::blocks_of` meets its contract.
-
 pub returns-then-m-eq0 : goal.returns-then-m-eq0
 returns-then-m-eq0 c = blocks_none c.args.size c.args.m c.requires c.if-m-eq0.true
 

@@ -5,8 +5,6 @@ use mathlib.Core.Path.{◌≡◌, refl}
 use native.Mathlib.Omega.{arith}
 use Rattle.shape.proofs.last_flag.Goals as goal
 
--- `shape::last_flag` meets its contract.
-
 pub returns-then-index-nodes : goal.returns-then-index-nodes
 returns-then-index-nodes c = let e : suc c.args.index ≡ c.args.nodes = omega arith in (rw (eq-eqb (suc c.args.index) c.args.nodes e) refl, omega arith)
 

@@ -6,8 +6,6 @@ use mathlib.Core.Path.{◌≡◌, ◌∙◌, ap, sym}
 use native.Mathlib.Omega.{arith}
 use Rattle.shape.proofs.nodes_at.Goals as goal
 
--- `shape::nodes_at` meets its contract. The loop's invariant: the nodes of the level that is reached.
-
 pub loop-at-init : goal.loop-at-init
 loop-at-init c = (omega arith, omega (arith, c.requires), c.blocks_of-nodes.ensures ∙ sym (level_nodes-one c.args.bits))
 

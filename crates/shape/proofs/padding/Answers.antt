@@ -6,8 +6,6 @@ use mathlib.Core.Path.{◌∙◌, ap}
 use native.Mathlib.Omega.{arith}
 use Rattle.shape.proofs.padding.Goals as goal
 
--- `shape::padding` meets its contract.
-
 pub taken-requires : goal.taken-requires
 taken-requires c = leaf-index c.args.bits c.args.index (rw c.if-level-eq1.true at c.requires.1)
 

@@ -4,8 +4,6 @@ use Rattle.tree.specs.Tree.{blocks}
 use mathlib.Core.Path.{◌∙◌, ap}
 use Rattle.shape.proofs.sequential_nodes.Goals as goal
 
--- `shape::sequential_nodes` meets its contract.
-
 pub returns-then-limit-eq0 : goal.returns-then-limit-eq0
 returns-then-limit-eq0 c = c.blocks_of.ensures ∙ sequential_nodes-zero c.args.limit c.args.bits c.if-limit-eq0.true
 

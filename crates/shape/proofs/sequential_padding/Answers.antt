@@ -6,8 +6,6 @@ use mathlib.Core.Path.{◌∙◌, ap}
 use native.Mathlib.Omega.{arith}
 use Rattle.shape.proofs.sequential_padding.Goals as goal
 
--- `shape::sequential_padding` meets its contract.
-
 pub taken-requires : goal.taken-requires
 taken-requires c = message-index c.args.bits c.args.index (rw c.if-limit-eq0.true at c.requires)
 

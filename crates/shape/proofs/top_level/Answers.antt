@@ -6,8 +6,6 @@ use mathlib.Core.Path.{◌∙◌, ap, sym}
 use native.Mathlib.Omega.{arith}
 use Rattle.shape.proofs.top_level.Goals as goal
 
--- `shape::top_level` meets its contract. The loop's invariant: the top is looked for from this level on.
-
 pub loop-level-init : goal.loop-level-init
 loop-level-init c = let a = c.args in (omega arith, omega arith, c.blocks_of-nodes.ensures ∙ sym (level_nodes-one a.bits), top_start a.limit a.bits)
 

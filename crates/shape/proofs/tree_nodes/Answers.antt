@@ -7,8 +7,6 @@ use mathlib.Core.Path.{◌≡◌, sym, ap, ◌∙◌}
 use native.Mathlib.Omega.{arith}
 use Rattle.shape.proofs.tree_nodes.Goals as goal
 
--- `shape::tree_nodes` meets its contract. The loop's invariant: the sum, with the nodes from this level up, is the tree's number.
-
 pub returns-then-limit-eq0 : goal.returns-then-limit-eq0
 returns-then-limit-eq0 c = c.blocks_of.ensures ∙ nodes-sequential c.args.limit c.args.bits c.if-limit-eq0.true
 

@@ -1,13 +1,11 @@
 -- `words::clear` meets its contract.
-use mathlib.Core.List.{[], ◌++◌, append-nil}
+use mathlib.Core.List.{[], append-nil}
 use mathlib.Core.Path.{◌≡◌, refl, ap, ◌∙◌}
-use Prim.Native.Nat.{ℕ, ◌-◌, ◌≤◌, ◌<◌}
+use Prim.Native.Nat.{ℕ, ◌<◌}
 use lib.ListN.{length, drop, replicate, length-set, drop_of_length-le}
 use borrow.Author.Fill.{fill_none, fill_more}
 use native.Mathlib.Omega.{arith}
 use Rattle.words.proofs.clear.Goals as goal
-
--- `words::clear` meets its contract.
 
 pub loop-i-init : goal.loop-i-init
 loop-i-init c = (omega arith, refl, fill_none _ 0)

@@ -1,14 +1,11 @@
 -- `words::copy` meets its contract. The loop's invariant: the first i words are copied.
-use lib.Seq.{paste, paste-zero, paste-suc}
+use lib.Seq.{paste-zero, paste-suc}
 use lib.ListN.{length, length-set}
 use native.Mathlib.Numerals.{add-one}
-use Prim.Native.Nat.{◌-◌, ◌≤◌}
 use mathlib.Core.Path.{◌≡◌, refl, ◌∙◌}
 use borrow.Author.Rules.{rules}
 use native.Mathlib.Omega.{arith}
 use Rattle.words.proofs.copy.Goals as goal
-
--- `words::copy` meets its contract. The loop's invariant: the first i words are copied.
 
 pub loop-i-init : goal.loop-i-init
 loop-i-init c = (search rules, paste-zero c.args.dst.now c.args.at c.args.src.now, refl)

@@ -1,15 +1,10 @@
 -- `words::same_bytes` compares byte by byte.
-use mathlib.Core.Path.{◌≡◌, refl, sym, ap, ◌∙◌}
+use mathlib.Core.Path.{refl, sym, ap, ◌∙◌}
 use mathlib.Core.Bool.{◌&&◌, and-true}
-use Prim.Native.Nat.{◌-◌, ◌≤◌}
 use lib.Dec.{eqb}
-use lib.ListN.{length, drop}
-use Rattle.lists.specs.Same.{same}
 use Rattle.lists.specs.SameLaws.{same-other-length, same_more, same_end}
 use native.Mathlib.Omega.{arith}
 use Rattle.words.proofs.same_bytes.Goals as goal
-
--- `words::same_bytes` compares byte by byte.
 
 pub returns-then-x-y : goal.returns-then-x-y
 returns-then-x-y c = let a = c.args in same-other-length a.x.now a.y.now (λ e. omega (arith, c.if-x-y.true))

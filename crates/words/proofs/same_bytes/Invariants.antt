@@ -1,12 +1,10 @@
 -- `words::same_bytes` compares byte by byte.
-use mathlib.Core.Path.{◌≡◌, refl, sym, ap, ◌∙◌}
-use mathlib.Core.Bool.{◌&&◌, and-true}
+use mathlib.Core.Path.{◌≡◌}
+use mathlib.Core.Bool.{◌&&◌}
 use Prim.Native.Nat.{◌-◌, ◌≤◌}
 use lib.Dec.{eqb}
 use lib.ListN.{length, drop}
 use Rattle.lists.specs.Same.{same}
-use Rattle.lists.specs.SameLaws.{same-other-length, same_more, same_end}
-use native.Mathlib.Omega.{arith}
 use Rattle.words.proofs.same_bytes.Given as goal
 
 -- what was seen is zero if the bytes so far are the same

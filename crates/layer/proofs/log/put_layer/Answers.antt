@@ -1,23 +1,16 @@
 -- `log::put_layer` meets its contract. The loop's invariant: U and V of i nodes are written.
 use mathlib.Core.Path.{◌≡◌, refl, sym, ◌∙◌}
-use mathlib.Core.Bool.{Bool}
-use mathlib.Core.List.{List}
-use Prim.Native.Nat.{ℕ, ◌+◌, ◌-◌, ◌*◌, ◌≤◌, ◌<◌}
+use Prim.Native.Nat.{◌+◌, ◌*◌, ◌≤◌, ◌<◌}
 use native.Mathlib.Omega.{arith}
 use lib.ListN.{length, replicate, length-set}
-use borrow.Author.Rules.{rules}
-use Rattle.tree.specs.Tree as tree
-use Rattle.node.specs.Words.{sized}
 use Rattle.layer.specs.OneLayer.{nodes_in, layer_nodes}
 use Rattle.layer.specs.IndexLaws.{some_size}
 use Rattle.layer.specs.OverLaws.{fields_fit, log-node, length_level_over}
-use Rattle.layer.specs.LogLaws.{log_up_to, log_none, log-more, log-all}
+use Rattle.layer.specs.LogLaws.{log_none, log-more, log-all}
 use Rattle.layer.proofs.log.put_layer.Goals as goal
 
--- `log::put_layer` meets its contract. The loop's invariant: U and V of i nodes are written.
-
 pub nodes-nodes-requires : goal.nodes-nodes-requires
-nodes-nodes-requires c = some_size c.args.layer c.requires.0.1
+nodes-nodes-requires c = some_size c.args.layer c.requires.in_range.1
 
 pub loop-i-init : goal.loop-i-init
 loop-i-init c =
@@ -25,13 +18,13 @@ loop-i-init c =
     (omega arith, omega arith, refl, λ P X v e. log_none a.at a.log.now (layer_nodes P a.layer X))
 
 pub place-place-requires : goal.place-place-requires
-place-place-requires c = (c.requires.0.1, rw c.nodes-nodes.ensures at c.loop-i-test.true)
+place-place-requires c = (c.requires.in_range.1, rw c.nodes-nodes.ensures at c.loop-i-test.true)
 
 pub log_node-requires : goal.log_node-requires
 log_node-requires c =
     let below : c.loop-i.i < _ = rw c.nodes-nodes.ensures at c.loop-i-test.true in
-    let f = fields_fit c.args.layer c.requires.0.1 c.loop-i.i below c.place-place.result (replicate 64 0) c.place-place.ensures refl in
-    (c.requires.0.0, (f.0, f.1, f.2, f.3, omega (arith, c.loop-i.invariant.1, c.loop-i.invariant.2, c.requires.1, below)))
+    let f = fields_fit c.args.layer c.requires.in_range.1 c.loop-i.i below c.place-place.result (replicate 64 0) c.place-place.ensures refl in
+    record { in_range = c.requires.in_range.0; level_bound = (f.0, f.1, f.2, f.3, omega (arith, c.loop-i.invariant.1, c.loop-i.invariant.2, c.requires.room, below)) }
 
 pub loop-i-preserved : goal.loop-i-preserved
 loop-i-preserved c =
@@ -42,10 +35,10 @@ loop-i-preserved c =
       omega (arith, c.loop-i.invariant.1),
       rw c.log_node.ensures (simp length-set c.loop-i.invariant.2),
       λ P X v e.
-          let n = log-node a.layer c.requires.0.1 i below P X e in
+          let n = log-node a.layer c.requires.in_range.1 i below P X e in
           let ns = layer_nodes P a.layer X in
-          let size = length_level_over P a.layer X e c.requires.0.1.kind in
-          let room : a.at + 2 * length ns ≤ length a.log.now = rw size c.requires.1 in
+          let size = length_level_over P a.layer X e c.requires.in_range.1.kind in
+          let room : a.at + 2 * length ns ≤ length a.log.now = rw size c.requires.room in
           rw (c.log_node.ensures, c.loop-i.invariant.3 P X v e)
           (log-more a.at a.log.now ns room i n.1.made _ _ c.loop-i.to n.1.at
           (rw c.place-place.ensures (sym n.1.u)) (rw c.place-place.ensures (v _ _ ∙ sym n.1.v)) c.loop-i.invariant.1),
@@ -61,6 +54,6 @@ returns c =
       omega (arith, c.loop-i.invariant.1, all),
       λ P X v e.
           let ns = layer_nodes P a.layer X in
-          let n : length ns ≡ nodes_in a.layer = length_level_over P a.layer X e c.requires.0.1.kind in
-          c.loop-i.invariant.3 P X v e ∙ log-all a.at a.log.now ns (rw n c.requires.1) c.loop-i.i (all ∙ sym n) ∙ rw n,
+          let n : length ns ≡ nodes_in a.layer = length_level_over P a.layer X e c.requires.in_range.1.kind in
+          c.loop-i.invariant.3 P X v e ∙ log-all a.at a.log.now ns (rw n c.requires.room) c.loop-i.i (all ∙ sym n) ∙ rw n,
     )

@@ -1,17 +1,13 @@
 -- `log::put_layer` meets its contract. The loop's invariant: U and V of i nodes are written.
-use mathlib.Core.Path.{◌≡◌, refl, sym, ◌∙◌}
+use mathlib.Core.Path.{◌≡◌}
 use mathlib.Core.Bool.{Bool}
 use mathlib.Core.List.{List}
-use Prim.Native.Nat.{ℕ, ◌+◌, ◌-◌, ◌*◌, ◌≤◌, ◌<◌}
-use native.Mathlib.Omega.{arith}
-use lib.ListN.{length, replicate, length-set}
-use borrow.Author.Rules.{rules}
+use Prim.Native.Nat.{ℕ, ◌+◌, ◌-◌, ◌*◌, ◌≤◌}
+use lib.ListN.{length}
 use Rattle.tree.specs.Tree as tree
 use Rattle.node.specs.Words.{sized}
-use Rattle.layer.specs.OneLayer.{nodes_in, layer_nodes}
-use Rattle.layer.specs.IndexLaws.{some_size}
-use Rattle.layer.specs.OverLaws.{fields_fit, log-node, length_level_over}
-use Rattle.layer.specs.LogLaws.{log_up_to, log_none, log-more, log-all}
+use Rattle.layer.specs.OneLayer.{layer_nodes}
+use Rattle.layer.specs.LogLaws.{log_up_to}
 use Rattle.layer.proofs.log.put_layer.Given as goal
 
 abbrev pub invariant-loop-i : goal.invariant-loop-i

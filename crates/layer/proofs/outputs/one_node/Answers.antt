@@ -8,8 +8,6 @@ use Rattle.node.specs.declared.Place.{Place}
 use Rattle.layer.specs.OverLaws.{fields_fit}
 use Rattle.layer.proofs.outputs.one_node.Goals as goal
 
--- `outputs::one_node` meets its contract.
-
 pub place-place-requires : goal.place-place-requires
 place-place-requires c = (c.requires.1.counted, c.requires.2)
 
@@ -26,7 +24,7 @@ put_output-requires c = omega (arith, c.requires.2, c.requires.1.room)
 pub returns : goal.returns
 returns c =
     let a = c.args in
-    let P = tree_params a.keyed in (
-      c.compress_node-output.ensures ∙ ap (λ (p : Place). out_words P (placed P p a.block.now)) c.place-place.ensures,
-      c.put_output.ensures,
-    )
+    let P = tree_params a.keyed in record {
+      output = c.compress_node-output.ensures ∙ ap (λ (p : Place). out_words P (placed P p a.block.now)) c.place-place.ensures;
+      words = c.put_output.ensures;
+    }

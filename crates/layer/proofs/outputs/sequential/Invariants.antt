@@ -1,16 +1,10 @@
 -- `outputs::sequential` meets its contract. The loop's invariant: the outputs of i nodes are written, and the chain is that of the next.
-use mathlib.Core.Path.{◌≡◌, refl, ap, ◌∙◌}
-use Prim.Native.Nat.{suc, ◌-◌, ◌<◌}
-use native.Mathlib.Numerals.{add-one}
-use native.Mathlib.Omega.{arith}
+use mathlib.Core.Path.{◌≡◌}
+use Prim.Native.Nat.{◌-◌, ◌<◌}
 use lib.ListN.{length}
-use borrow.Author.Rules.{rules}
-use Rattle.tree.proofs.OutputLaws.{length-out_words}
 use Rattle.node.specs.Words.{tree_params}
-use Rattle.layer.specs.OneLayer.{source, nodes_in}
-use Rattle.layer.specs.IndexLaws.{length-source}
-use Rattle.layer.specs.OverLaws.{Written, Makes, ChainAt, chain_first, chain_next}
-use Rattle.layer.specs.OverLaws.{written_none, written-fitting, written-source, written-more, written_all, sequential_turn}
+use Rattle.layer.specs.OneLayer.{source}
+use Rattle.layer.specs.OverLaws.{Written, ChainAt}
 use Rattle.layer.proofs.outputs.sequential.Given as goal
 
 abbrev pub invariant-loop-i : goal.invariant-loop-i

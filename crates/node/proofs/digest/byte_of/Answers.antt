@@ -2,7 +2,5 @@
 use Rattle.node.specs.DigestLaws.{byte-value}
 use Rattle.node.proofs.digest.byte_of.Goals as goal
 
--- `node::digest::byte_of` meets its contract.
-
 pub returns : goal.returns
 returns c = byte-value c.args.words.now c.args.j c.requires

@@ -3,7 +3,5 @@ use Rattle.node.specs.DigestLaws.{key-filled}
 use mathlib.Core.Path.{◌∙◌}
 use Rattle.node.proofs.digest.key_words.Goals as goal
 
--- `node::digest::key_words` meets its contract: the filled words are those of the key followed by zero bytes.
-
 pub returns : goal.returns
 returns c = c.fill.ensures ∙ key-filled c.args.key.now c.requires

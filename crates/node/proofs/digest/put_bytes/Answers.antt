@@ -8,8 +8,6 @@ use mathlib.Core.Path.{◌≡◌, refl, ap, ◌∙◌}
 use native.Mathlib.Omega.{arith}
 use Rattle.node.proofs.digest.put_bytes.Goals as goal
 
--- `node::digest::put_bytes` meets its contract. The loop's invariant: the first i bytes are written, the rest is as it was.
-
 pub loop-i-init : goal.loop-i-init
 loop-i-init c = (omega arith, bytes_none c.args.words.now c.args.out.now, refl)
 
