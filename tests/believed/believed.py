@@ -509,7 +509,8 @@ def matching(text, i):
 CLAUSE = re.compile(r" +(?:requires|ensures|decreases)(?: \w+)? \{ .* \}")
 OPENED = re.compile(r" +(?:requires|ensures|decreases)(?: \w+)? \{ ")
 ITEM = re.compile(r"\b(?:ghost|requires|ensures|decreases|fn|impl|trait|mod|use|extern|macro_rules)\b")
-# the attributes that a source may have, each on a line of its own: none of them says what is compiled or under which name but the last
+# the attributes that a source may have, each on a line of its own: none of them says what is compiled, and
+# one under which name a function is exported
 ATTRIBUTE = re.compile(r" *#!?\[(?:tactic\([\w, ():'{}◌≡-]*\)|derive\([\w, ]+\)|repr\(C\)|unsafe\(no_mangle\)|test)\]")
 EXPORTED = "#[unsafe(no_mangle)]"
 
@@ -905,10 +906,13 @@ class Repository:
             self.fail("%s binds %s, which its file brings in" % (label, word))
 
     def ensured(self, key, name):
-        """The clauses that a function ensures, as they would stand on one line, with its parameters numbered."""
+        """The clauses that a function ensures, as they would stand on one line, with its parameters numbered, and what one of them
+        lends written in one way: `#0.now`, and `#0.old` if it is lent to be changed, for `#0.entry.now`."""
         found = [" ".join(text.split()).replace("; }", " }") for kind, text in self.sources[key].functions[name][1] if kind == "ensures"]
         for i, param in enumerate(self.sources[key].order[name]):
             found = [re.sub(r"(?<![\w.])%s(?!\w| =)" % param, "#%d" % i, text) for text in found]
+            now = "#%d.%s" % (i, "old" if param in self.sources[key].changed[name] else "now")
+            found = [re.sub(r"#%d\.entry\.now\b" % i, now, text) for text in found]
         return found
 
     def equation(self, key, name, call, definition):
@@ -1420,6 +1424,11 @@ def self_test(root):
             "an equation that is one with what is left",
             [(source, r"\bdigest\.old(?= \}\n\{\n    let span)", "digest.new")],
             "%s has no equation with hash_of" % call,
+        ),
+        (
+            "an equation with what something lent holds at some time",
+            [(source, r"\bdigest\.old(?= \}\n\{\n    let span)", "digest.now")],
+            "the equation of %s does not have digest as it was on entry" % call,
         ),
         (
             "an equation of something else than what is left",

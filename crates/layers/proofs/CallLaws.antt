@@ -1,19 +1,18 @@
 -- Laws: for the code of the call: its numbers, what an accepted call knows, and the digest.
-use Rattle.std.specs.Prelude.{◌≡◌, Bool, true, false, cond, ℕ, zero, suc, ◌-◌, ◌*◌, ◌≤◌, ◌<◌, eqb, ltb, length, take, drop, replicate}
+use Rattle.std.specs.Prelude.{◌≡◌, Bool, true, false, ℕ, zero, suc, ◌-◌, ◌*◌, ◌≤◌, ◌<◌, eqb, length, take, drop, replicate}
 use Rattle.std.proofs.Math.Path.{refl}
 use Rattle.std.proofs.Common.{sym, ◌∙◌, arith}
-use mathlib.Core.List.{List, [], ◌∷◌, ◌++◌}
+use mathlib.Core.List.{List, [], ◌++◌}
 use borrow.Author.Tests.{le-ltb, ltb-false, eqb-true, eqb-false}
 use Rattle.std.proofs.lemmas.List.{length-replicate}
 use Rattle.bits.specs.Bits.{bits_of, numbers}
 use Rattle.bits.specs.Piece.{Piece, piece_bits}
 use Rattle.bits.specs.PieceLaws.{length-piece_bits}
-use Rattle.tree.specs.Tree.{most_limit, Params, tree, output, root, digest_bytes, digest, blocks, out_words, logged}
+use Rattle.tree.specs.Tree.{most_limit, Params, tree, output, root, digest_bytes, digest, blocks, out_words}
 use Rattle.tree.specs.Sizes.{tree_nodes}
 use Rattle.tree.specs.Vocabulary.{root_level, root_index}
 use Rattle.tree.proofs.Places.{root-place, root-at, tree-output}
 use Rattle.refusals.specs.declared.Params as declared
-use Rattle.refusals.specs.Refusals.{first_refusal}
 use Rattle.refusals.specs.RefusalLaws.{passed-by, passed, first_part, second-part, answer_refused}
 use Rattle.hash.specs.Hash.{hash_tests, hash_number}
 use Rattle.hash.proofs.HashLaws as whole
@@ -23,7 +22,7 @@ use Rattle.layers.specs.Layers.{layer_order, words_after, lent_tests, layers_num
 use Rattle.layers.proofs.LayerLaws.{given-words, given-nodes, then_lent, layers_accepted}
 use Rattle.layers.proofs.Highest.{root-words}
 use Rattle.layer.specs.OneLayer.{size_of}
-use Rattle.layers.specs.Accepted.{Room, lent_number, Accepted, number_for, AllPut}
+use Rattle.layers.specs.Accepted.{lent_number, Accepted, number_for, AllPut}
 
 -- ---- how many words
 

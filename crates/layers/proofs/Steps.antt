@@ -12,13 +12,13 @@ use Rattle.bits.specs.Piece.{Piece, piece_of, piece_bits}
 use Rattle.bits.specs.PieceLaws.{Fits, length-piece_bits}
 use Rattle.bits.specs.declared.Span.{Span}
 use Rattle.tree.specs.Tree.{block_bits, sequential_bits, output_bits, most_levels, Params, Node, tree, blocks, joined_outputs}
-use Rattle.tree.specs.Tree.{out_words, node_log, logged}
+use Rattle.tree.specs.Tree.{out_words, node_log}
 use Rattle.tree.specs.Place.{level_at}
 use Rattle.tree.specs.Kind.{level_bits}
 use Rattle.tree.proofs.KindLaws.{tree-parallel, tree-sequential}
 use Rattle.tree.proofs.TreeLaws.{Sized, nil, cons, length-joined, parallel-sized, levels_some}
 use Rattle.tree.proofs.Places.{levels-height, root-at}
-use Rattle.tree.specs.Vocabulary.{height_from, tree_height, root_index}
+use Rattle.tree.specs.Vocabulary.{height_from, tree_height}
 use Rattle.tree.proofs.Count.{level_nodes, level_nodes-one, level_nodes-suc, tree-height}
 use Rattle.node.specs.declared.Keyed.{Keyed}
 use Rattle.node.specs.Words.{tree_params}
@@ -26,7 +26,7 @@ use Rattle.node.specs.WordLaws.{limit_of}
 use Rattle.shape.specs.Shape.{top_from, top_level}
 use Rattle.tree.proofs.OutputLaws.{length-node_log, node_log-append, words-bits}
 use Rattle.layer.specs.declared.Layer.{Layer}
-use Rattle.layers.specs.Layers.{layer_order, words_used, words_after, first_nodes}
+use Rattle.layers.specs.Layers.{words_used, first_nodes}
 use Rattle.layers.specs.Accepted.{Room, AllMade}
 use Rattle.layers.proofs.LayerLaws.{first-level}
 use Rattle.layers.proofs.Laid.{laid, laid_snoc, laid-highest, levels-narrow}

@@ -2,11 +2,8 @@
 use mathlib.Core.Path.{◌≡◌}
 use Prim.Native.Nat.{◌+◌, ◌*◌, ◌-◌, ◌/◌, ◌%◌}
 use native.Mathlib.Omega.{arith}
-use borrow.Author.Rules.{rules}
 use Rattle.bits.specs.FilledLaws.{filled_then}
 use Rattle.bits.proofs.fill.Goals as goal
-
--- `bits::fill` meets its contract: from the start of a word, within a word, or up to the end of a word and then from the next on.
 
 pub returns-then-offset-eq0 : goal.returns-then-offset-eq0
 returns-then-offset-eq0 c =

@@ -1,11 +1,8 @@
 -- `bits::fill_from` meets its contract: the whole words are filled, and then the rest.
 use Prim.Native.Nat.{◌+◌, ◌*◌, ◌/◌, ◌%◌}
 use native.Mathlib.Omega.{arith}
-use borrow.Author.Rules.{rules}
 use Rattle.bits.specs.FilledLaws.{filled_then}
 use Rattle.bits.proofs.fill_from.Goals as goal
-
--- `bits::fill_from` meets its contract: the whole words are filled, and then the rest.
 
 pub returns : goal.returns
 returns c =

@@ -9,8 +9,6 @@ use Rattle.bits.specs.FilledLaws.{filled_none}
 use Rattle.bits.proofs.Filling.{fill_few}
 use Rattle.bits.proofs.fill_part.Goals as goal
 
--- `bits::fill_part` meets its contract: the store of one word fills a part of it (Filling).
-
 pub returns-then-count-eq0 : goal.returns-then-count-eq0
 returns-then-count-eq0 c =
     let below = words-below c.args.block.now c.type_inv.block in

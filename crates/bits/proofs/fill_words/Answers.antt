@@ -1,16 +1,12 @@
 -- `bits::fill_words` meets its contract. The invariant: the block is filled with the first 64 * i bits; a turn fills one word more (Filling).
 use mathlib.Core.Path.{ap, ◌≡◌, sym, ◌∙◌}
-use Prim.Native.Nat.{◌+◌, ◌*◌, ◌-◌, ◌≤◌}
+use Prim.Native.Nat.{◌+◌, ◌*◌}
 use native.Mathlib.Omega.{arith}
-use borrow.Author.Rules.{rules}
 use lib.ListN.{length}
 use Rattle.lists.specs.Slices.{words-below}
-use Rattle.bits.specs.Bits.{filled}
 use Rattle.bits.specs.FilledLaws.{filled_none, length-filled}
 use Rattle.bits.proofs.Filling.{fill_word}
 use Rattle.bits.proofs.fill_words.Goals as goal
-
--- `bits::fill_words` meets its contract. The invariant: the block is filled with the first 64 * i bits; a turn fills one word more (Filling).
 
 pub loop-i-init : goal.loop-i-init
 loop-i-init c =

@@ -1,13 +1,7 @@
 -- `bits::fill_words` meets its contract. The invariant: the block is filled with the first 64 * i bits; a turn fills one word more (Filling).
-use mathlib.Core.Path.{ap, ◌≡◌, sym, ◌∙◌}
+use mathlib.Core.Path.{◌≡◌}
 use Prim.Native.Nat.{◌+◌, ◌*◌, ◌-◌, ◌≤◌}
-use native.Mathlib.Omega.{arith}
-use borrow.Author.Rules.{rules}
-use lib.ListN.{length}
-use Rattle.lists.specs.Slices.{words-below}
 use Rattle.bits.specs.Bits.{filled}
-use Rattle.bits.specs.FilledLaws.{filled_none, length-filled}
-use Rattle.bits.proofs.Filling.{fill_word}
 use Rattle.bits.proofs.fill_words.Given as goal
 
 abbrev pub invariant-loop-i : goal.invariant-loop-i

@@ -1,10 +1,7 @@
 -- `bits::joined` meets its contract: the shifted bytes share no bit, so that `|` is their sum (Shift).
 use native.Mathlib.Omega.{arith}
-use borrow.Author.Rules.{rules}
 use Rattle.bits.proofs.Shift.{joined_bytes}
 use Rattle.bits.proofs.joined.Goals as goal
-
--- `bits::joined` meets its contract: the shifted bytes share no bit, so that `|` is their sum (Shift).
 
 pub returns : goal.returns
 returns c =

@@ -1,10 +1,7 @@
 -- `bits::load_end` meets its contract, by that of `byte_at`.
 use native.Mathlib.Nat.{add-zero}
-use borrow.Author.Rules.{rules}
 use Rattle.bits.specs.Read.{eight_from}
 use Rattle.bits.proofs.load_end.Goals as goal
-
--- `bits::load_end` meets its contract, by that of `byte_at`.
 
 pub returns : goal.returns
 unfolding eight_from

@@ -6,8 +6,6 @@ use lib.Pow.{pow_pos}
 use Rattle.bits.proofs.Shift.{mask_eq, old_eq, three-parts, replaced_lt, put_eq}
 use Rattle.bits.proofs.put_bits.Goals as goal
 
--- `bits::put_bits` meets its contract: the old bits are taken away and the new ones added, so no other bit changes (Shift).
-
 pub overflow_shl-mask : goal.overflow_shl-mask
 overflow_shl-mask c = search rules
 

@@ -1,11 +1,8 @@
 -- `bits::shifted` meets its contract: the two shifted numbers share no bit (Shift).
 use Prim.Native.Nat.{◌-◌}
 use native.Mathlib.Omega.{arith}
-use borrow.Author.Rules.{rules}
 use Rattle.bits.proofs.Shift.{shifted_in}
 use Rattle.bits.proofs.shifted.Goals as goal
-
--- `bits::shifted` meets its contract: the two shifted numbers share no bit (Shift).
 
 pub returns : goal.returns
 returns c =

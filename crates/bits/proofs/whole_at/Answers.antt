@@ -3,12 +3,9 @@ use mathlib.Core.Path.{◌∙◌}
 use Prim.Native.Nat.{◌*◌}
 use native.Mathlib.Nat.{add-zero}
 use native.Mathlib.Omega.{arith}
-use borrow.Author.Rules.{rules}
 use Rattle.lists.specs.Slices.{bytes_below}
 use Rattle.bits.proofs.Reading.{eight_read, word_read}
 use Rattle.bits.proofs.whole_at.Goals as goal
-
--- `bits::whole_at` meets its contract: eight bytes and the next give any 64 bits that begin in the first byte (Reading).
 
 pub returns-then-bit-eq0 : goal.returns-then-bit-eq0
 returns-then-bit-eq0 c =

@@ -1,12 +1,9 @@
 -- `bits::word_at` meets its contract: the same with bytes past the end as 0 (Reading).
 use mathlib.Core.Path.{◌∙◌}
 use native.Mathlib.Omega.{arith}
-use borrow.Author.Rules.{rules}
 use Rattle.lists.specs.Slices.{bytes_below}
 use Rattle.bits.proofs.Reading.{word_read}
 use Rattle.bits.proofs.word_at.Goals as goal
-
--- `bits::word_at` meets its contract: the same with bytes past the end as 0 (Reading).
 
 pub returns-then-bytes-byte-ge9 : goal.returns-then-bytes-byte-ge9
 returns-then-bytes-byte-ge9 c =

@@ -1,10 +1,7 @@
 -- `layer_words` meets its contract.
-use borrow.Author.Rules.{rules}
 use borrow.Author.Tests.{lt-ltb, le-ltb}
 use Rattle.layers.specs.Layers.{layer_words_of}
 use Rattle.layers.proofs.layer_words.Goals as goal
-
--- `layer_words` meets its contract.
 
 pub returns-then-limit-gt-MOST_LIMIT : goal.returns-then-limit-gt-MOST_LIMIT
 unfolding layer_words_of

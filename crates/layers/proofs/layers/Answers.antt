@@ -1,7 +1,10 @@
 -- `layers` meets its contract: one equation for every input.
 use mathlib.Core.Path.{◌≡◌, sym, ap, ◌∙◌}
-use borrow.Author.Rules.{rules}
-use Rattle.bits.specs.Piece.{piece_of}
+use mathlib.Core.List.{List}
+use Prim.Native.Nat.{ℕ}
+use lib.ListN.{length}
+use Rattle.bits.specs.Piece.{Piece, piece_of}
+use Rattle.layers.specs.Accepted.{number_for}
 use Rattle.tree.specs.Sizes.{tree_nodes}
 use Rattle.refusals.specs.declared.Params.{Params}
 use Rattle.hash.specs.Accepted.{with_key}
@@ -9,21 +12,10 @@ use Rattle.layers.specs.Layers.{layers_number, layers_of}
 use Rattle.layers.proofs.CallLaws.{number_for_lem, number-accepted, layers_refused, layers_made}
 use Rattle.layers.proofs.layers.Goals as goal
 
--- `layers` meets its contract: one equation for every input.
-
 -- the number is that of the definition, by the parameters that were made
-numbered : (c : tie.After-layers-number)
-    → (let new = c.before.before.before.before in
-    let a = new.before.before.before.before.before.before.args in
-    let m = piece_of a.message.now a.start a.bits in
-    c.layers-number.result ≡ layers_number m (with_key a.key.now new.new.result) a.words.now a.log.now a.digest.now)
-numbered c =
-    let new = c.before.before.before.before in
-    let a = new.before.before.before.before.before.before.args in
-    let m = piece_of a.message.now a.start a.bits in
-    let keylen = ap (λ (p : Params). p.keylen) new.new.ensures in
-    c.layers-number.ensures
-    ∙ number_for_lem m a.key.now new.new.result a.words.now a.log.now a.digest.now keylen
+numbered : (m : Piece) (key words log digest : List ℕ) (p : Params) {d limit rounds n : ℕ} → p ≡ record { keylen = length key; d = d; limit = limit; rounds = rounds }
+    → n ≡ number_for m p words log digest → n ≡ layers_number m (with_key key p) words log digest
+numbered m key words log digest p e f = f ∙ number_for_lem m key p words log digest (ap (λ (q : Params). q.keylen) e)
 
 pub returns-then-number-ne0 : goal.returns-then-number-ne0
 returns-then-number-ne0 c =
@@ -32,18 +24,18 @@ returns-then-number-ne0 c =
     let P = with_key a.key.now c.new-params.result in
     rw (c.refused.ensures.0, c.refused.ensures.1)
     (layers_refused m P a.words.now a.log.now a.digest.now
-    c.layers_number-number.result (numbered c) c.if-number-ne0.taken
+    c.layers_number-number.result (numbered (piece_of c.args.message.now c.args.start c.args.bits) c.args.key.now c.args.words.now c.args.log.now c.args.digest.now c.new-params.result c.new-params.ensures c.layers_number-number.ensures) c.if-number-ne0.true
     ∙ ap (λ (p : Params). layers_of m (with_key a.key.now p) a.words.now a.log.now a.digest.now) c.new-params.ensures)
 
 pub put_layers-requires : goal.put_layers-requires
 put_layers-requires c =
     let keylen = ap (λ (p : Params). p.keylen) c.new-params.ensures in
-    (number-accepted _ _ _ _ _ (sym (numbered c) ∙ c.if-number-ne0.left), keylen)
+    (number-accepted _ _ _ _ _ (sym (numbered (piece_of c.args.message.now c.args.start c.args.bits) c.args.key.now c.args.words.now c.args.log.now c.args.digest.now c.new-params.result c.new-params.ensures c.layers_number-number.ensures) ∙ c.if-number-ne0.false), keylen)
 
 pub tree_nodes-requires : goal.tree_nodes-requires
 tree_nodes-requires c =
     rw (ap (λ (p : Params). p.limit) c.new-params.ensures) at
-    (number-accepted _ _ _ _ _ (sym (numbered c) ∙ c.if-number-ne0.left)).whole.ranges.limit_high
+    (number-accepted _ _ _ _ _ (sym (numbered (piece_of c.args.message.now c.args.start c.args.bits) c.args.key.now c.args.words.now c.args.log.now c.args.digest.now c.new-params.result c.new-params.ensures c.layers_number-number.ensures) ∙ c.if-number-ne0.false)).whole.ranges.limit_high
 
 pub returns : goal.returns
 returns c =
@@ -53,5 +45,5 @@ returns c =
     let count = c.tree_nodes.ensures ∙ ap (λ (p : Params). tree_nodes p.limit a.bits) (sym c.new-params.ensures) in
     rw (c.accepted.ensures.0, c.accepted.ensures.1)
     (layers_made m P a.words.now a.log.now a.digest.now c.tree_nodes.result _ _ _
-    (sym (numbered c) ∙ c.if-number-ne0.left) count c.put_layers.ensures
+    (sym (numbered (piece_of c.args.message.now c.args.start c.args.bits) c.args.key.now c.args.words.now c.args.log.now c.args.digest.now c.new-params.result c.new-params.ensures c.layers_number-number.ensures) ∙ c.if-number-ne0.false) count c.put_layers.ensures
     ∙ ap (λ (p : Params). layers_of m (with_key a.key.now p) a.words.now a.log.now a.digest.now) c.new-params.ensures)

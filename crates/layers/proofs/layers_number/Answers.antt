@@ -1,12 +1,9 @@
 -- `layers_number` meets its contract.
 use mathlib.Core.Path.{sym, ◌∙◌}
-use borrow.Author.Rules.{rules}
 use borrow.Author.Tests.{eq-eqb, ne_eqb}
 use Rattle.bits.specs.PieceLaws.{spanned}
 use Rattle.layers.proofs.CallLaws.{limit_low}
 use Rattle.layers.proofs.layers_number.Goals as goal
-
--- `layers_number` meets its contract.
 
 pub returns-then-number-ne0 : goal.returns-then-number-ne0
 returns-then-number-ne0 c = let whole = c.hash_number-number.ensures in rw (ne_eqb _ 0 (λ z. c.if-number-ne0.true (whole ∙ z))) whole

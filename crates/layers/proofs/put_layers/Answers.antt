@@ -4,7 +4,6 @@ use mathlib.Core.List.{List, ◌++◌}
 use Prim.Native.Nat.{ℕ, ◌+◌, ◌-◌, ◌*◌}
 use native.Mathlib.Omega.{arith}
 use lib.ListN.{drop}
-use borrow.Author.Rules.{rules}
 use Rattle.lists.specs.Slices.{bytes_below}
 use Rattle.bits.specs.PieceLaws.{span_bits}
 use Rattle.tree.specs.Tree.{Params, digest_bytes}
@@ -16,8 +15,6 @@ use Rattle.layers.proofs.Steps.{made_by}
 use Rattle.layers.proofs.CallLaws.{digest-root}
 use Rattle.layers.proofs.put_layers.Goals as goal
 
--- `put_layers` meets its contract.
-
 pub put_levels-nodes-requires : goal.put_levels-nodes-requires
 put_levels-nodes-requires c =
     let first = c.first_part-first in
@@ -25,12 +22,12 @@ put_levels-nodes-requires c =
     let M = span_bits a.message.now a.span in
     let bytes = bytes_below a.key.now c.type_inv.key in
     let ranges = c.requires.0.whole.ranges in
-    let ready = key-ready a.key.now a.params bytes c.requires.1 ranges first.result first.ensures (omega (arith, first.type-inv)) in
+    let ready = key-ready a.key.now a.params bytes c.requires.1 ranges first.result first.ensures (omega (arith, first.type_inv)) in
     let same = params-key a.key.now a.params bytes c.requires.1 ranges in
-    rw c.key_words-k.ensures (
-      (ready, c.requires.0.whole.enough),
-      subst (λ (P : Params). Room P M a.words.now a.log.now) (sym same) c.requires.0.room,
-    )
+    rw c.key_words-k.ensures record {
+      ready = (ready, c.requires.0.whole.enough);
+      room = subst (λ (P : Params). Room P M a.words.now a.log.now) (sym same) c.requires.0.room;
+    }
 
 pub returns : goal.returns
 returns c =
@@ -38,7 +35,7 @@ returns c =
     let P = with_key a.key.now a.params in
     let M = span_bits a.message.now a.span in
     let bytes = bytes_below a.key.now c.type_inv.key in
-    let e : tree_params record { c = c.key_words-k.result; params = a.params } ≡ P =
+    let e : tree_params record { k = c.key_words-k.result; params = a.params } ≡ P =
     rw c.key_words-k.ensures (params-key a.key.now a.params bytes c.requires.1 c.requires.0.whole.ranges) in
     let r = made_by e c.put_levels-nodes.ensures in
     let root = 16 * (c.put_levels-nodes.result - 1) in

@@ -1,27 +1,23 @@
 -- `put_levels` meets its contract. The loop's invariant: so many levels are done, and the next can be made.
 use mathlib.Core.Path.{◌≡◌, refl, ◌∙◌}
-use Prim.Native.Nat.{◌-◌, ◌*◌, ◌<◌}
 use native.Mathlib.Omega.{arith}
 use lib.ListN.{length}
-use borrow.Author.Rules.{rules}
 use Rattle.bits.specs.PieceLaws.{spanned, span_bits}
-use Rattle.tree.specs.Tree.{tree, output_bits}
+use Rattle.tree.specs.Tree.{tree}
 use Rattle.node.specs.Words.{tree_params}
 use Rattle.node.specs.WordLaws.{v-made}
 use Rattle.layer.specs.OneLayer.{source}
 use Rattle.layer.specs.IndexLaws.{some_size, length-source}
-use Rattle.layers.proofs.Steps.{done_none, done_all, top_is, Turn, Going, going}
+use Rattle.layers.proofs.Steps.{done_none, done_all, top_is, Turn, going}
 use Rattle.layers.proofs.put_levels.Goals as goal
-
--- `put_levels` meets its contract. The loop's invariant: so many levels are done, and the next can be made.
 
 pub loop-levels-init : goal.loop-levels-init
 loop-levels-init c =
     let a = c.args in
     let m = spanned a.message.now a.span in
-    let none = done_none (tree_params a.keyed) m a.words.now a.log.now c.requires.0.1 in (
+    let none = done_none (tree_params a.keyed) m a.words.now a.log.now c.requires.ready.1 in (
       going a.keyed m a.words.now a.log.now c.top_level-top.result 0 a.words.now a.log.now 0 a.span.bits
-          c.requires.0.1 (omega (arith, c.ranges.1.0)) c.requires.1 c.top_level-top.ensures none,
+          c.requires.ready.1 (omega arith) c.requires.room c.top_level-top.ensures none,
       λ h. absurd (omega arith),
     )
 
@@ -31,12 +27,12 @@ above-layer-requires c = omega (arith, c.loop-levels-test.true, c.top_level-top.
 pub make-requires : goal.make-requires
 make-requires c =
     let t = c.loop-levels.invariant.0.next c.loop-levels-test.true in
-    (c.requires.0.0, rw c.above-layer.ensures (t.there, t.fitting))
+    record { ready = c.requires.ready.0; source = rw c.above-layer.ensures (t.there, t.fitting) }
 
 pub put_layer-at-requires : goal.put_layer-at-requires
 put_layer-at-requires c =
     let t = c.loop-levels.invariant.0.next c.loop-levels-test.true in
-    rw c.above-layer.ensures ((c.requires.0.0.range, t.fitting.counted), omega (arith, t.log_room))
+    record { in_range = (c.requires.ready.0.range, rw c.above-layer.ensures t.fitting.counted); room = rw c.above-layer.ensures (omega (arith, t.log_room)) }
 
 pub nodes-nodes-requires : goal.nodes-nodes-requires
 nodes-nodes-requires c =
@@ -59,10 +55,10 @@ loop-levels-preserved c =
     let t : Turn a.keyed m a.words.now a.log.now c.loop-levels.levels ws c.loop-levels.log c.loop-levels.at layer =
     rw c.above-layer.ensures (c.loop-levels.invariant.0.next c.loop-levels-test.true) in
     let bits : length X ≡ layer.span.bits = length-source a.message.now ws layer t.there in
-    let put = c.put_layer-at.ensures.1 (tree_params a.keyed) X (v-made c.requires.0.0) bits in (
+    let put = c.put_layer-at.ensures.1 (tree_params a.keyed) X (v-made c.requires.ready.0) bits in (
       going a.keyed m a.words.now a.log.now top.result _ _ _ _ _
-          c.requires.0.1 (omega (arith, c.ranges.1.0)) c.requires.1 top.ensures
-          (rw (c.put_layer-at.ensures.0, c.nodes-nodes.ensures) (t.more _ _ c.make.ensures put c.put_layer-at.auto.0)),
+          c.requires.ready.1 (omega arith) c.requires.room top.ensures
+          (rw (c.put_layer-at.ensures.0, c.nodes-nodes.ensures) (t.more _ _ c.make.ensures put c.put_layer-at.auto.log)),
       λ h. refl,
     )
 
@@ -80,6 +76,6 @@ returns c =
     let d = c.loop-levels.invariant.0.done in
     let last = c.top_level-top in
     let top : last.result ≡ length (tree P (span_bits a.message.now a.span)) =
-    last.ensures.0 ∙ top_is a.keyed m c.requires.0.1 in
+    last.ensures.0 ∙ top_is a.keyed m c.requires.ready.1 in
     done_all P m a.words.now a.log.now c.loop-levels.levels c.loop-levels.words c.loop-levels.log c.loop-levels.at c.loop-levels.bits d
-    (omega (arith, top, d.most, c.loop-levels-test.false)) c.requires.1.words c.loop-levels.nodes c.loop-levels.invariant.1
+    (omega (arith, top, d.most, c.loop-levels-test.false)) c.requires.room.words c.loop-levels.nodes c.loop-levels.invariant.1

@@ -1,16 +1,9 @@
 -- `put_levels` meets its contract. The loop's invariant: so many levels are done, and the next can be made.
-use mathlib.Core.Path.{◌≡◌, refl, ◌∙◌}
+use mathlib.Core.Path.{◌≡◌}
 use Prim.Native.Nat.{◌-◌, ◌*◌, ◌<◌}
-use native.Mathlib.Omega.{arith}
-use lib.ListN.{length}
-use borrow.Author.Rules.{rules}
-use Rattle.bits.specs.PieceLaws.{spanned, span_bits}
-use Rattle.tree.specs.Tree.{tree, output_bits}
-use Rattle.node.specs.Words.{tree_params}
-use Rattle.node.specs.WordLaws.{v-made}
-use Rattle.layer.specs.OneLayer.{source}
-use Rattle.layer.specs.IndexLaws.{some_size, length-source}
-use Rattle.layers.proofs.Steps.{done_none, done_all, top_is, Turn, Going, going}
+use Rattle.bits.specs.PieceLaws.{spanned}
+use Rattle.tree.specs.Tree.{output_bits}
+use Rattle.layers.proofs.Steps.{Going}
 use Rattle.layers.proofs.put_levels.Given as goal
 
 abbrev pub invariant-loop-levels : goal.invariant-loop-levels

@@ -2,14 +2,11 @@
 use mathlib.Core.Path.{◌≡◌, ap, ◌∙◌}
 use Prim.Native.Nat.{ℕ, ◌*◌}
 use native.Mathlib.Omega.{arith}
-use borrow.Author.Rules.{rules}
 use Rattle.layer.specs.OneLayer.{nodes_in}
 use Rattle.layers.specs.Layers.{first_nodes}
 use Rattle.layers.proofs.Steps.{first_small}
 use Rattle.layers.proofs.CallLaws.{first-nodes, first-size}
 use Rattle.layers.proofs.words_used.Goals as goal
-
--- `words_used` meets its contract.
 
 pub nodes-requires : goal.nodes-requires
 nodes-requires c = rw c.above.ensures (first-size c.args.limit)
