@@ -5,17 +5,14 @@
 ghost use Rattle.std.specs.Prelude.{◌<◌, ◌≤◌, length};
 
 use digits::Digit;
-use libc::STDOUT_FILENO;
+use std::io;
 
 // Writes the words on one line.
-fn show(words: &[u64]) {
-    let mut i = 0;
-    while i < words.len() {
-        io::print_hex(STDOUT_FILENO, words[i], 16);
-        io::write_all(STDOUT_FILENO, b" ");
-        i += 1;
+fn show(rt: &impl Print, words: &[u64]) -> io::Result<()> {
+    for word in words {
+        print!(rt; "{word:016x} ")?;
     }
-    io::write_all(STDOUT_FILENO, b"\n");
+    println!(rt; "")
 }
 
 // Byte i of the message.
@@ -26,7 +23,7 @@ fn message_byte(i: usize) -> u8
 }
 
 // One fill, the k-th. The bytes that are lent end with the last byte that is read.
-fn fill_once(message: &[u8], k: usize)
+fn fill_once(rt: &impl Print, message: &[u8], k: usize) -> io::Result<()>
     requires { (33 ≤ length message.now) × (k < 80) }
 {
     let at = k * 11 % 67;
@@ -41,62 +38,54 @@ fn fill_once(message: &[u8], k: usize)
         0xffffffffffffffff,
     ];
     bits::fill(&mut block, at, &message[..end], byte, bit, count);
-    show(&block);
+    show(rt, &block)
 }
 
 fn message() -> [u8; 33] {
     let mut message = [0u8; 33];
-    let mut i = 0;
-    while i < 33 {
+    for i in 0..33 {
         message[i] = message_byte(i);
-        i += 1;
     }
     message
 }
 
-fn fills() {
+fn fills(rt: &impl Print) -> io::Result<()> {
     let message = message();
-    let mut k = 0;
-    while k < 80 {
-        fill_once(&message, k);
-        k += 1;
+    for k in 0..80 {
+        fill_once(rt, &message, k)?;
     }
+    Ok(())
 }
 
 // Each value's digit.
-fn digits() {
-    let mut n = 0;
-    while n < 16 {
+fn digits(rt: &impl Print) -> io::Result<()> {
+    for n in 0..16 {
         let digit = [digits::value_digit(n)];
-        io::write_all(STDOUT_FILENO, &digit);
-        n += 1;
+        rt.write_all(&digit)?;
     }
-    io::write_all(STDOUT_FILENO, b"\n");
+    println!(rt; "")
 }
 
 // The value of a byte that is a digit.
-fn value(b: u8) {
+fn value(rt: &impl Print, b: u8) -> io::Result<()> {
     if let Digit::Value(v) = digits::digit_value(b) {
         let digit = [b];
-        io::write_all(STDOUT_FILENO, &digit);
-        io::write_all(STDOUT_FILENO, b"=");
-        io::print_decimal(STDOUT_FILENO, v);
-        io::write_all(STDOUT_FILENO, b" ");
+        rt.write_all(&digit)?;
+        print!(rt; "={v} ")?;
     }
+    Ok(())
 }
 
 // Every byte that is a digit, with its value.
-fn values() {
-    let mut i = 0usize;
-    while i < 256 {
-        value(i as u8);
-        i += 1;
+fn values(rt: &impl Print) -> io::Result<()> {
+    for b in 0..=u8::MAX {
+        value(rt, b)?;
     }
-    io::write_all(STDOUT_FILENO, b"\n");
+    println!(rt; "")
 }
 
-fn main() {
-    fills();
-    digits();
-    values();
+fn main(rt: HostRuntime) -> io::Result<()> {
+    fills(&rt)?;
+    digits(&rt)?;
+    values(&rt)
 }

@@ -1,5 +1,5 @@
 -- Laws: many bits at once: bits that fit into level 1 fill it and make no node; bits fed in two parts; no bits change nothing.
-use Rattle.std.specs.Prelude.{◌≡◌, refl, Bool, ℕ, zero, suc, ◌+◌, ◌-◌, ◌*◌, ◌^◌, ◌≤◌, ◌<◌, length, take, drop, set}
+use Rattle.std.specs.Prelude.{◌≡◌, refl, Bool, ℕ, zero, suc, ◌+◌, ◌*◌, ◌^◌, ◌≤◌, ◌<◌, length, take, drop, set}
 use Rattle.std.proofs.Common.{sym, ap, ◌∙◌, arith, ne_eqb, length-drop, take-append-drop, length-take-le, take-take, take-add, take-suc-set, drop-set-lt, drop-drop}
 use mathlib.Core.List.{List, [], ◌∷◌, ◌++◌, append_assoc, flatten}
 use Rattle.std.proofs.Math.Seq.{paste, paste-zero}

@@ -9,7 +9,7 @@ use Rattle.std.proofs.Math.ListN.{replicate, length-replicate}
 use Rattle.std.proofs.Math.Seq.{append_snoc}
 use Rattle.lists.specs.Append.{cons_eq}
 use Rattle.lists.specs.Flatten.{map-append}
-use Rattle.tree.specs.Tree.{Params, Node, Mark, Subtree, block_bits, sequential_bits, output_bits, words, node, output, no_chain, levels, last_or, no_node, root_of, root, leaves, most_levels, listing, climb, subtrees, last_index, out_words}
+use Rattle.tree.specs.Tree.{Params, Node, Mark, Subtree, block_bits, sequential_bits, output_bits, words, node, output, no_chain, levels, last_or, no_node, root_of, leaves, most_levels, listing, climb, subtrees, last_index, out_words}
 use Rattle.tree.proofs.TreeLaws.{length-output-node, length-seq_block, levels-one, levels-more, levels_some, root_of-cons}
 use Rattle.bits.specs.BitsLaws.{length-numbers}
 use Rattle.calls.specs.Area.{empty_level, empty_levels, done_blocks, held_bits, area_levels}

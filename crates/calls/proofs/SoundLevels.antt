@@ -10,7 +10,7 @@ use Rattle.bits.specs.BitsLaws.{length-bits_of, numbers-exact}
 use Rattle.tree.specs.Tree.{Params, Node, block_bits, sequential_bits, output_bits, words, node, output, no_chain}
 use Rattle.tree.proofs.TreeLaws.{length-output-node}
 use Rattle.calls.specs.Area.{empty_level, done_blocks, held_bits, parallel_hold, sequential_hold, holds_above, open_holds, all_false, clean, clean_all}
-use Rattle.calls.specs.Calls.{chained, join_parallel, join_sequential, receive, feed_bit, feed_bits}
+use Rattle.calls.specs.Calls.{join_parallel, join_sequential, receive, feed_bit, feed_bits}
 use Rattle.calls.proofs.Block.{block_of, length-block_of, block_of_none, block_of-output, block_of_bit, join_parallel_lem, join_sequential_lem}
 use Rattle.calls.proofs.Rows.{AllLen}
 use Rattle.calls.proofs.Receive.{out_words_is}

@@ -1,5 +1,5 @@
 -- Laws: the widths of an area's levels; levels written again, and words of the head written beside them.
-use Rattle.std.specs.Prelude.{◌≡◌, refl, ℕ, zero, suc, ◌+◌, ◌-◌, ◌≤◌, ◌<◌, length, take, drop, set}
+use Rattle.std.specs.Prelude.{◌≡◌, refl, ℕ, zero, suc, ◌+◌, ◌≤◌, ◌<◌, length, take, drop, set}
 use Rattle.std.proofs.Common.{◌∙◌, arith, length-take-le, drop-set-lt}
 use mathlib.Core.List.{List, ◌++◌, flatten}
 use Rattle.std.proofs.Math.Seq.{take-set-lt}

@@ -1,2 +1,2 @@
-// The stream's area and what each call on it answers: definitions and theorems stand in specs/.
+// The stream's area and what each call on it answers: the definitions stand in specs/, the theorems in proofs/.
 #![tactic(auto)]

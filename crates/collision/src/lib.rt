@@ -1,2 +1,2 @@
-// The collision theorem: it stands in specs/, over the definitions of the crate `tree`.
+// The collision theorem, over the definitions of the crate `tree`: what it speaks of stands in specs/, the theorem in proofs/.
 #![tactic(auto)]

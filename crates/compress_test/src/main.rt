@@ -5,7 +5,7 @@
 ghost use Rattle.std.specs.Prelude.{◌≡◌, ◌+◌, ◌^◌, ◌≤◌, ◌<◌, length};
 ghost use Rattle.constants.specs.Constants.{RoundTable, part_entries};
 
-use libc::STDOUT_FILENO;
+use std::io;
 
 // The bytes 11 22 33 44 55 66 77, repeated, as words: word i of the message is entry i mod 7.
 const REPEATED: [u64; 7] = [
@@ -32,33 +32,37 @@ fn misprinted(node: usize, i: usize) -> bool {
 }
 
 // Prints the first n words as A[first] on of a node, one to a line.
-fn print_words(node: usize, first: usize, words: &[u64], n: usize)
+fn print_words(
+    rt: &impl Print,
+    node: usize,
+    first: usize,
+    words: &[u64],
+    n: usize,
+) -> io::Result<()>
     requires { (first + n < 2 ^ 16) × (n ≤ length words.now) }
 {
-    let mut i = 0;
-    while i < n {
+    for i in 0..n {
+        let word = words[i];
         if misprinted(node, first + i) {
-            io::write_all(STDOUT_FILENO, b"misprint\n");
+            println!(rt; "misprint")?;
         } else {
-            io::print_hex(STDOUT_FILENO, words[i], 16);
-            io::write_all(STDOUT_FILENO, b"\n");
+            println!(rt; "{word:016x}")?;
         }
-        i += 1;
     }
+    Ok(())
 }
 
 // A node with five rounds of which the report prints all words: A[0] to A[72], and then the outputs of 0 to 5 rounds,
 // which are A[73] to A[168].
-fn print_all(node: usize, window: &[u64; 89], first: &[u64])
+fn print_all(rt: &impl Print, node: usize, window: &[u64; 89], first: &[u64]) -> io::Result<()>
     requires { RoundTable 0 first.now × (length first.now ≡ part_entries) }
 {
-    print_words(node, 0, window, 73);
-    let mut r = 0;
-    while r <= 5 {
+    print_words(rt, node, 0, window, 73)?;
+    for r in 0..6 {
         let c = compress::compress(window, first, r);
-        print_words(node, 73 + 16 * r, &c, 16);
-        r += 1;
+        print_words(rt, node, 73 + 16 * r, &c, 16)?;
     }
+    Ok(())
 }
 
 // The window of a node: Q, a key of at most 16 bytes, U, V and the block.
@@ -87,21 +91,19 @@ fn fill(part: &mut [u64], from: usize)
     requires { from + length part.old < 2 ^ 16 }
 {
     let words = REPEATED;
-    let mut i = 0;
-    while i < part.len() {
+    for i in 0..part.len() {
         part[i] = words[(from + i) % 7];
-        i += 1;
     }
 }
 
 // C.1: "abc", d = 256, r = 5.
-fn first_example(first: &[u64])
+fn first_example(rt: &impl Print, first: &[u64]) -> io::Result<()>
     requires { RoundTable 0 first.now × (length first.now ≡ part_entries) }
 {
     let mut block = [0u64; 64];
     block[0] = 0x6162630000000000;
     let w = window_of(0, 0, 0x0100000000000000, 0x00054010fe800100, &block);
-    print_all(0, &w, first);
+    print_all(rt, 0, &w, first)
 }
 
 // A window of C.2, with the key "abcde12345".
@@ -111,35 +113,42 @@ fn keyed(u: u64, v: u64, block: &[u64; 64]) -> [u64; 89] {
 
 // The leaves of C.2, whose words are printed, and the block of the root over them. They are compressed two at a time, so that the
 // root's window, which the report prints, has the outputs of both.
-fn leaves(first: &[u64]) -> [u64; 64]
+fn leaves(rt: &impl Print, first: &[u64]) -> io::Result<[u64; 64]>
     requires { RoundTable 0 first.now × (length first.now ≡ part_entries) }
 {
     let mut left = [0u64; 64];
     fill(&mut left, 0);
     let one = keyed(0x0100000000000000, 0x000540000000a0e0, &left);
-    print_all(1, &one, first);
+    print_all(rt, 1, &one, first)?;
     let mut right = [0u64; 64];
     fill(&mut right[..11], 64);
     let other = keyed(0x0100000000000001, 0x00054000d400a0e0, &right);
-    print_all(2, &other, first);
+    print_all(rt, 2, &other, first)?;
     let two = compress::compress_two(&one, &other, first, 5);
     let c = two.first;
     let d = two.second;
-    joined(&c, &d)
+    Ok(joined(&c, &d))
 }
 
 // C.2: 600 bytes, d = 224, r = 5: two leaves, and the root over their outputs.
-fn second_example(first: &[u64])
+fn second_example(rt: &impl Print, first: &[u64]) -> io::Result<()>
     requires { RoundTable 0 first.now × (length first.now ≡ part_entries) }
 {
-    let above = leaves(first);
+    let above = leaves(rt, first)?;
     let root = keyed(0x0200000000000000, 0x000540108000a0e0, &above);
-    print_all(3, &root, first);
+    print_all(rt, 3, &root, first)
 }
 
 // A node of C.3, of which the report prints only the window and the output: U and V, the output before it, and so many
 // words of the message from word 48 * index on.
-fn sequential(index: usize, v: u64, chain: &[u64; 16], words: usize, first: &[u64]) -> [u64; 16]
+fn sequential(
+    rt: &impl Print,
+    index: usize,
+    v: u64,
+    chain: &[u64; 16],
+    words: usize,
+    first: &[u64],
+) -> io::Result<[u64; 16]>
     requires { RoundTable 0 first.now × (length first.now ≡ part_entries) × (index < 3) × (words ≤ 48) }
 {
     let mut block = [0u64; 64];
@@ -147,25 +156,26 @@ fn sequential(index: usize, v: u64, chain: &[u64; 16], words: usize, first: &[u6
     let end = 16 + words;
     fill(&mut block[16..end], 48 * index);
     let w = window_of(0, 0, 0x0100000000000000 + index as u64, v, &block);
-    print_words(4 + index, 0, &w, 89);
+    print_words(rt, 4 + index, 0, &w, 89)?;
     let c = compress::compress(&w, first, 104);
-    print_words(4 + index, 1737, &c, 16);
-    c
+    print_words(rt, 4 + index, 1737, &c, 16)?;
+    Ok(c)
 }
 
 // C.3: 800 bytes, L = 0, d = 256, r = 104: three nodes in sequence.
-fn third_example(first: &[u64])
+fn third_example(rt: &impl Print, first: &[u64]) -> io::Result<()>
     requires { RoundTable 0 first.now × (length first.now ≡ part_entries) }
 {
     let none = [0u64; 16];
-    let c = sequential(0, 0x0068000000000100, &none, 48, first);
-    let d = sequential(1, 0x0068000000000100, &c, 48, first);
-    sequential(2, 0x00680010b0000100, &d, 4, first);
+    let c = sequential(rt, 0, 0x0068000000000100, &none, 48, first)?;
+    let d = sequential(rt, 1, 0x0068000000000100, &c, 48, first)?;
+    sequential(rt, 2, 0x00680010b0000100, &d, 4, first)?;
+    Ok(())
 }
 
-fn main() {
+fn main(rt: HostRuntime) -> io::Result<()> {
     let first = constants::first_part();
-    first_example(&first);
-    second_example(&first);
-    third_example(&first);
+    first_example(&rt, &first)?;
+    second_example(&rt, &first)?;
+    third_example(&rt, &first)
 }

@@ -5,8 +5,8 @@
 #![tactic(auto)]
 
 use bits::Span;
-use libc::STDOUT_FILENO;
 use refusals::Params;
+use std::io;
 
 // The bit counts.
 const BITS: [u64; 25] = [
@@ -15,7 +15,15 @@ const BITS: [u64; 25] = [
 ];
 
 // Ones from a start bit on.
-fn call(key: &[u8], start: u64, bits: u64, d: u64, limit: u64, rounds: u64) {
+fn call(
+    rt: &impl Print,
+    key: &[u8],
+    start: u64,
+    bits: u64,
+    d: u64,
+    limit: u64,
+    rounds: u64,
+) -> io::Result<()> {
     let ones = [0xffu8; 2050];
     let mut out = [0xa5u8; 3];
     let params = Params {
@@ -25,67 +33,71 @@ fn call(key: &[u8], start: u64, bits: u64, d: u64, limit: u64, rounds: u64) {
         rounds,
     };
     let number = hash::hash_number(&ones, Span { start, bits }, params, &out);
-    io::print_decimal(STDOUT_FILENO, number);
-    io::write_all(STDOUT_FILENO, b" ");
+    print!(rt; "{number} ")?;
     let answer = hash::hash(&ones, start, bits, key, d, limit, rounds, &mut out);
-    test_print::answer(answer.number, answer.count);
-    io::write_all(STDOUT_FILENO, b" ");
-    test_print::bytes(&out);
-    io::write_all(STDOUT_FILENO, b"\n");
+    test_print::answer(rt, answer.number, answer.count)?;
+    print!(rt; " ")?;
+    test_print::bytes(rt, &out)?;
+    println!(rt; "")
 }
 
-fn under_key(start: u64, bits: u64, d: u64, limit: u64, rounds: u64) {
-    call(b"key", start, bits, d, limit, rounds);
+fn under_key(
+    rt: &impl Print,
+    start: u64,
+    bits: u64,
+    d: u64,
+    limit: u64,
+    rounds: u64,
+) -> io::Result<()> {
+    call(rt, b"key", start, bits, d, limit, rounds)
 }
 
-fn all_bits() {
-    let mut i = 0;
-    while i < 25 {
-        let bits = BITS[i];
-        under_key(0, bits, 9, 0, 0);
-        under_key(1, bits, 9, 1, 0);
-        under_key(7, bits, 9, 64, 0);
-        i += 1;
+fn all_bits(rt: &impl Print) -> io::Result<()> {
+    for bits in BITS {
+        under_key(rt, 0, bits, 9, 0, 0)?;
+        under_key(rt, 1, bits, 9, 1, 0)?;
+        under_key(rt, 7, bits, 9, 64, 0)?;
     }
+    Ok(())
 }
 
 // Each refusal, with all that come after it; then a call that is accepted.
-fn refused() {
+fn refused(rt: &impl Print) -> io::Result<()> {
     let long = [0x6bu8; 65];
-    call(&long, 8, 16393, 513, 65, 4096);
-    call(&long, 7, 16393, 513, 65, 4096);
-    call(&long, 7, 16393, 25, 65, 4096);
-    under_key(7, 16393, 25, 65, 4096);
-    under_key(7, 16393, 25, 64, 4096);
-    under_key(7, 16393, 25, 64, 4095);
-    under_key(7, 16393, 24, 64, 4095);
+    call(rt, &long, 8, 16393, 513, 65, 4096)?;
+    call(rt, &long, 7, 16393, 513, 65, 4096)?;
+    call(rt, &long, 7, 16393, 25, 65, 4096)?;
+    under_key(rt, 7, 16393, 25, 65, 4096)?;
+    under_key(rt, 7, 16393, 25, 64, 4096)?;
+    under_key(rt, 7, 16393, 25, 64, 4095)?;
+    under_key(rt, 7, 16393, 24, 64, 4095)?;
+    Ok(())
 }
 
 // Start bits and counts whose sum passes 2^64, a start bit that is 0 in 32 bits, and so a digest size.
-fn edges() {
-    under_key(7, u64::MAX, 9, 64, 0);
-    under_key(u64::MAX, 1, 9, 64, 0);
-    under_key(4294967296, 1, 9, 64, 0);
-    under_key(0, 1, 4294967304, 64, 0);
-    under_key(0, 1, 0, 64, 0);
+fn edges(rt: &impl Print) -> io::Result<()> {
+    under_key(rt, 7, u64::MAX, 9, 64, 0)?;
+    under_key(rt, u64::MAX, 1, 9, 64, 0)?;
+    under_key(rt, 4294967296, 1, 9, 64, 0)?;
+    under_key(rt, 0, 1, 4294967304, 64, 0)?;
+    under_key(rt, 0, 1, 0, 64, 0)?;
+    Ok(())
 }
 
 // What is told for a digest size and a key length, and the rounds by the formula alone.
-fn told(d: u64, key_bytes: u64) {
+fn told(rt: &impl Print, d: u64, key_bytes: u64) -> io::Result<()> {
     let answer = hash::default_rounds(d, key_bytes);
-    test_print::answer(answer.number, answer.count);
-    io::write_all(STDOUT_FILENO, b" ");
-    io::print_decimal(STDOUT_FILENO, hash::rounds_by_default(d, key_bytes));
-    io::write_all(STDOUT_FILENO, b"\n");
+    test_print::answer(rt, answer.number, answer.count)?;
+    println!(rt; " {}", hash::rounds_by_default(d, key_bytes))
 }
 
-fn main() {
-    all_bits();
-    refused();
-    edges();
-    told(8, 0);
-    told(8, 1);
-    told(512, 64);
-    told(513, 65);
-    told(512, 65);
+fn main(rt: HostRuntime) -> io::Result<()> {
+    all_bits(&rt)?;
+    refused(&rt)?;
+    edges(&rt)?;
+    told(&rt, 8, 0)?;
+    told(&rt, 8, 1)?;
+    told(&rt, 512, 64)?;
+    told(&rt, 513, 65)?;
+    told(&rt, 512, 65)
 }

@@ -1,5 +1,5 @@
 -- Laws: of lists of numbers that are all below a bound.
-use Rattle.std.specs.Prelude.{List, [], ◌∷◌, ◌++◌, ℕ, zero, suc, ◌+◌, ◌<◌, length, take, drop, get_or, replicate}
+use Rattle.std.specs.Prelude.{List, [], ◌∷◌, ◌++◌, ℕ, zero, suc, ◌<◌, length, take, drop, get_or, replicate}
 use Rattle.std.proofs.Common.{le_of_suc-le-suc, not-suc-le-zero, arith}
 use Rattle.lists.specs.Below.{Below, none, more}
 

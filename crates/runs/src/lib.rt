@@ -1,2 +1,2 @@
-// Runs of calls on a stream: the definitions and demand 3 stand in specs/.
+// Runs of calls on a stream: the definitions stand in specs/, demand 3 and what follows from it in proofs/.
 #![tactic(auto)]

@@ -6,8 +6,8 @@
 
 ghost use Rattle.std.specs.Prelude.{◌≤◌};
 
-use libc::STDOUT_FILENO;
 use refusals::Answer;
+use std::io;
 use stream::{area_words, close, end, feed, level, log_words, open, preview};
 
 // What lent words hold before a call that does not need them.
@@ -70,64 +70,69 @@ const CHANGES: [[u64; 6]; 44] = [
     [1750, 64, 16384, 15, 1, 1],
 ];
 
-fn print_answer(answer: Answer) {
-    test_print::answer(answer.number, answer.count);
-    io::write_all(STDOUT_FILENO, b"\n");
+fn print_answer(rt: &impl Print, answer: Answer) -> io::Result<()> {
+    test_print::answer(rt, answer.number, answer.count)?;
+    println!(rt; "")
 }
 
 // Writes how many words are shown of a level.
-fn show(area: &[u64], k: u64) {
+fn show(rt: &impl Print, area: &[u64], k: u64) -> io::Result<()> {
     let part = level(area, k);
-    io::print_decimal(STDOUT_FILENO, part.len() as u64);
-    io::write_all(STDOUT_FILENO, b"\n");
+    println!(rt; "{}", part.len())
 }
 
 // Writes the same of each of these levels.
-fn show_levels(area: &[u64]) {
-    let mut i = 0;
-    while i < 12 {
-        show(area, LEVELS[i]);
-        i += 1;
+fn show_levels(rt: &impl Print, area: &[u64]) -> io::Result<()> {
+    for k in LEVELS {
+        show(rt, area, k)?;
     }
+    Ok(())
 }
 
 // Opens an area under the key "key" and feeds it ones, with the log words told before.
-fn begin(area: &mut [u64], d: u64, limit: u64, rounds: u64, bits: u64) {
+fn begin(
+    rt: &impl Print,
+    area: &mut [u64],
+    d: u64,
+    limit: u64,
+    rounds: u64,
+    bits: u64,
+) -> io::Result<()> {
     let ones = [0xffu8; 2049];
     let mut log = [FILL; 64];
-    print_answer(open(&mut *area, b"key", d, limit, rounds));
-    print_answer(log_words(&*area, bits));
-    print_answer(feed(&mut *area, &ones, 0, bits, &mut log));
+    print_answer(rt, open(&mut *area, b"key", d, limit, rounds))?;
+    print_answer(rt, log_words(&*area, bits))?;
+    print_answer(rt, feed(&mut *area, &ones, 0, bits, &mut log))
 }
 
 // A stream, whatever the area held, with its levels before the end, and its digest.
-fn stream_in(area: &mut [u64], limit: u64) {
+fn stream_in(rt: &impl Print, area: &mut [u64], limit: u64) -> io::Result<()> {
     let mut digest = [0xa5u8; 3];
     let mut log = [FILL; 54];
-    begin(&mut *area, 24, limit, 9, 16385);
-    show_levels(&*area);
-    print_answer(end(&mut *area, &mut digest, &mut log));
-    test_print::bytes(&digest);
-    io::write_all(STDOUT_FILENO, b"\n");
+    begin(rt, &mut *area, 24, limit, 9, 16385)?;
+    show_levels(rt, &*area)?;
+    print_answer(rt, end(&mut *area, &mut digest, &mut log))?;
+    test_print::bytes(rt, &digest)?;
+    println!(rt; "")
 }
 
 // This in so many words.
-fn stream_in_words(words: usize, limit: u64)
+fn stream_in_words(rt: &impl Print, words: usize, limit: u64) -> io::Result<()>
     requires { words ≤ 1750 }
 {
     let mut area = [FILL; 1750];
-    stream_in(&mut area[..words], limit);
+    stream_in(rt, &mut area[..words], limit)
 }
 
 // Closes an area of d = 8 with the figure of its preview, if it is to be closed.
-fn finish(area: &mut [u64], closed: bool) {
+fn finish(rt: &impl Print, area: &mut [u64], closed: bool) -> io::Result<()> {
     if !closed {
-        return;
+        return Ok(());
     }
     let mut figure = [0u8; 1];
     let mut log = [FILL; 54];
-    print_answer(preview(&*area, &mut figure));
-    print_answer(close(&mut *area, &figure, &mut log));
+    print_answer(rt, preview(&*area, &mut figure))?;
+    print_answer(rt, close(&mut *area, &figure, &mut log))
 }
 
 // Changes a word, if there is one.
@@ -139,68 +144,74 @@ fn set(area: &mut [u64], at: usize, value: u64) {
 
 // Level 1 of the first words, so many, of an area of which a word is changed, and which may be closed before that; then of the same
 // area closed.
-fn altered(words: usize, limit: u64, bits: u64, at: usize, value: u64, closed: bool) {
+fn altered(
+    rt: &impl Print,
+    words: usize,
+    limit: u64,
+    bits: u64,
+    at: usize,
+    value: u64,
+    closed: bool,
+) -> io::Result<()> {
     if 1750 < words {
-        return;
+        return Ok(());
     }
     let mut area = [FILL; 1750];
-    begin(&mut area, 8, limit, 0, bits);
-    finish(&mut area, closed);
+    begin(rt, &mut area, 8, limit, 0, bits)?;
+    finish(rt, &mut area, closed)?;
     set(&mut area, at, value);
-    show(&area[..words], 1);
-    finish(&mut area, true);
-    show(&area[..words], 1);
+    show(rt, &area[..words], 1)?;
+    finish(rt, &mut area, true)?;
+    show(rt, &area[..words], 1)
 }
 
 // An area in just enough words, in more and in one fewer; then with its last word and the word past it changed, open and closed.
-fn by_limit(limit: u64) {
+fn by_limit(rt: &impl Print, limit: u64) -> io::Result<()> {
     let words = test_print::area_words(limit);
-    print_answer(area_words(limit));
-    stream_in_words(words, limit);
-    stream_in_words(1750, limit);
-    stream_in_words(words - 1, limit);
-    altered(words - 1, limit, 1, 1750, 0, false);
-    altered(1750, limit, 1, words - 1, 1, false);
-    altered(1750, limit, 1, words, 1, false);
-    altered(1750, limit, 1, words - 1, 1, true);
-    altered(1750, limit, 1, words, 1, true);
+    print_answer(rt, area_words(limit))?;
+    stream_in_words(rt, words, limit)?;
+    stream_in_words(rt, 1750, limit)?;
+    stream_in_words(rt, words - 1, limit)?;
+    altered(rt, words - 1, limit, 1, 1750, 0, false)?;
+    altered(rt, 1750, limit, 1, words - 1, 1, false)?;
+    altered(rt, 1750, limit, 1, words, 1, false)?;
+    altered(rt, 1750, limit, 1, words - 1, 1, true)?;
+    altered(rt, 1750, limit, 1, words, 1, true)
 }
 
 // Areas with the first level of many, without all of the words before the levels, and with no level.
-fn few_words() {
-    altered(80, 64, 1, 1750, 0, false);
-    let mut words = 0;
-    while words <= 16 {
-        altered(words, 0, 1, 1750, 0, false);
-        words += 1;
+fn few_words(rt: &impl Print) -> io::Result<()> {
+    altered(rt, 80, 64, 1, 1750, 0, false)?;
+    for words in 0..17 {
+        altered(rt, words, 0, 1, 1750, 0, false)?;
     }
+    Ok(())
 }
 
-fn all_changes() {
-    let mut i = 0;
-    while i < 44 {
-        let row = CHANGES[i];
+fn all_changes(rt: &impl Print) -> io::Result<()> {
+    for row in CHANGES {
         altered(
+            rt,
             row[0] as usize,
             row[1],
             row[2],
             row[3] as usize,
             row[4],
             row[5] == 1,
-        );
-        i += 1;
+        )?;
     }
+    Ok(())
 }
 
 // The limits are at the edges of an area's length, which from 26 on is the same.
-fn main() {
-    by_limit(0);
-    by_limit(1);
-    by_limit(2);
-    by_limit(25);
-    by_limit(26);
-    by_limit(27);
-    by_limit(64);
-    few_words();
-    all_changes();
+fn main(rt: HostRuntime) -> io::Result<()> {
+    by_limit(&rt, 0)?;
+    by_limit(&rt, 1)?;
+    by_limit(&rt, 2)?;
+    by_limit(&rt, 25)?;
+    by_limit(&rt, 26)?;
+    by_limit(&rt, 27)?;
+    by_limit(&rt, 64)?;
+    few_words(&rt)?;
+    all_changes(&rt)
 }

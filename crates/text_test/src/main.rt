@@ -5,47 +5,47 @@
 
 ghost use Rattle.std.specs.Prelude.{◌≤◌};
 
-use libc::STDOUT_FILENO;
+use std::io;
 
 // What an area holds before a call that does not need it.
 const JUNK: u64 = 0xa5a5a5a5a5a5a5a5;
 
 // Reads a text into an area of junk, and writes from there. With L = 0 an area has 80 words.
-fn pass(text: &[u8], area: &mut [u64], out: &mut [u8]) {
+fn pass(rt: &impl Print, text: &[u8], area: &mut [u64], out: &mut [u8]) -> io::Result<()> {
     let before = [JUNK; 82];
     let read = text::read(&mut *area, text);
-    test_print::answer(read.number, read.count);
-    test_print::same(&*area, &before, 0);
-    test_print::same(&*area, &before, 80);
+    test_print::answer(rt, read.number, read.count)?;
+    test_print::same(rt, &*area, &before, 0)?;
+    test_print::same(rt, &*area, &before, 80)?;
     let written = text::write(&*area, &mut *out);
-    io::write_all(STDOUT_FILENO, b" ");
-    test_print::answer(written.number, written.count);
-    io::write_all(STDOUT_FILENO, b" ");
-    test_print::bytes(&*out);
-    io::write_all(STDOUT_FILENO, b"\n");
+    print!(rt; " ")?;
+    test_print::answer(rt, written.number, written.count)?;
+    print!(rt; " ")?;
+    test_print::bytes(rt, &*out)?;
+    println!(rt; "")
 }
 
 // The same with so many words and so many bytes of output.
-fn pass_in(text: &[u8], words: usize, room: usize)
+fn pass_in(rt: &impl Print, text: &[u8], words: usize, room: usize) -> io::Result<()>
     requires { (words ≤ 82) × (room ≤ 178) }
 {
     let mut area = [JUNK; 82];
     let mut out = [0xa5u8; 178];
-    pass(text, &mut area[..words], &mut out[..room]);
+    pass(rt, text, &mut area[..words], &mut out[..room])
 }
 
 // The text of a stream of no bits with L = 0, under the key "key" and d = 8, as it is written now and as it was before M-108: into
 // more words and bytes than are needed, into just enough, and into one fewer. Then a text of no stream.
-fn main() {
+fn main(rt: HostRuntime) -> io::Result<()> {
     let text =
         b"0100000003000800000000000000000000000000000000\n6b657900000000000000000000000000000000000000000000000000000000000000000000000000000000000000000000000000000000000000000000000000\n";
     let old =
         b"01000003000800000000000000000000000000000000\n6b657900000000000000000000000000000000000000000000000000000000000000000000000000000000000000000000000000000000000000000000000000\n";
-    pass_in(text, 82, 178);
-    pass_in(old, 82, 178);
-    pass_in(text, 80, 176);
-    pass_in(text, 80, 175);
-    pass_in(text, 79, 178);
-    pass_in(old, 79, 178);
-    pass_in(b"0", 82, 178);
+    pass_in(&rt, text, 82, 178)?;
+    pass_in(&rt, old, 82, 178)?;
+    pass_in(&rt, text, 80, 176)?;
+    pass_in(&rt, text, 80, 175)?;
+    pass_in(&rt, text, 79, 178)?;
+    pass_in(&rt, old, 79, 178)?;
+    pass_in(&rt, b"0", 82, 178)
 }

@@ -1,2 +1,2 @@
-// A suspended stream as text: definitions and theorems stand in specs/.
+// A suspended stream as text: the definitions stand in specs/, the theorems in proofs/.
 #![tactic(auto)]

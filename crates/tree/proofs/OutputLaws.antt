@@ -1,5 +1,5 @@
 -- Laws: the words of a node's output, and the log of nodes.
-use Rattle.std.specs.Prelude.{◌≡◌, refl, List, [], ◌∷◌, ◌++◌, ℕ, ◌+◌, ◌*◌, ◌≤◌, length, take, drop}
+use Rattle.std.specs.Prelude.{◌≡◌, refl, List, [], ◌∷◌, ◌++◌, ℕ, ◌*◌, ◌≤◌, length, take, drop}
 use Rattle.std.proofs.Common.{ap, ◌∙◌, arith, length-append, length-drop, take_at, take_all}
 use Rattle.bits.specs.Bits.{bits_of}
 use Rattle.bits.specs.BitsLaws.{length-numbers, bits_of-numbers}

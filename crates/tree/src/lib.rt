@@ -1,2 +1,2 @@
-// The tree of a message: its definitions and their theorems stand in specs/.
+// The tree of a message: its definitions stand in specs/, their theorems in proofs/.
 #![tactic(auto)]
