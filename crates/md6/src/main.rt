@@ -6,38 +6,41 @@ ghost use Rattle.std.specs.Prelude.{◌≤◌, length};
 
 use area::Area;
 use program::{BUFFER, OUT, Phase, Program};
-use std::io;
 use std::io::Read;
 
-// Writes the first bytes of a text.
-fn write_first(rt: &impl Print, text: &[u8], n: usize) -> io::Result<()>
+// Writes the first bytes of a text. Answers whether all were written.
+fn write_first(rt: &impl Print, text: &[u8], n: usize) -> bool
     requires { n ≤ length text.now }
 {
-    rt.write_all(&text[..n])
+    rt.write_all(&text[..n]).is_ok()
 }
 
 // Reads until the input ends, a read or a write fails, or the input is refused. The turns are counted because a loop has
 // to end; no input of fewer than 2^64 - 1 bytes uses them up.
-fn main(rt: HostRuntime) -> io::Result<()> {
+fn main(rt: HostRuntime) {
     let mut input = rt.stdin();
     let mut buf = [0u8; BUFFER];
     let mut area = [0u64; Area::WORDS];
     let mut out = [0u8; OUT];
     let mut program = Program::new();
     for _ in 0..u64::MAX {
-        let n = input.read(&mut buf)?;
+        let Ok(n) = input.read(&mut buf) else {
+            return;
+        };
         if n == 0 {
             let last = program::finish(program, &mut area, &mut out);
-            return write_first(&rt, &out, last);
+            write_first(&rt, &out, last);
+            return;
         }
         let taken = program::take(program, &buf, n, &mut area, &mut out);
-        write_first(&rt, &out, taken.count)?;
+        if !write_first(&rt, &out, taken.count) {
+            return;
+        }
         let next = taken.program;
         let phase = next.phase;
         if let Phase::Refused = phase {
-            return Ok(());
+            return;
         }
         program = next;
     }
-    Ok(())
 }
