@@ -12,7 +12,7 @@ use Rattle.tree.specs.Tree.{Params, Node, Mark, Subtree, output_bits, node, leve
 use Rattle.tree.proofs.TreeLaws.{length-output-node, levels-one, levels-more, levels_some, root_of-cons}
 use Rattle.calls.specs.Calls.{join_parallel, join_sequential, last_above}
 use Rattle.calls.proofs.Block.{block_of, length-block_of, join_parallel_lem, join_sequential_lem}
-use Rattle.calls.proofs.Rows.{AllLen, snoc-length, lastOr-snoc, Cut, cut-blocks, tops, over, length_over, tops-over, parents-over}
+use Rattle.calls.proofs.Rows.{AllLen, snoc-length, last_or-snoc, Cut, cut-blocks, tops, over, length_over, tops-over, parents-over}
 use Rattle.calls.proofs.Rows
 use Rattle.calls.proofs.Receive.{listing_snoc, reaches_snoc, marked, out_words_is}
 use Rattle.calls.proofs.Receive
@@ -121,7 +121,7 @@ module _ (P : Params) where
         listed =
             ap (λ (T : List (List Node)). listing (climb 0 (X ++ (x ∷ [])) T)) (seq-level level x v.sp o) ∙ ap listing climbed
             ∙ rw (listing_snoc, listing_snoc v.r x, reaches_snoc v.r x v.sp.quiet, q, v.logged) (simp append_assoc);
-        root = λ d. ap root_of (seq-level level x v.sp o) ∙ lastOr-snoc no_node (Receive.seq_row P level v.G) (seq_last level v.G g);
+        root = λ d. ap root_of (seq-level level x v.sp o) ∙ last_or-snoc no_node (Receive.seq_row P level v.G) (seq_last level v.G g);
       }
     where
       g : List Subtree

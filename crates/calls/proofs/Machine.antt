@@ -15,7 +15,7 @@ use Rattle.bits.specs.BitsLaws.{length-numbers}
 use Rattle.calls.specs.Area.{empty_level, empty_levels, done_blocks, held_bits, area_levels}
 use Rattle.calls.specs.Calls.{Made, with_bit, chained, join_parallel, receive, feed_bit, feed_bits, last_above, last_nodes}
 use Rattle.calls.proofs.Block.{block_of, length-block_of, block_of-full, block_of_none, block_of-no_chain, block_of-output, block_of-chain-full, block_of_bit}
-use Rattle.calls.proofs.Rows.{snoc-length, lastOr-snoc, Cut, cut-length, cut-last, cut-held, cut-blocks, cut-more, cut-full, tops}
+use Rattle.calls.proofs.Rows.{snoc-length, last_or-snoc, Cut, cut-length, cut-last, cut-held, cut-blocks, cut-more, cut-full, tops}
 use Rattle.calls.proofs.Rows
 use Rattle.calls.proofs.Receive.{listing-append, marked, marked_append, out_words_is}
 use Rattle.calls.proofs.Receive
@@ -330,7 +330,7 @@ module _ (P : Params) where
             ∙ ap listing (leaves_snoc 0 (last_index sequential_bits (length M)) (seq_nodes v.B) m
             (omega (arith, cut-last v.cut, Rows.length-row P (Rows.seq_node P 1) 0 no_chain v.B)))
             ∙ rw (listing-append, listing-quiet_leaves, v.logged) refl;
-        root = λ d. ap root_of level ∙ lastOr-snoc no_node (seq_nodes v.B) m;
+        root = λ d. ap root_of level ∙ last_or-snoc no_node (seq_nodes v.B) m;
       }
     where
       ws : List ℕ

@@ -17,7 +17,7 @@ use Rattle.tree.proofs.TreeLaws.{length-output-node, length-seq_block}
 use Rattle.calls.specs.Area.{empty_level}
 use Rattle.calls.specs.Calls.{Made, chained, join_parallel, join_sequential, receive}
 use Rattle.calls.proofs.Block.{block_of, block_of-full, block_of_none, block_of-no_chain, block_of-output, block_of-chain-full, join_parallel_lem, join_sequential_lem}
-use Rattle.calls.proofs.Rows.{AllLen, allLen-snoc, length-flatten, snoc-length, tops, over, over_snoc, length_over}
+use Rattle.calls.proofs.Rows.{AllLen, all_len-snoc, length-flatten, snoc-length, tops, over, over_snoc, length_over}
 use Rattle.calls.proofs.Rows
 
 -- ---- marks and listings
@@ -131,7 +131,7 @@ module _ (P : Params) where
   unfolding flatten
   split_full {k} {X} {G} {r} x s o h = record {
     whole = ap (λ (l : List Subtree). l ++ (x ∷ [])) s.whole ∙ simp (flatten-append, append_assoc, append-nil);
-    full = allLen-snoc k G (r ++ (x ∷ [])) s.full (snoc-length r x ∙ h);
+    full = all_len-snoc k G (r ++ (x ∷ [])) s.full (snoc-length r x ∙ h);
     few = omega arith;
     quiet = refl;
     sized = sized-append X (x ∷ []) s.sized (o, tt);

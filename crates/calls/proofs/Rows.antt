@@ -21,9 +21,9 @@ abbrev pub AllLen {ℓ} : {A : Type ℓ} → ℕ → List (List A) → Type 0
 AllLen k [] = Unit {0}
 AllLen k (g ∷ gs) = (length g ≡ k) × AllLen k gs
 
-pub allLen-snoc {ℓ} : {A : Type ℓ} (k : ℕ) (G : List (List A)) (g : List A) → AllLen k G → length g ≡ k → AllLen k (G ++ (g ∷ []))
-allLen-snoc k [] g a h = (h, tt)
-allLen-snoc k (x ∷ G) g a h = (a.0, allLen-snoc k G g a.1 h)
+pub all_len-snoc {ℓ} : {A : Type ℓ} (k : ℕ) (G : List (List A)) (g : List A) → AllLen k G → length g ≡ k → AllLen k (G ++ (g ∷ []))
+all_len-snoc k [] g a h = (h, tt)
+all_len-snoc k (x ∷ G) g a h = (a.0, all_len-snoc k G g a.1 h)
 
 pub length-flatten {ℓ} : {A : Type ℓ} (k : ℕ) (G : List (List A)) → AllLen k G → length (flatten G) ≡ length G * k
 unfolding flatten
@@ -33,9 +33,9 @@ length-flatten k (g ∷ G) a = length-append g (flatten G) ∙ rw (a.0, length-f
 pub snoc-length {ℓ} : {A : Type ℓ} (xs : List A) (x : A) → length (xs ++ (x ∷ [])) ≡ suc (length xs)
 snoc-length xs x = rw (length-append xs (x ∷ [])) (omega arith)
 
-pub lastOr-snoc {ℓ} : {A : Type ℓ} (d : A) (xs : List A) (x : A) → last_or d (xs ++ (x ∷ [])) ≡ x
-lastOr-snoc d [] x = refl
-lastOr-snoc d (y ∷ xs) x = lastOr-snoc y xs x
+pub last_or-snoc {ℓ} : {A : Type ℓ} (d : A) (xs : List A) (x : A) → last_or d (xs ++ (x ∷ [])) ≡ x
+last_or-snoc d [] x = refl
+last_or-snoc d (y ∷ xs) x = last_or-snoc y xs x
 
 -- ---- bits cut into full blocks and a last one, which is empty only where nothing came
 
@@ -85,7 +85,7 @@ unfolding flatten
 cut-full {k} {M} {B} {l} b c h = record {
   size = c.size;
   whole = ap (λ (x : List Bool). x ++ (b ∷ [])) c.whole ∙ simp (flatten-append, append-nil);
-  full = allLen-snoc k B l c.full h;
+  full = all_len-snoc k B l c.full h;
   fits = c.size;
   some = λ e. absurd (omega arith);
 }
@@ -144,7 +144,7 @@ module _ (P : Params) where
 
   pub chain_snoc : (level : ℕ) (B : List (List Bool)) (b : List Bool) → chain level (B ++ (b ∷ [])) ≡ out (seq_node level (length B) (chain level B) b)
   unfolding chain
-  chain_snoc level B b = rw (row0_snoc (seq_node level) no_chain B b, map-append out) (lastOr-snoc no_chain (map out (row (seq_node level) 0 no_chain B)) _)
+  chain_snoc level B b = rw (row0_snoc (seq_node level) no_chain B b, map-append out) (last_or-snoc no_chain (map out (row (seq_node level) 0 no_chain B)) _)
 
   pub length-chain : (level : ℕ) (B : List (List Bool)) → length (chain level B) ≡ output_bits
   unfolding chain

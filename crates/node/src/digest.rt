@@ -47,6 +47,7 @@ pub fn digest_bytes(d: u64) -> u64
 
 // Writes the last d bits of the root's words, the first of them to the high bit of the first byte, with zero bits after
 // them in the last byte. Bytes past these stay.
+#[inline(never)]
 pub fn write_digest(root: &[u64], d: u64, out: &mut [u8])
     requires { (length root.now ≡ 16) × (1 ≤ d) × (d ≤ most_digest_bits) × (digest_bytes d ≤ length out.old) }
     ensures { out.new

@@ -1,7 +1,7 @@
 // The nodes of a message: the value of each, its 16 words, worked out from the nodes one level below.
 #![tactic(auto)]
 
-ghost use Rattle.std.specs.Prelude.{◌≡◌, ◌+◌, ◌-◌, ◌*◌, ◌≤◌, ◌<◌, length};
+ghost use Rattle.std.specs.Prelude.{◌≡◌, ◌+◌, ◌-◌, ◌*◌, ◌≤◌, ◌<◌, ◌++◌, length, replicate};
 ghost use Rattle.tree.specs.Tree.{words, block_bits, sequential_bits};
 ghost use Rattle.bits.specs.PieceLaws.{spanned, span_bits, Fits};
 ghost use Rattle.tree.proofs.Count.{level_nodes};
@@ -77,8 +77,21 @@ fn two_leaves(message: &[u8], span: Span, keyed: Keyed, constants: &[u64], index
     node::compress_two(keyed, constants, here, &one, there, &other)
 }
 
+// The value of one leaf, which is not the root. A function of its own, so that its compression's buffers do not stand on the stack under
+// those of two leaves.
+#[inline(never)]
+fn one_leaf(message: &[u8], span: Span, keyed: Keyed, constants: &[u64], index: u64) -> [u64; 16]
+    requires given { Given (spanned message.now span) keyed constants.now }
+    requires index_bound { index < level_nodes span.bits 1 }
+    ensures { result ≡ value (tree_params keyed) (span_bits message.now span) 1 index 0 }
+{
+    let block = leaf_block(message, span, index);
+    one_value(span.bits, keyed, constants, 1, index, 0, &block)
+}
+
 // The values of up to four leaves, from an index on, two at a time, the last alone if their number is odd; zero words after them.
-// They are the children of one node, so that none is the root.
+// They are the children of one node, so that none is the root. The caller lends the words, which hold nothing: given back, they would
+// stand on its stack once more, and so once a level.
 fn leaves(
     message: &[u8],
     span: Span,
@@ -86,30 +99,28 @@ fn leaves(
     constants: &[u64],
     index: u64,
     n: u64,
-) -> [u64; 64]
+    out: &mut [u64],
+)
     requires given { Given (spanned message.now span) keyed constants.now }
     requires n_bound { (n ≤ 4) × (index + n ≤ level_nodes span.bits 1) }
-    ensures { result ≡ child_words (level_values (tree_params keyed) (span_bits message.now span) 1) 4 index n }
+    requires empty { out.old ≡ replicate 64 0 }
+    ensures { out.new ≡ child_words (level_values (tree_params keyed) (span_bits message.now span) 1) 4 index n }
 {
-    let mut words = [0u64; 64];
     let mut j: u64 = 0;
     while j + 1 < n {
         let two = two_leaves(message, span, keyed, constants, index + j);
         let first = two.first;
         let second = two.second;
         let at = (Block::OUTPUT_WORDS * j) as usize;
-        words::copy(&mut words, at, &first);
-        words::copy(&mut words, at + Block::OUTPUT_WORDS as usize, &second);
+        words::copy(&mut *out, at, &first);
+        words::copy(&mut *out, at + Block::OUTPUT_WORDS as usize, &second);
         j += 2;
     }
     if j < n {
-        let i = index + j;
-        let block = leaf_block(message, span, i);
-        let last = one_value(span.bits, keyed, constants, 1, i, 0, &block);
+        let last = one_leaf(message, span, keyed, constants, index + j);
         let at = (Block::OUTPUT_WORDS * j) as usize;
-        words::copy(&mut words, at, &last);
+        words::copy(&mut *out, at, &last);
     }
-    words
 }
 
 // The values of up to four nodes of a parallel level, from an index on, and zero words after them. They are the children of one node,
@@ -128,11 +139,12 @@ fn values(
     requires in_level { (0 < level) × (level < 256) × (n ≤ 4) × (index + n ≤ level_nodes span.bits level) }
     ensures { result ≡ child_words (level_values (tree_params keyed) (span_bits message.now span) level) 4 index n }
 {
+    let mut words = [0u64; 64];
     if level == 1 {
-        return leaves(message, span, keyed, constants, index, n);
+        leaves(message, span, keyed, constants, index, n, &mut words);
+        return words;
     }
     let below = shape::nodes_at(span.bits, level - 1);
-    let mut words = [0u64; 64];
     let mut j: u64 = 0;
     while j < n {
         let i = index + j;
@@ -148,6 +160,7 @@ fn values(
 
 // The value of the root where it stands at a parallel level, the one node there: at level 1 from the message, above it from the values
 // of its children, one level below.
+#[inline(never)]
 fn top_value(message: &[u8], span: Span, keyed: Keyed, constants: &[u64], level: u64) -> [u64; 16]
     requires given { Given (spanned message.now span) keyed constants.now }
     requires in_level { (0 < level) × (level < 256) }
@@ -198,6 +211,26 @@ fn sequential_words(
     rest
 }
 
+// The block of the sequential node at an index: the chain, and then its own words. A function of its own, so that these do not stand on the
+// stack under a compression's buffers.
+#[inline(never)]
+fn sequential_block(
+    message: &[u8],
+    span: Span,
+    keyed: Keyed,
+    constants: &[u64],
+    index: u64,
+    before: &[u64],
+) -> [u64; 64]
+    requires given { Given (spanned message.now span) keyed constants.now }
+    requires index_bound { (index < sequential_nodes keyed.params.limit span.bits) × (length before.now ≡ 16) }
+    ensures { result
+        ≡ before.now ++ sequential_words (tree_params keyed) keyed.params.limit (span_bits message.now span) index }
+{
+    let rest = sequential_words(message, span, keyed, constants, index);
+    node::chained_block(before, &rest)
+}
+
 // The value of the sequential node at an index: the chain, and then its own words.
 fn sequential_value(
     message: &[u8],
@@ -214,14 +247,14 @@ fn sequential_value(
         ≡ chained (tree_params keyed) keyed.params.limit (span_bits message.now span) index z before.now }
 {
     let limit = keyed.params.limit;
-    let rest = sequential_words(message, span, keyed, constants, index);
     let p = shape::sequential_padding(limit, span.bits, index);
-    let block = node::chained_block(before, &rest);
+    let block = sequential_block(message, span, keyed, constants, index, before);
     let level = limit + 1;
     node::compress_node(keyed, constants, Place { level, index, z, p }, &block)
 }
 
 // The value of the sequential level's last node, along the chain.
+#[inline(never)]
 fn sequential(message: &[u8], span: Span, keyed: Keyed, constants: &[u64]) -> [u64; 16]
     requires { Given (spanned message.now span) keyed constants.now }
     ensures { result ≡ last_chained (tree_params keyed) keyed.params.limit (span_bits message.now span) }

@@ -15,6 +15,9 @@ ghost use Rattle.numbers.specs.NumberLaws.{open_feed_number, open_end_number};
 use area::{Area, count};
 use bits::Span;
 
+// Word 0 of an area whose stream has ended.
+const ENDED: u64 = 2;
+
 // 7 for an area that is short or unsound, 10 for one that has ended, and otherwise 0.
 pub fn area_number(area: &[u64]) -> u64
     ensures { result ≡ first_refusal (open_tests area.now) }
@@ -23,7 +26,7 @@ pub fn area_number(area: &[u64]) -> u64
     if number != 0 {
         return number;
     }
-    if area[Area::PHASE] == 2 {
+    if area[Area::PHASE] == ENDED {
         return 10;
     }
     0

@@ -93,6 +93,7 @@ pub fn feed(area: &mut [u64], piece: &[u8], start: u64, bits: u64, log: &mut [u6
 }
 
 // Tells how many words an area has, by the height limit.
+#[tactic(auto, unfolding(calls::specs::Calls::area_words_of))]
 pub fn area_words(limit: u64) -> Answer
     ensures { record { number = result.number; count = result.count } ≡ area_words_of limit }
 {

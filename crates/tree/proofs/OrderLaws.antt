@@ -108,17 +108,17 @@ record Climbed (below : List Subtree) (T : List (List Node)) (ss : List Subtree)
   listed : Permᴰ (listing ss) (listing below ++ flatten (map marked T))
   ends : ((x : Mark) → last_or x (listing below) ≡ last_or x (tops below)) → (x : Mark) → last_or x (listing ss) ≡ last_or x (tops ss)
 
-lastOr-append {ℓ} : {A : Type ℓ} (x : A) (xs ys : List A) → last_or x (xs ++ ys) ≡ last_or (last_or x xs) ys
-lastOr-append x [] ys = refl
-lastOr-append x (y ∷ xs) ys = lastOr-append y xs ys
+last_or-append {ℓ} : {A : Type ℓ} (x : A) (xs ys : List A) → last_or x (xs ++ ys) ≡ last_or (last_or x xs) ys
+last_or-append x [] ys = refl
+last_or-append x (y ∷ xs) ys = last_or-append y xs ys
 
 parents-ends : (k : ℕ) (below : List Subtree) (ns : List Node) (x : Mark) → last_or x (listing (parents k below ns)) ≡ last_or x (tops (parents k below ns))
 unfolding flatten
 parents-ends k below [] x = refl
 parents-ends k below (a ∷ ns) x =
     let m : Mark = mark a (any_reaches (take k below)) in
-    lastOr-append x (listing (take k below) ++ (m ∷ [])) (listing (parents k (drop k below) ns))
-    ∙ ap (λ (y : Mark). last_or y (listing (parents k (drop k below) ns))) (lastOr-append x (listing (take k below)) (m ∷ []))
+    last_or-append x (listing (take k below) ++ (m ∷ [])) (listing (parents k (drop k below) ns))
+    ∙ ap (λ (y : Mark). last_or y (listing (parents k (drop k below) ns))) (last_or-append x (listing (take k below)) (m ∷ []))
     ∙ parents-ends k (drop k below) ns m
 
 -- one level up

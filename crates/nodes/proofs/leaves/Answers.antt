@@ -4,14 +4,14 @@ use Rattle.tree.specs.Tree.{Params}
 use Rattle.tree.proofs.Count.{level_nodes}
 use Rattle.std.proofs.Common.{Bool}
 use Rattle.shape.specs.ShapeLaws.{node-index}
-use Rattle.nodes.specs.BlockLaws.{length-values, child_none, leaf-made, child_put, pair_put}
+use Rattle.nodes.specs.BlockLaws.{length-values, child_none, child_put, pair_put}
 use Rattle.bits.specs.Piece.{piece_bits}
 use Rattle.bits.specs.PieceLaws.{spanned, span_bits}
 use Rattle.node.specs.Words.{tree_params}
 use lib.ListN.{length}
 use Prim.Native.Nat.{◌≤◌, ◌<◌, ◌+◌, ◌^◌, ℕ}
 use mathlib.Core.List.{List}
-use mathlib.Core.Path.{◌≡◌, refl, ap, sym, ◌∙◌}
+use mathlib.Core.Path.{◌≡◌, refl, ap, ◌∙◌}
 use native.Mathlib.Omega.{arith}
 use Rattle.nodes.proofs.leaves.Goals as goal
 
@@ -26,7 +26,7 @@ output-length P M index made e = ap length e ∙ length-values P M 1 (omega arit
 pub loop-j-init : goal.loop-j-init
 loop-j-init c =
     let a = c.args in
-    (omega arith, child_none (level_values (tree_params a.keyed) (span_bits a.message.now a.span) 1) 4 a.index, refl)
+    (omega arith, c.requires.empty ∙ child_none (level_values (tree_params a.keyed) (span_bits a.message.now a.span) 1) 4 a.index, rw c.requires.empty refl)
 
 pub overflow_add-index : goal.overflow_add-index
 overflow_add-index c = record { fits = omega (arith, inside c.args.span.bits c.args.index c.args.n c.loop-j.j (omega arith) c.requires.n_bound.1 (omega arith)) }
@@ -37,14 +37,8 @@ two_leaves-two-requires c = record { given = c.requires.given; index_bound = ome
 pub overflow_mul-at : goal.overflow_mul-at
 overflow_mul-at c = record { fits = omega (arith, c.requires.n_bound.0, c.loop-j-test.true) }
 
-pub slice_bounds-copy-end : goal.slice_bounds-copy-end
-slice_bounds-copy-end c = sym c.loop-j.invariant.2
-
 pub copy-requires : goal.copy-requires
 copy-requires c = omega (arith, output-length _ _ _ _ c.two_leaves-two.ensures.first, output-length _ _ _ _ c.two_leaves-two.ensures.second, c.loop-j.invariant.2, c.requires.n_bound.0, c.loop-j-test.true)
-
-pub slice_bounds-copy-end-in-loop-j-2 : goal.slice_bounds-copy-end-in-loop-j-2
-slice_bounds-copy-end-in-loop-j-2 c = sym (c.copy.auto.dst ∙ c.loop-j.invariant.2)
 
 pub overflow_add-at : goal.overflow_add-at
 overflow_add-at c = omega (arith, c.requires.n_bound.0, c.loop-j-test.true)
@@ -66,29 +60,23 @@ loop-j-preserved c =
     let M = span_bits a.message.now a.span in (
       omega (arith, c.loop-j-test.true),
       rw (c.copy-in-loop-j.ensures, c.copy.ensures)
-          (pair_put (level_values P M 1) 4 a.index c.loop-j.j c.loop-j.words made.result.first made.result.second
+          (pair_put (level_values P M 1) 4 a.index c.loop-j.j c.loop-j.out made.result.first made.result.second
           (length-values P M 1 (omega arith)) (omega (arith, c.requires.n_bound.0, c.loop-j-test.true)) c.loop-j.invariant.1
           made.ensures.first made.ensures.second),
       c.copy-in-loop-j.auto.dst ∙ c.copy.auto.dst ∙ c.loop-j.invariant.2,
     )
 
-pub overflow_add-i : goal.overflow_add-i
-overflow_add-i c = record { fits = omega (arith, inside c.args.span.bits c.args.index c.args.n c.loop-j.j (omega arith) c.requires.n_bound.1 c.if-j-n.true) }
+pub overflow_add-index-then-j-n : goal.overflow_add-index-then-j-n
+overflow_add-index-then-j-n c = record { fits = omega (arith, inside c.args.span.bits c.args.index c.args.n c.loop-j.j (omega arith) c.requires.n_bound.1 c.if-j-n.true) }
 
-pub leaf_block-block-requires : goal.leaf_block-block-requires
-leaf_block-block-requires c = (c.requires.given.enough, omega (arith, c.requires.n_bound.1, c.if-j-n.true))
-
-pub one_value-last-requires : goal.one_value-last-requires
-one_value-last-requires c = record { ready = c.requires.given.ready; in_level = (omega arith, omega arith, omega (arith, c.requires.n_bound.1, c.if-j-n.true), omega arith) }
+pub one_leaf-last-requires : goal.one_leaf-last-requires
+one_leaf-last-requires c = record { given = c.requires.given; index_bound = omega (arith, c.requires.n_bound.1, c.if-j-n.true) }
 
 pub overflow_mul-at-then-j-n : goal.overflow_mul-at-then-j-n
 overflow_mul-at-then-j-n c = record { fits = omega (arith, c.requires.n_bound.0, c.if-j-n.true) }
 
-pub slice_bounds-copy-end-then-j-n : goal.slice_bounds-copy-end-then-j-n
-slice_bounds-copy-end-then-j-n c = sym c.loop-j.invariant.2
-
 pub copy-requires-then-j-n : goal.copy-requires-then-j-n
-copy-requires-then-j-n c = omega (arith, c.one_value-last.type_inv, c.loop-j.invariant.2, c.requires.n_bound.0, c.if-j-n.true)
+copy-requires-then-j-n c = omega (arith, c.one_leaf-last.type_inv, c.loop-j.invariant.2, c.requires.n_bound.0, c.if-j-n.true)
 
 pub returns-then-j-n : goal.returns-then-j-n
 returns-then-j-n c =
@@ -97,10 +85,9 @@ returns-then-j-n c =
     let m = spanned a.message.now a.span in
     let f : ℕ → List ℕ = level_values P (piece_bits m) 1 in
     let e : c.loop-j.j + 1 ≡ a.n = omega (arith, c.loop-j-test.false, c.if-j-n.true) in
-    let value : c.one_value-last.result ≡ f (a.index + c.loop-j.j) = c.one_value-last.ensures
-    ∙ leaf-made P m (a.index + c.loop-j.j) 0 _ c.leaf_block-block.result c.requires.given.enough refl c.leaf_block-block.ensures in
+    let value : c.one_leaf-last.result ≡ f (a.index + c.loop-j.j) = c.one_leaf-last.ensures in
     c.copy-then-j-n.ensures
-    ∙ child_put f 4 a.index c.loop-j.j c.loop-j.words c.one_value-last.result
+    ∙ child_put f 4 a.index c.loop-j.j c.loop-j.out c.one_leaf-last.result
     (length-values P (piece_bits m) 1 (omega arith)) (omega (arith, c.requires.n_bound.0, c.if-j-n.true)) c.loop-j.invariant.1 value
     ∙ ap (child_words f 4 a.index) e
 

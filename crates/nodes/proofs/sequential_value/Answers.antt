@@ -3,15 +3,10 @@ use Rattle.shape.specs.ShapeLaws.{sequential-index}
 use Rattle.nodes.specs.SequentialLaws.{chained-made}
 use Rattle.node.specs.Words.{tree_params}
 use Rattle.bits.specs.PieceLaws.{spanned}
-use Prim.Native.Nat.{ℕ}
-use mathlib.Core.List.{List, ◌++◌}
-use mathlib.Core.Path.{◌∙◌, ap}
+use mathlib.Core.Path.{◌∙◌}
 use native.Mathlib.Omega.{arith}
 use borrow.Author.Rules.{rules}
 use Rattle.nodes.proofs.sequential_value.Goals as goal
-
-pub chained_block-block-requires : goal.chained_block-block-requires
-chained_block-block-requires c = (c.requires.index_bound.2, omega (arith, c.sequential_words-rest.type_inv))
 
 pub compress_node-requires : goal.compress_node-requires
 compress_node-requires c =
@@ -31,6 +26,5 @@ returns c =
     let a = c.args in
     let m = spanned a.message.now a.span in
     c.compress_node.ensures
-    ∙ chained-made (tree_params a.keyed) a.keyed.params.limit m a.index a.z _ a.before.now c.chained_block-block.result
-    c.requires.given.enough c.sequential_padding-p.ensures.0
-    (c.chained_block-block.ensures ∙ ap (λ (w : List ℕ). a.before.now ++ w) c.sequential_words-rest.ensures)
+    ∙ chained-made (tree_params a.keyed) a.keyed.params.limit m a.index a.z _ a.before.now c.sequential_block-block.result
+    c.requires.given.enough c.sequential_padding-p.ensures.0 c.sequential_block-block.ensures

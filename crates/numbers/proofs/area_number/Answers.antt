@@ -11,8 +11,8 @@ returns-then-number-ne0 c = area-refused c.args.area.now c.sound_number-number.e
 pub bounds-area-0 : goal.bounds-area-0
 bounds-area-0 c = omega (arith, (sound-passed c.args.area.now c.sound_number-number.ensures c.if-number-ne0.false).long)
 
-pub returns-then-area-eq2 : goal.returns-then-area-eq2
-returns-then-area-eq2 c = area-phase c.args.area.now (sound-passed c.args.area.now c.sound_number-number.ensures c.if-number-ne0.false) (eq-eqb _ _ c.if-area-eq2.true)
+pub returns-then-area-eq-ENDED : goal.returns-then-area-eq-ENDED
+returns-then-area-eq-ENDED c = area-phase c.args.area.now (sound-passed c.args.area.now c.sound_number-number.ensures c.if-number-ne0.false) (eq-eqb _ _ c.if-area-eq-ENDED.true)
 
 pub returns : goal.returns
-returns c = area-phase c.args.area.now (sound-passed c.args.area.now c.sound_number-number.ensures c.if-number-ne0.false) (ne_eqb _ _ c.if-area-eq2.false)
+returns c = area-phase c.args.area.now (sound-passed c.args.area.now c.sound_number-number.ensures c.if-number-ne0.false) (ne_eqb _ _ c.if-area-eq-ENDED.false)
