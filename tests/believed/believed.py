@@ -511,7 +511,7 @@ OPENED = re.compile(r" +(?:requires|ensures|decreases)(?: \w+)? \{ ")
 ITEM = re.compile(r"\b(?:ghost|requires|ensures|decreases|fn|impl|trait|mod|use|extern|macro_rules)\b")
 # the attributes that a source may have, each on a line of its own: none of them says what is compiled, and
 # one under which name a function is exported
-ATTRIBUTE = re.compile(r" *#!?\[(?:tactic\([\w, ():'{}◌≡-]*\)|derive\([\w, ]+\)|repr\(C\)|unsafe\(no_mangle\)|test)\]")
+ATTRIBUTE = re.compile(r" *#!?\[(?:tactic\([\w, ():'{}◌≡-]*\)|derive\([\w, ]+\)|repr\(C\)|inline\(never\)|unsafe\(no_mangle\)|test)\]")
 EXPORTED = "#[unsafe(no_mangle)]"
 
 
