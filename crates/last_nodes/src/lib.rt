@@ -1,7 +1,7 @@
 // The first half of an end, a preview and a close: the last nodes of an open area, which is only read.
 #![tactic(auto)]
 
-ghost use Rattle.std.specs.Prelude.{◌≡◌, ◌∷◌, [], ◌+◌, ◌*◌, ◌≤◌, ◌<◌, ◌^◌, length};
+ghost use Rattle.std.specs.Prelude.{◌≡◌, ◌∷◌, [], ◌+◌, ◌*◌, ◌≤◌, ◌<◌, ◌^◌, length, replicate};
 ghost use Rattle.lists.specs.Part.{put};
 ghost use Rattle.tree.specs.Tree.{block_bits, last_or, no_node, output_words, out_words, logged};
 ghost use Rattle.calls.specs.Area.{Long, params_of, level_words, levels_of, done_blocks, held_bits};
@@ -15,15 +15,16 @@ ghost use Rattle.last_nodes.specs.LastLaws.{last_up, first_node, root_flag, last
 use area::{Area, count};
 use node::{Block, Keyed, Place};
 
-// A copy of a level's block with an output given to it: the area itself is not changed.
-fn joined_block(area: &[u64], level: usize, place: usize, out: &[u64]) -> [u64; 64]
-    requires { Joins area.now level place out.now }
-    ensures { result ≡ put place output_words (level_words area.now level) out.now }
+// A copy of a level's block with an output given to it, in words that the caller lends: the area itself is not changed. Kept out of its
+// caller, whose stack has the output once so.
+#[inline(never)]
+fn joined_block(block: &mut [u64], area: &[u64], level: usize, place: usize, out: &[u64])
+    requires joins { Joins area.now level place out.now }
+    requires empty { block.old ≡ replicate 64 0 }
+    ensures { block.new ≡ put place output_words (level_words area.now level) out.now }
 {
-    let mut block = [0u64; Area::LEVEL];
-    words::copy(&mut block, 0, Area::level(area, level));
-    words::copy(&mut block, place, out);
-    block
+    words::copy(&mut *block, 0, Area::level(area, level));
+    words::copy(&mut *block, place, out);
 }
 
 // z of a parallel level's last node, by its index: 1 if it is the level's only node, and so the root.
@@ -59,31 +60,35 @@ fn above(
     keyed: Keyed,
     constants: &[u64],
     outputs: u64,
-    first: [u64; 16],
+    out: &mut [u64; 16],
     log: &mut [u64],
-) -> [u64; 16]
-    requires { Rising keyed constants.now outputs first area.now log.old }
-    ensures { Logged (tree_params keyed) (last_up keyed 2 outputs first area.now)
-        log.old 2 result log.new }
+)
+    requires { Rising keyed constants.now outputs out.old area.now log.old }
+    ensures { Logged (tree_params keyed) (last_up keyed 2 outputs out.old area.now)
+        log.old 2 out.new log.new }
 {
     let mut i = outputs;
-    let mut out = first;
     let mut at: usize = 2;
     let mut k: usize = 2;
     while k <= Area::LEVELS {
         let sequential = keyed.params.limit < k as u64;
-        let block = joined_block(area, k, climb::output_place(sequential, i), &out);
+        let mut block = [0u64; Area::LEVEL];
+        joined_block(
+            &mut block,
+            area,
+            k,
+            climb::output_place(sequential, i),
+            &*out,
+        );
         let last = last_place(sequential, k as u64, i);
-        let next = climb::make_node(keyed, constants, last, &block, log, at);
+        *out = climb::make_node(keyed, constants, last, &block, log, at);
         if last.z == 1 {
-            return next;
+            return;
         }
-        out = next;
         at += 2;
         i = last.index;
         k += 1;
     }
-    out
 }
 
 // Makes the last node of level 1, which takes blocks of a size.
@@ -130,11 +135,12 @@ fn levels(area: &[u64], keyed: Keyed, constants: &[u64], total: u64, log: &mut [
     }
     let done = count::done_blocks(Block::BITS, total);
     let z = root_flag(done);
-    let first = first_node(area, keyed, constants, Block::BITS, z, total, log);
+    let mut out = first_node(area, keyed, constants, Block::BITS, z, total, log);
     if done < 1 {
-        return first;
+        return out;
     }
-    above(area, keyed, constants, done, first, log)
+    above(area, keyed, constants, done, &mut out, log);
+    out
 }
 
 // Makes the last nodes of an open area, which it only reads. U and V of each go to the log from

@@ -9,5 +9,5 @@ pub returns : goal.returns
 returns c =
     let a = c.args in
     c.copy-2.ensures
-    ∙ rw (level_copied c.level.ensures.level_part c.copy.ensures)
-    (paste-put (level_words a.area.now a.level) a.place output_words a.out.now c.requires.words)
+    ∙ rw (level_copied c.level.ensures.level_part (rw c.requires.empty at c.copy.ensures))
+    (paste-put (level_words a.area.now a.level) a.place output_words a.out.now c.requires.joins.words)
