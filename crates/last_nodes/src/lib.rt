@@ -15,8 +15,8 @@ ghost use Rattle.last_nodes.specs.LastLaws.{last_up, first_node, root_flag, last
 use area::{Area, count};
 use node::{Block, Keyed, Place};
 
-// A copy of a level's block with an output given to it, in words that the caller lends: the area itself is not changed. Kept out of its
-// caller, whose stack has the output once so.
+// A copy of a level's block with an output given to it, in words that the caller lends: the area itself is not changed. A block that is
+// given back by a function of its own would stand on the caller's stack twice.
 #[inline(never)]
 fn joined_block(block: &mut [u64], area: &[u64], level: usize, place: usize, out: &[u64])
     requires joins { Joins area.now level place out.now }
