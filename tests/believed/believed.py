@@ -53,7 +53,7 @@ CLAUSES = {"stream::level": 2}
 EXPORTS = "md6_c"
 NUMBER_ALONE = "md6_hash"
 # What else the crates of these calls have that is public: parts of calls that other crates use.
-SHARED = {"hash::hash_number", "hash::rounds_by_default"}
+SHARED = {"hash::check", "hash::rounds_by_default"}
 
 PAGE = "docs/PROOFS.md"
 TABLE = "What has to be believed"
@@ -511,8 +511,12 @@ OPENED = re.compile(r" +(?:requires|ensures|decreases)(?: \w+)? \{ ")
 ITEM = re.compile(r"\b(?:ghost|requires|ensures|decreases|fn|impl|trait|mod|use|extern|macro_rules)\b")
 # the attributes that a source may have, each on a line of its own: none of them says what is compiled, and
 # one under which name a function is exported
-ATTRIBUTE = re.compile(r" *#!?\[(?:tactic\([\w, ():'{}◌≡-]*\)|derive\([\w, ]+\)|repr\(C\)|inline\(never\)|unsafe\(no_mangle\)|test)\]")
+ATTRIBUTE = re.compile(r" *#!?\[(?:tactic\([\w, ():'{}◌≡-]*\)|derive\([\w, ]+\)|repr\(C\)|inline\((?:never|always)\)|unsafe\(no_mangle\)|test)\]")
 EXPORTED = "#[unsafe(no_mangle)]"
+# what an `impl` begins with: of a type, or of a conversion to it
+IMPL = re.compile(r"impl(?:<'a>|<const \w+: usize(?:, const \w+: usize)*>)? ((?:Try)?From<[\w<>, ]+> for )?(\w+)(?:<[\w', ]+>)? \{")
+GHOST_MEMBER = re.compile(r"    ghost (?:try_)?from_gives = \{ [^{}]* \};")
+GHOST_FIELD = re.compile(r"    (?:pub )?ghost \w+: \{ [^{}]* \},")
 
 
 def joined(lines):
@@ -539,17 +543,23 @@ class Source:
         self.imports = Imports()
         self.functions = {}  # name, or Type::name -> (parameters, clauses), of the public ones
         self.order = {}  # the same name -> the parameters in their order
+        self.types = {}  # the same name -> the words of its parameters and of what it answers
         self.changed = {}  # the same name -> those of them that are lent to be changed
         self.exports = []
         self.modules = []
         self.open = []  # the public ones among them
         self.uses = {}
+        self.held = set()  # the structs with a ghost field: what holds of each of their values
+        struct = ""
         seen = ["result"]  # what a clause sees with no `ghost use`
         brought, declared, found = [], [], []  # found: (the place behind its name, what is written before it, name)
         code, size, depth, within, last = [], 0, 0, "", ""
         for line in joined(text.split("\n")):
             if re.fullmatch(r"ghost use [^;]*;", line) and depth == 0 and "--" not in line:
                 self.imports.add(line)
+                line = ""
+            elif re.fullmatch(r"    ghost use [^;]*;", line) and depth == 1 and within not in ("", "enum") and "--" not in line:
+                self.imports.add(line.strip())  # of one impl: it brings no name that the file has
                 line = ""
             elif CLAUSE.fullmatch(line):
                 if re.search(r'//|--|"', line):
@@ -559,7 +569,7 @@ class Source:
             else:
                 line = live(line, "//")
                 fn = re.fullmatch(r' *((?:pub )?(?:extern "C" )?)fn (\w+)[(<].*', line)
-                impl = re.fullmatch(r"impl (\w+) \{", line)
+                impl = IMPL.fullmatch(line)
                 mod = re.fullmatch(r"(?:pub )?mod (\w+);", line)
                 use = re.fullmatch(r"use (?:\w+::)*(?:(\w+)|\{(\w+(?:, \w+)*)\});", line)
                 passed = re.fullmatch(r"pub use (\w+)::(?:(\w+)|\{(\w+(?:, \w+)*)\});", line)
@@ -569,6 +579,8 @@ class Source:
                 if (last == EXPORTED) != (fn is not None and "extern" in fn.group(1)):
                     raise Unreadable("an export has `%s` before it, and nothing else has: %s" % (EXPORTED, line.strip()))
                 last = line
+                if depth == 0 and re.match(r"(?:pub )?struct (\w+)", line):
+                    struct = re.match(r"(?:pub )?struct (\w+)", line).group(1)
                 # a clause sees a constant, a type and a variant by its bare name
                 own = re.match(r"(?:pub )?(?:const|static|struct|enum|type) (\w+)", line) if depth == 0 else re.match(r"    (\w+)\b", line)
                 if own and (depth == 0 or depth == 1 and within == "enum"):
@@ -579,7 +591,11 @@ class Source:
                     declared.append((within + "::" if depth else "") + fn.group(2))
                     found.append((size + fn.end(2), fn.group(1), declared[-1]))
                 elif impl and depth == 0:
-                    within = impl.group(1)
+                    within = (impl.group(1) or "") + impl.group(2)
+                elif GHOST_MEMBER.fullmatch(line) and depth == 1 and within not in ("", "enum"):
+                    pass  # what a conversion gives: a caller's contract says again what it takes of it
+                elif GHOST_FIELD.fullmatch(line) and depth == 1 and within == "":
+                    self.held.add(struct)  # what holds of every value of a struct: the prover asks for it where one is made
                 elif mod and depth == 0:
                     self.modules.append(mod.group(1))
                     self.open += [mod.group(1)] if line.startswith("pub ") else []
@@ -619,6 +635,7 @@ class Source:
         end = matching(text, i)
         params = set(re.findall(r"(\w+)\s*:", re.sub(r"::", "  ", text[i:end])))
         self.order[name] = re.findall(r"(\w+): ", text[i:end])
+        self.types[name] = set(re.findall(r"\w+", text[i : text.index("{", end)].split(" requires ")[0].split(" ensures ")[0]))
         self.changed[name] = re.findall(r"(\w+): &mut\b", text[i:end])
         params.add("result")
         clauses = []
@@ -884,6 +901,8 @@ class Repository:
             self.fail("no public function %s in crates/%s.rt" % (name, key.replace("/", "/src/")))
             return
         self.reading = label
+        for held in sorted(source.types[name] & {s for other in self.sources.values() for s in other.held} if free else []):
+            self.fail("%s has the type %s, whose ghost field would be a clause that is not seen" % (label, held))
         params, clauses = source.functions[name]
         binds = set()
         if not any(kind == "ensures" for kind, _ in clauses):
@@ -930,7 +949,7 @@ class Repository:
             return None
         left = []
         for field in whole.group(2).split("; ") if whole.group(2) else []:
-            part = re.fullmatch(r"(\w+) = (?:result|result\.\1|#(\d+)\.new)", field)
+            part = re.fullmatch(r"(\w+) = (?:result|result\.\1|told_\1 result|#(\d+)\.new)", field)
             if not part:
                 self.fail("the equation of %s has a field that is not what was answered or left: %s" % (call, field))
                 return None
@@ -957,8 +976,11 @@ class Repository:
                 form = "(let h : Hashed = %s in (result ≡ h.number) × (#7.new ≡ h.digest))" % rights.get(call)
                 if self.ensured(at, export) != [form]:
                     self.fail("%s has not the contract of %s, less the count" % (export, call))
-            elif self.ensured(at, export) != self.ensured(key, call.split("::", 1)[1]):
-                self.fail("%s has not the contract of %s" % (export, call))
+            else:
+                # the export tells in its answer what the call says by its result
+                told = [re.sub(r"\btold_(number|count) result\b", r"result.\1", text) for text in self.ensured(key, call.split("::", 1)[1])]
+                if self.ensured(at, export) != told:
+                    self.fail("%s has not the contract of %s" % (export, call))
 
     def public(self):
         """The crates of the calls have nothing else that is public, but for what is listed."""
@@ -1437,8 +1459,13 @@ def self_test(root):
         ),
         (
             "an equation of something else than what is answered",
-            [(source, r"number = result\.number(?=[^}]*\}\s*≡ hash_of)", "number = 0")],
+            [(source, r"number = told_number result(?=[^}]*\}\s*≡ hash_of)", "number = 0")],
             "the equation of %s has a field that is not what was answered or left: number = 0" % call,
+        ),
+        (
+            "a public call whose parameter has a type with a ghost field",
+            [("crates/text/src/lib.rt", r"pub fn read\(area: &mut \[u64\], text: &\[u8\]\)", "pub fn read(area: &mut [u64], text: &[u8], form: Form)")],
+            "text::read has the type Form, whose ghost field would be a clause that is not seen",
         ),
         (
             "an equation with a definition of other arguments",
@@ -1467,8 +1494,8 @@ def self_test(root):
         ),
         (
             "a function passed on that no list has",
-            [("crates/stream/src/lib.rt", r"^(?=pub use )", "pub use numbers::feed_number;\n")],
-            "crates/stream/src/lib.rt passes on feed_number, and no list has it",
+            [("crates/stream/src/lib.rt", r"^(?=pub use )", "pub use numbers::check_feed;\n")],
+            "crates/stream/src/lib.rt passes on check_feed, and no list has it",
         ),
         ("a public module", [("crates/text/src/lib.rt", r"^mod ", "pub mod ")], "of crates/text/src/lib.rt is public"),
         (

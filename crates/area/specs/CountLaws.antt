@@ -1,6 +1,6 @@
 -- Laws: of the counts in Area: where they end, how they go on, and that they fit.
-use Rattle.std.specs.Prelude.{◌≡◌, refl, ℕ, zero, suc, ◌+◌, ◌-◌, ◌*◌, ◌/◌, ◌^◌, ◌≤◌, ◌<◌}
-use Rattle.std.proofs.Math.Nat.{zero-div, mul-div-le}
+use Rattle.std.specs.Prelude.{◌≡◌, refl, ℕ, zero, suc, ◌+◌, ◌-◌, ◌/◌, ◌^◌, ◌≤◌, ◌<◌}
+use Rattle.std.proofs.Math.Nat.{zero-div}
 use Rattle.std.proofs.Common.{arith}
 use Rattle.tree.specs.Tree.{block_bits, sequential_bits}
 use Rattle.calls.specs.Area.{done_blocks, open_above, open_count}
@@ -9,9 +9,6 @@ use Rattle.calls.specs.Area.{done_blocks, open_above, open_count}
 
 pub done_none : (size T : ℕ) → T < 1 → done_blocks size T ≡ 0
 done_none size T h = let e : T - 1 ≡ 0 = omega arith in rw e (zero-div size)
-
-pub done_le : (size T : ℕ) → size * done_blocks size T ≤ T
-done_le size T = omega (arith, mul-div-le (T - 1) size)
 
 -- ---- the open area
 
@@ -30,10 +27,6 @@ open_above-more (suc n) i h = let e : suc n - 1 ≡ n = omega arith in rw e
 pub open_count_none : (limit T : ℕ) → limit < 1 → open_count limit T ≡ done_blocks sequential_bits T
 open_count_none zero T h = refl
 open_count_none (suc n) T h = absurd (omega arith)
-
-pub open_count-more : (limit T : ℕ) → 1 ≤ limit → open_count limit T ≡ done_blocks block_bits T + open_above (limit - 1) (done_blocks block_bits T)
-open_count-more zero T h = absurd (omega arith)
-open_count-more (suc n) T h = let e : suc n - 1 ≡ n = omega arith in rw e
 
 -- ---- they fit
 

@@ -1,6 +1,6 @@
 -- Laws: soundness of the levels as the code tests it, level by level, and that this is what Area says of them.
 use Rattle.std.specs.Prelude.{◌≡◌, refl, Bool, true, not, ◌||◌, ◌&&◌, List, [], ◌∷◌, ℕ, zero, suc, ◌+◌, ◌*◌, ◌/◌, eqb, ltb, take, drop, replicate}
-use Rattle.std.proofs.Common.{sym, ap, ◌∙◌, zero-add, eq-eqb, ne_eqb}
+use Rattle.std.proofs.Common.{sym, ap, ◌∙◌, zero-add, eq-eqb}
 use Rattle.std.proofs.Math.Dec.{leb-zero, leb-suc-suc, eqb-suc-zero}
 use Rattle.bits.specs.Bits.{bits_of}
 use Rattle.tree.specs.Tree.{block_bits, sequential_bits, output_bits}
@@ -49,5 +49,5 @@ clean_open area (suc m) (suc n) T k = rw (clean-above area m n (done_blocks bloc
 pub holds-ended : (k phase limit T : ℕ) → phase ≡ 2 → holds_for k phase limit T ≡ replicate k (parallel_hold 0)
 holds-ended k phase limit T h = rw (eq-eqb phase 2 h, holds_for)
 
-pub holds_open : (k phase limit T : ℕ) → (phase ≡ 2 → ⊥) → holds_for k phase limit T ≡ open_holds k limit T
-holds_open k phase limit T h = rw (ne_eqb phase 2 h, holds_for)
+pub holds_open : (k phase limit T : ℕ) → phase ≡ 1 → holds_for k phase limit T ≡ open_holds k limit T
+holds_open k phase limit T h = rw (h, holds_for)

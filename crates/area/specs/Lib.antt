@@ -1,4 +1,5 @@
 pub mod CountLaws
 pub mod EmptyLaws
 pub mod LevelTests
+pub mod Phase
 pub mod SoundLaws

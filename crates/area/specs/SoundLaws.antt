@@ -1,19 +1,25 @@
 -- Laws: of soundness in Area, as the code tests it: level by level, and then the words before the levels.
-use Rattle.std.specs.Prelude.{◌≡◌, refl, Bool, true, false, ◌||◌, ◌&&◌, List, ℕ, zero, suc, ◌+◌, ◌-◌, ◌*◌, ◌/◌, ◌%◌, ◌≤◌, ◌<◌, eqb, length, take, drop, get_or}
-use Rattle.std.proofs.Common.{sym, ap, ◌∙◌, arith, ltb-false, eq-eqb, ne_eqb}
+use Rattle.std.specs.Prelude.{◌≡◌, refl, Bool, true, false, not, ◌&&◌, Result, Ok, Err, List, ℕ, zero, suc, ◌+◌, ◌-◌, ◌*◌, ◌/◌, ◌%◌, ◌≤◌, ◌<◌, eqb, length, take, drop, get_or}
+use Rattle.std.proofs.Common.{sym, ap, ◌∙◌, arith, ltb-false, eq-eqb, ne_eqb, eqb-true}
+use Rattle.std.specs.Result.{is_err}
+use Rattle.std.proofs.Math.Bool.{and_assoc}
 use Rattle.std.proofs.lemmas.Bool.{not-false}
 use Rattle.lists.specs.And.{and_first, and_second}
 use Rattle.bits.specs.Bits.{bits_of}
 use Rattle.bits.specs.BitsLaws.{bits_of-take}
 use Rattle.tree.specs.Tree.{block_bits, sequential_bits, output_bits, output_words}
-use Rattle.refusals.specs.Refusals.{first_refusal, range_tests, param_tests}
-use Rattle.refusals.specs.RefusalLaws.{passed}
+use Rattle.refusals.specs.declared.Params as refusals
+use Rattle.refusals.specs.declared.Refusal.{Refusal}
+use Rattle.refusals.specs.Refusals.{first_refusal, range_tests, param_tests, told_number}
+use Rattle.refusals.specs.RefusalLaws.{passed, number_not0, InRange, in_range}
 use Rattle.calls.proofs.Moved.{length-key}
-use Rattle.calls.specs.Area.{Hold, head_words, clean_all, all_false, level_words, levels_of, done_blocks, held_bits, params_of, count_for, open_count, sound_phase, sound_params, sound_key, sound_count, sound_last, sound_levels, sound, own_levels, Long, block_words, level_start, levels_up}
+use Rattle.calls.specs.Area.{Hold, phase_of, head_words, clean_all, all_false, level_words, levels_of, done_blocks, held_bits, params_of, count_for, open_count, sound_phase, sound_params, sound_key, sound_count, sound_last, sound_levels, sound, own_levels, Long, block_words, level_start, levels_up}
 use Rattle.calls.specs.Calls.{area_tests}
-use Rattle.calls.proofs.SoundParts.{empty_from, all_empty, clean-empty, empty-levels, sound_head}
+use Rattle.calls.proofs.SoundParts.{empty_from, all_empty, clean-empty, empty-levels}
+use Rattle.area.specs.declared.Phase.{Phase}
+use Rattle.area.specs.declared.Phase.TheVariants as phase
+use Rattle.area.specs.Phase.{phase_word}
 use Rattle.area.specs.LevelTests.{clean_open, holds-ended, holds_open, sound_sequential, sound_above, sound_open}
-use Rattle.tree.specs.Sizes.{tree_nodes}
 use Rattle.calls.proofs.AreaLaws.{levels_split, levels_up-cons, levels_up_none}
 
 -- an area that is long enough and sound
@@ -91,44 +97,62 @@ pub refused-words : (area : List ℕ)
 unfolding params_of
 refused-words area = rw (length-key area)
 
-pub head-phase : (area : List ℕ) → sound_phase area ≡ false → sound_head area ≡ false
-unfolding sound_head
-head-phase area p = and_first (sound_phase area) (sound_params area && (sound_key area && (sound_count area && sound_last area))) p
+-- and what a check of them tells
+pub params_told : {A : Type 0} (area : List ℕ) (given : refusals.Params) (t : Result A Refusal) → told_number t ≡ first_refusal (range_tests given.keylen given.d given.limit given.rounds)
+    → given ≡ record { keylen = get_or area 2 0; d = get_or area 3 0; limit = get_or area 4 0; rounds = get_or area 5 0 } → sound_params area ≡ not (is_err t)
+params_told area given t e g =
+    let words = ap (λ (x : refusals.Params). first_refusal (range_tests x.keylen x.d x.limit x.rounds)) g in
+    rw (refused-words area, ← words, ← e) (tested t)
+  where
+    tested : {A : Type 0} (t : Result A Refusal) → eqb (told_number t) 0 ≡ not (is_err t)
+    tested (Ok a) = refl
+    tested (Err r) = ne_eqb _ 0 (number_not0 r)
 
-head-rest : (area : List ℕ) → sound_phase area ≡ true → sound_head area ≡ (sound_params area && (sound_key area && (sound_count area && sound_last area)))
-unfolding sound_head
-head-rest area p = and_second (sound_phase area) (sound_params area && (sound_key area && (sound_count area && sound_last area))) p
+pub params_in_range : (area : List ℕ) → sound_params area ≡ true → InRange (get_or area 2 0) (get_or area 3 0) (get_or area 4 0) (get_or area 5 0)
+params_in_range area p =
+    in_range (get_or area 2 0) (get_or area 3 0) (get_or area 4 0) (get_or area 5 0) (sym (refused-words area) ∙ eqb-true (first_refusal (param_tests (params_of area))) 0 p)
 
-pub head-params : (area : List ℕ) → sound_phase area ≡ true → sound_params area ≡ false → sound_head area ≡ false
-head-params area p q = head-rest area p ∙ and_first (sound_params area) (sound_key area && (sound_count area && sound_last area)) q
+pub count_word : (area : List ℕ) → sound_count area ≡ eqb (get_or area 14 0) (count_for (get_or area 0 0) (get_or area 4 0) (get_or area 1 0))
+unfolding params_of
+count_word area = refl
 
-pub head_more : (area : List ℕ) → sound_phase area ≡ true → sound_params area ≡ true → sound_head area ≡ (sound_key area && (sound_count area && sound_last area))
-head_more area p q = head-rest area p ∙ and_second (sound_params area) (sound_key area && (sound_count area && sound_last area)) q
+pub count_open : (p limit T : ℕ) → (p ≡ 2 → ⊥) → count_for p limit T ≡ open_count limit T
+count_open p limit T h = rw (ne_eqb p 2 h, count_for)
 
-pub levels-ended : (area : List ℕ) → get_or area 0 0 ≡ 2 → sound_levels area ≡ all_empty (levels_of area)
+-- a phase that word 0 says
+pub phase_sound : (p : Phase) (area : List ℕ) → phase_word p ≡ phase_of area → sound_phase area ≡ true
+phase_sound phase.Open area e = rw (← e)
+phase_sound phase.Ended area e = rw (← e)
+
+-- the tests one after the other: a first that fails decides, and one that holds leaves the rest
+pub phase_fails : (area : List ℕ) → sound_phase area ≡ false → sound area ≡ false
+unfolding sound
+phase_fails area p = and_first (sound_phase area) _ p
+
+pub params_fail : (area : List ℕ) → sound_phase area ≡ true → sound_params area ≡ false → sound area ≡ false
+unfolding sound
+params_fail area p q = and_second (sound_phase area) _ p ∙ and_first (sound_params area) _ q
+
+pub rest_tests : (area : List ℕ) → sound_phase area ≡ true → sound_params area ≡ true
+    → sound area ≡ ((sound_key area && (sound_count area && sound_last area)) && sound_levels area)
+unfolding sound
+rest_tests area p q =
+    let a = sound_key area in
+    let b = sound_count area in
+    let c = sound_last area in
+    let d = sound_levels area in
+    and_second (sound_phase area) _ p ∙ and_second (sound_params area) _ q ∙ ap (λ (x : Bool). a && x) (sym (and_assoc b c d)) ∙ sym (and_assoc a (b && c) d)
+
+-- ---- the levels, by the phase
+
+pub levels-ended : (area : List ℕ) → phase_of area ≡ 2 → sound_levels area ≡ all_empty (levels_of area)
 unfolding levels_of
 levels-ended area h =
     ap (λ (hs : List Hold). clean_all hs (levels_of area)) (holds-ended (own_levels area) (get_or area 0 0) (params_of area).limit (get_or area 1 0) h)
     ∙ clean-empty area (own_levels area) 1
 
-pub levels_open : (area : List ℕ) → (get_or area 0 0 ≡ 2 → ⊥) → sound_levels area ≡ sound_open (get_or area 4 0) (get_or area 1 0) (levels_of area)
+pub levels_open : (area : List ℕ) → phase_of area ≡ 1 → sound_levels area ≡ sound_open (get_or area 4 0) (get_or area 1 0) (levels_of area)
 unfolding params_of levels_of
 levels_open area h =
     ap (λ (hs : List Hold). clean_all hs (levels_of area)) (holds_open (own_levels area) (get_or area 0 0) (params_of area).limit (get_or area 1 0) h)
     ∙ clean_open area (own_levels area) (get_or area 4 0) (get_or area 1 0) 1
-
-pub phase_open : (p : ℕ) → p ≡ 1 → (eqb p 1 || eqb p 2) ≡ true
-phase_open p e = rw (eq-eqb p 1 e)
-
-pub phase-other : (p : ℕ) → (p ≡ 1 → ⊥) → (eqb p 1 || eqb p 2) ≡ eqb p 2
-phase-other p h = rw (ne_eqb p 1 h)
-
-pub count-ended : (p limit T : ℕ) → p ≡ 2 → count_for p limit T ≡ tree_nodes limit T
-count-ended p limit T e = rw (eq-eqb p 2 e, count_for)
-
-pub count_open : (p limit T : ℕ) → (p ≡ 2 → ⊥) → count_for p limit T ≡ open_count limit T
-count_open p limit T h = rw (ne_eqb p 2 h, count_for)
-
-pub count_word : (area : List ℕ) → sound_count area ≡ eqb (get_or area 14 0) (count_for (get_or area 0 0) (get_or area 4 0) (get_or area 1 0))
-unfolding params_of
-count_word area = refl

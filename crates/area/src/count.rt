@@ -10,13 +10,10 @@ pub fn done_blocks(size: u64, total: u64) -> u64
     requires { 0 < size }
     ensures { result ≡ done_blocks size total }
 {
-    if total < 1 {
-        return 0;
-    }
-    (total - 1) / size
+    total.saturating_sub(1) / size
 }
 
-// The bits that level 1 then holds.
+// The bits that level 1 then holds. Of these two most callers take one, so no struct has both.
 pub fn held_bits(size: u64, total: u64) -> u64
     requires { 0 < size }
     ensures { result ≡ held_bits size total }
@@ -29,18 +26,16 @@ pub fn held_bits(size: u64, total: u64) -> u64
 fn open_above(levels: u64, outputs: u64) -> u64
     ensures { result ≡ open_above levels outputs }
 {
-    let mut n = levels;
     let mut i = outputs;
     let mut sum: u64 = 0;
-    while 0 < i {
-        if n < 1 {
-            return sum + i / 3;
+    for _level in 0..levels {
+        if i < 1 {
+            return sum;
         }
-        i = i / 4;
-        sum = sum + i;
-        n = n - 1;
+        i /= 4;
+        sum += i;
     }
-    sum
+    sum + i / 3
 }
 
 // The compressions of an open area.

@@ -1,19 +1,17 @@
 // Whether no bit of words is set, from a bit on.
-ghost use Rattle.std.specs.Prelude.{◌≡◌, eqb, drop};
+ghost use Rattle.std.specs.Prelude.{◌≡◌, eqb};
 ghost use Rattle.calls.proofs.SoundParts.{empty_from};
 
 // The bits of a word.
 const WORD: usize = 64;
 
-// The words from a place on, joined by `|`.
-fn or_from(part: &[u64], from: usize) -> u64
-    ensures { eqb result 0 ≡ empty_from 0 (drop from part.now) }
+// The words, joined by `|`: a loop with no test, which is quick.
+fn or_all(words: &[u64]) -> u64
+    ensures { eqb result 0 ≡ empty_from 0 words.now }
 {
     let mut all: u64 = 0;
-    let mut i = from;
-    while i < part.len() {
-        all = all | part[i];
-        i += 1;
+    for word in words {
+        all |= *word;
     }
     all
 }
@@ -23,13 +21,9 @@ pub fn empty_from(part: &[u64], from: usize) -> bool
     ensures { result ≡ empty_from from part.now }
 {
     let i = from / WORD;
-    let s = from % WORD;
     if part.len() <= i {
         return true;
     }
-    let low = part[i] << s;
-    if low != 0 {
-        return false;
-    }
-    or_from(part, i + 1) == 0
+    let low = part[i] << (from % WORD);
+    low == 0 && or_all(&part[i + 1..]) == 0
 }

@@ -2,21 +2,55 @@
 // joining their words by `|` (empty.rt), so that the loop is quick.
 #![tactic(auto)]
 
-ghost use Rattle.std.specs.Prelude.{◌≡◌, ◌||◌, ◌&&◌, ◌+◌, ◌*◌, ◌≤◌, eqb, ltb, length, get_or};
+ghost use Rattle.std.specs.Prelude.{◌≡◌, ◌&&◌, ◌+◌, ◌*◌, ◌≤◌, ltb, length, get_or};
 ghost use Rattle.tree.specs.Tree.{most_key_bytes, most_limit, most_levels};
-ghost use Rattle.refusals.specs.Refusals.{first_refusal};
+ghost use Rattle.refusals.specs.Refusals.{first_refusal, told_number};
 ghost use Rattle.calls.specs.Area.{area_levels, area_words, own_levels, own_words, level_start};
 ghost use Rattle.calls.specs.Area.{count_for, sound_key, sound_count, sound_last, sound, Long};
 ghost use Rattle.calls.specs.Calls.{area_tests};
-ghost use Rattle.calls.proofs.SoundParts.{sound_head};
 ghost use Rattle.area.specs.SoundLaws.{LevelPart};
+ghost use Rattle.area.specs.Phase.{phase_word, ReadsPhase};
 
+use levels::Whole;
 use node::Block;
-use refusals::Params;
+use refusals::{Params, Refusal};
 
 pub mod count; // count.rt: how many blocks are compressed, and how many nodes were made
 mod empty; // empty.rt: whether no bit of words is set
 mod levels; // levels.rt: whether the levels are sound
+
+// The phase of a stream. Word 0 of its area has it, by these numbers.
+#[derive(Clone, Copy, PartialEq, Eq)]
+pub enum Phase {
+    Open = 1,
+    Ended = 2,
+}
+
+// A word that is no phase.
+#[derive(Clone, Copy, PartialEq, Eq)]
+pub struct NoPhase(pub u64);
+
+impl TryFrom<u64> for Phase {
+    type Error = NoPhase;
+
+    ghost try_from_gives = { ReadsPhase };
+
+    fn try_from(word: u64) -> Result<Self, NoPhase> {
+        match word {
+            1 => Ok(Phase::Open),
+            2 => Ok(Phase::Ended),
+            _ => Err(NoPhase(word)),
+        }
+    }
+}
+
+impl From<Phase> for u64 {
+    ghost from_gives = { λ phase word. word ≡ phase_word phase };
+
+    fn from(phase: Phase) -> u64 {
+        phase as u64
+    }
+}
 
 // The area of a stream: words that the caller lends. The field is how many the longest has.
 #[derive(Clone, Copy)]
@@ -25,8 +59,8 @@ pub struct Area {
 }
 
 impl Area {
-    // The words before the levels, by their places: 1 if open and 2 if ended, the total bits, the key's bytes, d, L, r, K, the
-    // compressions done, and 0.
+    // The words before the levels, by their places: the phase, the total bits, the key's bytes, d, L, r, K, the compressions done, and 0.
+    // C lends an area as words, so these are places in it, and no fields.
     pub const PHASE: usize = 0;
 
     pub const TOTAL: usize = 1;
@@ -71,14 +105,11 @@ impl Area {
         Self { words: Area::WORDS }
     }
 
-    // The levels of an area, by the height limit: L + 1, and at most those of the longest. By a test, as L + 1 may pass 2^64.
+    // The levels of an area, by the height limit: L + 1, and at most those of the longest. The lesser comes first, as L + 1 may pass 2^64.
     pub fn levels(limit: u64) -> usize
         ensures { result ≡ area_levels limit }
     {
-        if limit < Params::LEVELS {
-            return limit as usize + 1;
-        }
-        Area::LEVELS
+        limit.min(Params::LEVELS - 1) as usize + 1
     }
 
     // The words of an area, by the height limit.
@@ -88,7 +119,7 @@ impl Area {
         Area::HEAD + Area::LEVEL * Area::levels(limit)
     }
 
-    // The parameters that an area has.
+    // The parameters that an area has. It is lent as words, with a clause that all are there: those above write to the same words.
     pub fn params(area: &[u64]) -> Params
         requires { Long area.now }
         ensures { result
@@ -131,63 +162,33 @@ impl Area {
 fn is_short(area: &[u64]) -> bool
     ensures { result ≡ ltb (length area.now) (own_words area.now) }
 {
-    if area.len() <= Area::LIMIT {
-        return true;
-    }
-    area.len() < Area::words(area[Area::LIMIT])
-}
-
-// Whether a phase is 1 or 2: open or ended.
-fn is_phase(phase: u64) -> bool
-    ensures { result ≡ (eqb phase 1 || eqb phase 2) }
-{
-    if phase == 1 {
-        return true;
-    }
-    phase == 2
+    area.len() <= Area::LIMIT || area.len() < Area::words(area[Area::LIMIT])
 }
 
 // The compressions that a phase, a height limit and a total give.
-fn count_for(phase: u64, limit: u64, total: u64) -> u64
+fn count_for(phase: Phase, limit: u64, total: u64) -> u64
     requires { limit ≤ most_limit }
-    ensures { result ≡ count_for phase limit total }
+    ensures { result ≡ count_for (phase_word phase) limit total }
 {
-    if phase == 2 {
-        return shape::tree_nodes(limit, total);
+    match phase {
+        Phase::Open => count::open_count(limit, total),
+        Phase::Ended => shape::tree_nodes(limit, total),
     }
-    count::open_count(limit, total)
 }
 
 // Whether unused key bytes are zero, word 14 is right and word 15 is 0.
-fn rest_sound(area: &[u64]) -> bool
-    requires { Long area.now × (get_or area.now 2 0 ≤ most_key_bytes) × (get_or area.now 4 0 ≤ most_limit) }
-    ensures { result ≡ (sound_key area.now && (sound_count area.now && sound_last area.now)) }
+fn rest_sound(whole: &Whole) -> bool
+    requires { (get_or whole.now.words.now 2 0 ≤ most_key_bytes) × (get_or whole.now.words.now 4 0 ≤ most_limit) }
+    ensures { result
+        ≡ (sound_key whole.now.words.now && (sound_count whole.now.words.now && sound_last whole.now.words.now)) }
 {
-    let from = 8 * area[Area::KEY_BYTES] as usize;
-    if !empty::empty_from(&area[Area::KEY..Area::KEY_END], from) {
+    let area = whole.words;
+    let unused = 8 * area[Area::KEY_BYTES] as usize;
+    if !empty::empty_from(&area[Area::KEY..Area::KEY_END], unused) {
         return false;
     }
-    let count = count_for(area[Area::PHASE], area[Area::LIMIT], area[Area::TOTAL]);
-    if area[Area::DONE] != count {
-        return false;
-    }
-    area[Area::LAST] == 0
-}
-
-// Whether the words before the levels are sound.
-fn head_sound(area: &[u64]) -> bool
-    requires { Long area.now }
-    ensures { result ≡ sound_head area.now }
-{
-    if !is_phase(area[Area::PHASE]) {
-        return false;
-    }
-    let params = Area::params(area);
-    let number = refusals::params_number(params);
-    if number != 0 {
-        return false;
-    }
-    rest_sound(area)
+    let count = count_for(whole.phase, area[Area::LIMIT], area[Area::TOTAL]);
+    area[Area::DONE] == count && area[Area::LAST] == 0
 }
 
 // Whether an area that is long enough is sound.
@@ -195,21 +196,25 @@ pub fn is_sound(area: &[u64]) -> bool
     requires { Long area.now }
     ensures { result ≡ sound area.now }
 {
-    if !head_sound(area) {
+    let Ok(phase) = Phase::try_from(area[Area::PHASE]) else {
+        return false;
+    };
+    if refusals::check_params(Area::params(area)).is_err() {
         return false;
     }
-    levels::levels_sound(area)
+    let whole = Whole { words: area, phase };
+    rest_sound(&whole) && whole.levels_sound()
 }
 
-// 7 for an area that is short or unsound, and otherwise 0.
-pub fn sound_number(area: &[u64]) -> u64
-    ensures { result ≡ first_refusal (area_tests area.now) }
+// Refuses an area that is short or unsound.
+pub fn check_sound(area: &[u64]) -> Result<(), Refusal>
+    ensures { told_number result ≡ first_refusal (area_tests area.now) }
 {
     if is_short(area) {
-        return 7; // short
+        return Err(Refusal::Area); // short
     }
     if !is_sound(area) {
-        return 7; // unsound
+        return Err(Refusal::Area); // unsound
     }
-    0
+    Ok(())
 }

@@ -6,27 +6,6 @@ use native.Mathlib.Omega.{arith}
 use lib.Bits.{bit_or, bit_and, or_shifted, and_mask}
 use lib.Pow.{pow-add, pow_pos, shl_exact, shl-shr, shr-shr, shr_lt, split, high, low, mod-pow-add}
 
--- `|` of numbers that share no bit
-or-add : (x k y : ℕ) → x % 2 ^ k ≡ 0 → y < 2 ^ k → bit_or x y ≡ x + y
-or-add x k y e h =
-    let s : x ≡ x / 2 ^ k * 2 ^ k = omega (arith, split x k) in
-    ap (λ (z : ℕ). bit_or z y) s ∙ or_shifted (x / 2 ^ k) k y h ∙ omega arith
-
--- eight bytes
-pub joined_bytes : (a b c d e f g h : ℕ) → a < 256 → b < 256 → c < 256 → d < 256 → e < 256 → f < 256 → g < 256 → h < 256
-    → bit_or (bit_or (bit_or (bit_or (bit_or (bit_or (bit_or (a * 2 ^ 56 % 2 ^ 64) (b * 2 ^ 48 % 2 ^ 64)) (c * 2 ^ 40 % 2 ^ 64)) (d * 2 ^ 32 % 2 ^ 64)) (e * 2 ^ 24 % 2 ^ 64)) (f * 2 ^ 16 % 2 ^ 64)) (g * 2 ^ 8 % 2 ^ 64)) h
-    ≡ a * 2 ^ 56 + b * 2 ^ 48 + c * 2 ^ 40 + d * 2 ^ 32 + e * 2 ^ 24 + f * 2 ^ 16 + g * 2 ^ 8 + h
-joined_bytes a b c d e f g h ha hb hc hd he hf hg hh =
-    let x1 : ℕ = a * 2 ^ 56 in
-    let x2 : ℕ = x1 + b * 2 ^ 48 in
-    let x3 : ℕ = x2 + c * 2 ^ 40 in
-    let x4 : ℕ = x3 + d * 2 ^ 32 in
-    let x5 : ℕ = x4 + e * 2 ^ 24 in
-    let x6 : ℕ = x5 + f * 2 ^ 16 in
-    let x7 : ℕ = x6 + g * 2 ^ 8 in
-    rw (shl_exact {a = a} 8 56 64 ha (omega arith), shl_exact {a = b} 8 48 64 hb (omega arith), shl_exact {a = c} 8 40 64 hc (omega arith), shl_exact {a = d} 8 32 64 hd (omega arith), shl_exact {a = e} 8 24 64 he (omega arith), shl_exact {a = f} 8 16 64 hf (omega arith), shl_exact {a = g} 8 8 64 hg (omega arith))
-    (rw (or-add x1 56 (b * 2 ^ 48) (omega arith) (omega arith), or-add x2 48 (c * 2 ^ 40) (omega arith) (omega arith), or-add x3 40 (d * 2 ^ 32) (omega arith) (omega arith), or-add x4 32 (e * 2 ^ 24) (omega arith) (omega arith), or-add x5 24 (f * 2 ^ 16) (omega arith) (omega arith), or-add x6 16 (g * 2 ^ 8) (omega arith) (omega arith), or-add x7 8 h (omega arith) (omega arith)))
-
 -- m bits of a number of m bits and one of u bits after it, from bit b on: k is u - b
 pub shifted_in : (m u w n b k : ℕ) → b ≤ m → b + k ≡ u → n < 2 ^ u → bit_or (w * 2 ^ b % 2 ^ m) (n / 2 ^ k) ≡ (w * 2 ^ u + n) / 2 ^ k % 2 ^ m
 shifted_in m u w n b k l e h =

@@ -18,33 +18,33 @@ impl Span {
     pub const MOST_START: u64 = 7;
 }
 
-// A byte as a word.
-fn wide(b: u8) -> u64
-    ensures { result ≡ b }
-{
-    b as u64
+// Where the bits to copy stand in their bytes: from a bit of a byte on.
+#[derive(Clone, Copy)]
+struct Source {
+    byte: usize,
+    bit: usize,
+    ghost in_byte: { bit < 8 },
 }
 
-// Eight bytes as a word. By shifts and `|`, which compile to one load where the bytes are neighbours.
-fn joined(a: u8, b: u8, c: u8, d: u8, e: u8, f: u8, g: u8, h: u8) -> u64
-    ensures { result ≡ a * 2 ^ 56 + b * 2 ^ 48 + c * 2 ^ 40 + d * 2 ^ 32 + e * 2 ^ 24 + f * 2 ^ 16 + g * 2 ^ 8 + h }
-{
-    wide(a) << 56
-        | wide(b) << 48
-        | wide(c) << 40
-        | wide(d) << 32
-        | wide(e) << 24
-        | wide(f) << 16
-        | wide(g) << 8
-        | wide(h)
+impl Source {
+    // The place so many words further on.
+    fn after(self, words: usize) -> Self
+        requires { self.byte + 8 * words < 2 ^ 64 }
+        ensures { (result.byte ≡ self.byte + 8 * words) × (result.bit ≡ self.bit) }
+    {
+        Self {
+            byte: self.byte + 8 * words,
+            bit: self.bit,
+        }
+    }
 }
 
-// The eight bytes from `byte` on.
+// The eight bytes from `byte` on. They are written out since with `array::from_fn` the proof did not close.
 fn load(bytes: &[u8], byte: usize) -> u64
     requires { byte + 8 ≤ length bytes.now }
     ensures { result ≡ eight_from bytes.now byte }
 {
-    joined(
+    u64::from_be_bytes([
         bytes[byte],
         bytes[byte + 1],
         bytes[byte + 2],
@@ -53,36 +53,31 @@ fn load(bytes: &[u8], byte: usize) -> u64
         bytes[byte + 5],
         bytes[byte + 6],
         bytes[byte + 7],
-    )
+    ])
 }
 
-// The byte `i` places after `byte`, and 0 past the end.
-fn byte_at(bytes: &[u8], byte: usize, i: usize) -> u8
-    requires { byte ≤ length bytes.now }
-    ensures { result ≡ get_or bytes.now (byte + i) 0 }
+// The byte at a place, and 0 past the end.
+fn byte_at(bytes: &[u8], place: usize) -> u8
+    ensures { result ≡ get_or bytes.now place 0 }
 {
-    if i < bytes.len() - byte {
-        bytes[byte + i]
-    } else {
-        0
-    }
+    bytes.get(place).copied().unwrap_or(0)
 }
 
-// The same as `load` near the end of the bytes, those past the end as 0.
+// The same as `load` near the end of the bytes, those past the end as 0. In place of `load` it makes whole words 5 to 18 times as slow.
 fn load_end(bytes: &[u8], byte: usize) -> u64
     requires { byte ≤ length bytes.now }
     ensures { result ≡ eight_from bytes.now byte }
 {
-    joined(
-        byte_at(bytes, byte, 0),
-        byte_at(bytes, byte, 1),
-        byte_at(bytes, byte, 2),
-        byte_at(bytes, byte, 3),
-        byte_at(bytes, byte, 4),
-        byte_at(bytes, byte, 5),
-        byte_at(bytes, byte, 6),
-        byte_at(bytes, byte, 7),
-    )
+    u64::from_be_bytes([
+        byte_at(bytes, byte),
+        byte_at(bytes, byte + 1),
+        byte_at(bytes, byte + 2),
+        byte_at(bytes, byte + 3),
+        byte_at(bytes, byte + 4),
+        byte_at(bytes, byte + 5),
+        byte_at(bytes, byte + 6),
+        byte_at(bytes, byte + 7),
+    ])
 }
 
 // The 64 bits from bit `bit` on of a word and the byte after it.
@@ -90,30 +85,31 @@ fn shifted(word: u64, next: u8, bit: usize) -> u64
     requires { bit < 8 }
     ensures { result ≡ (word * 2 ^ 8 + next) / 2 ^ (8 - bit) % 2 ^ 64 }
 {
-    word << bit | wide(next) >> (8 - bit)
+    word << bit | u64::from(next) >> (8 - bit)
 }
 
-// The 64 bits from bit `bit` of byte `byte` on, all of them there: quick, for whole words.
-fn whole_at(bytes: &[u8], byte: usize, bit: usize) -> u64
-    requires { (bit < 8) × (8 * byte + bit + 64 ≤ 8 * length bytes.now) }
-    ensures { result ≡ word_from bytes.now (8 * byte + bit) }
+// The next 64 bits, all of them there: quick, for whole words.
+fn whole_at(bytes: &[u8], from: Source) -> u64
+    requires { 8 * from.byte + from.bit + 64 ≤ 8 * length bytes.now }
+    ensures { result ≡ word_from bytes.now (8 * from.byte + from.bit) }
 {
-    let word = load(bytes, byte);
-    if bit == 0 {
+    let word = load(bytes, from.byte);
+    if from.bit == 0 {
         return word;
     }
-    shifted(word, bytes[byte + 8], bit)
+    shifted(word, bytes[from.byte + 8], from.bit)
 }
 
-// The 64 bits from bit `bit` of byte `byte` on, those past the end as 0.
-fn word_at(bytes: &[u8], byte: usize, bit: usize) -> u64
-    requires { (bit < 8) × (byte ≤ length bytes.now) }
-    ensures { result ≡ word_from bytes.now (8 * byte + bit) }
+// The next 64 bits, those past the end as 0.
+fn word_at(bytes: &[u8], from: Source) -> u64
+    requires { from.byte ≤ length bytes.now }
+    ensures { result ≡ word_from bytes.now (8 * from.byte + from.bit) }
 {
-    if 9 <= bytes.len() - byte {
-        return shifted(load(bytes, byte), bytes[byte + 8], bit);
+    if 9 <= bytes.len() - from.byte {
+        return whole_at(bytes, from);
     }
-    shifted(load_end(bytes, byte), byte_at(bytes, byte, 8), bit)
+    let word = load_end(bytes, from.byte);
+    shifted(word, byte_at(bytes, from.byte + 8), from.bit)
 }
 
 // The word with the number v in the place of the n bits above its low t ones.
@@ -132,49 +128,39 @@ fn fill_part(
     word: usize,
     offset: usize,
     bytes: &[u8],
-    byte: usize,
-    bit: usize,
+    from: Source,
     count: usize,
 )
-    requires { (bit < 8) × (count < 64) × (offset + count ≤ 64) × (64 * word + offset + count ≤ 64 * length block.old)
-        × (8 * byte + bit + count ≤ 8 * length bytes.now) }
-    ensures { block.new ≡ filled block.old (64 * word + offset) bytes.now (8 * byte + bit) count }
+    requires { (count < 64) × (offset + count ≤ 64) × (64 * word + offset + count ≤ 64 * length block.old)
+        × (8 * from.byte + from.bit + count ≤ 8 * length bytes.now) }
+    ensures { block.new ≡ filled block.old (64 * word + offset) bytes.now (8 * from.byte + from.bit) count }
 {
     if count == 0 {
         return;
     }
-    let v = word_at(bytes, byte, bit) >> (64 - count);
+    let v = word_at(bytes, from) >> (64 - count);
     block[word] = put_bits(block[word], count, 64 - offset - count, v);
 }
 
 // Fills whole words.
-fn fill_words(block: &mut [u64], word: usize, bytes: &[u8], byte: usize, bit: usize, words: usize)
-    requires { (bit < 8) × (word + words ≤ length block.old) × (8 * byte + bit + 64 * words ≤ 8 * length bytes.now) }
-    ensures { block.new ≡ filled block.old (64 * word) bytes.now (8 * byte + bit) (64 * words) }
+fn fill_words(block: &mut [u64], word: usize, bytes: &[u8], from: Source, words: usize)
+    requires { (word + words ≤ length block.old) × (8 * from.byte + from.bit + 64 * words ≤ 8 * length bytes.now) }
+    ensures { block.new ≡ filled block.old (64 * word) bytes.now (8 * from.byte + from.bit) (64 * words) }
 {
-    let mut i = 0;
-    while i < words {
-        block[word + i] = whole_at(bytes, byte + 8 * i, bit);
-        i += 1;
+    for i in 0..words {
+        block[word + i] = whole_at(bytes, from.after(i));
     }
 }
 
 // Fills from the start of a word on: the whole words, and then a part of the next.
-fn fill_from(block: &mut [u64], word: usize, bytes: &[u8], byte: usize, bit: usize, count: usize)
-    requires { (bit < 8) × (64 * word + count ≤ 64 * length block.old) × (8 * byte + bit + count ≤ 8 * length bytes.now) }
-    ensures { block.new ≡ filled block.old (64 * word) bytes.now (8 * byte + bit) count }
+fn fill_from(block: &mut [u64], word: usize, bytes: &[u8], from: Source, count: usize)
+    requires { (64 * word + count ≤ 64 * length block.old) × (8 * from.byte + from.bit + count ≤ 8 * length bytes.now) }
+    ensures { block.new ≡ filled block.old (64 * word) bytes.now (8 * from.byte + from.bit) count }
 {
     let words = count / 64;
-    fill_words(&mut *block, word, bytes, byte, bit, words);
-    fill_part(
-        &mut *block,
-        word + words,
-        0,
-        bytes,
-        byte + 8 * words,
-        bit,
-        count % 64,
-    );
+    let rest = from.after(words);
+    fill_words(&mut *block, word, bytes, from, words);
+    fill_part(&mut *block, word + words, 0, bytes, rest, count % 64);
 }
 
 // Copies `count` bits, from bit `bit` of byte `byte` on, into the block's bits from `at` on. The bits around them stay.
@@ -182,25 +168,23 @@ pub fn fill(block: &mut [u64], at: usize, bytes: &[u8], byte: usize, bit: usize,
     requires { (bit < 8) × (at + count ≤ 64 * length block.old) × (8 * byte + bit + count ≤ 8 * length bytes.now) }
     ensures { block.new ≡ filled block.old at bytes.now (8 * byte + bit) count }
 {
+    let from = Source { byte, bit };
     let word = at / 64;
     let offset = at % 64;
     if offset == 0 {
-        fill_from(block, word, bytes, byte, bit, count);
+        fill_from(block, word, bytes, from, count);
         return;
     }
     if count <= 64 - offset {
-        fill_part(block, word, offset, bytes, byte, bit, count);
+        fill_part(block, word, offset, bytes, from, count);
         return;
     }
     let head = 64 - offset;
     let next = bit + head;
-    fill_part(&mut *block, word, offset, bytes, byte, bit, head);
-    fill_from(
-        &mut *block,
-        word + 1,
-        bytes,
-        byte + next / 8,
-        next % 8,
-        count - head,
-    );
+    let rest = Source {
+        byte: byte + next / 8,
+        bit: next % 8,
+    };
+    fill_part(&mut *block, word, offset, bytes, from, head);
+    fill_from(&mut *block, word + 1, bytes, rest, count - head);
 }

@@ -36,9 +36,7 @@ pub extern "C" fn md6_bench_fill(
     if 8 * (bytes.len() - byte) - bit < count {
         return;
     }
-    let mut i = 0;
-    while i < times {
+    for _ in 0..times {
         bits::fill(block, at, bytes, byte, bit, count);
-        i += 1;
     }
 }

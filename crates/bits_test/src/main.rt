@@ -4,7 +4,6 @@
 
 ghost use Rattle.std.specs.Prelude.{◌<◌, ◌≤◌, length};
 
-use digits::Digit;
 use std::io;
 
 // Writes the words on one line.
@@ -43,8 +42,8 @@ fn fill_once(rt: &impl Print, message: &[u8], k: usize) -> io::Result<()>
 
 fn message() -> [u8; 33] {
     let mut message = [0u8; 33];
-    for i in 0..33 {
-        message[i] = message_byte(i);
+    for (i, byte) in message.iter_mut().enumerate() {
+        *byte = message_byte(i);
     }
     message
 }
@@ -60,17 +59,15 @@ fn fills(rt: &impl Print) -> io::Result<()> {
 // Each value's digit.
 fn digits(rt: &impl Print) -> io::Result<()> {
     for n in 0..16 {
-        let digit = [digits::value_digit(n)];
-        rt.write_all(&digit)?;
+        rt.write_all(&[digits::value_digit(n)])?;
     }
     println!(rt; "")
 }
 
 // The value of a byte that is a digit.
 fn value(rt: &impl Print, b: u8) -> io::Result<()> {
-    if let Digit::Value(v) = digits::digit_value(b) {
-        let digit = [b];
-        rt.write_all(&digit)?;
+    if let Some(v) = digits::digit_value(b) {
+        rt.write_all(&[b])?;
         print!(rt; "={v} ")?;
     }
     Ok(())

@@ -12,7 +12,7 @@ use Rattle.calls.proofs.Widths.{Wide, wide-levels, length-chained, receive-width
 use Rattle.climb.specs.Levels.{with_level, HasLevel, up-level, length-empty, first-level, levels_split, with_up}
 use Rattle.node.specs.declared.Keyed.{Keyed}
 use Rattle.node.specs.declared.Place.{Place}
-use Rattle.node.specs.Words.{node_words, placed, tree_params, Ready}
+use Rattle.node.specs.Words.{node_words, placed, tree_params}
 use Rattle.area.specs.CountLaws.{done-fits}
 use Rattle.node.specs.WordLaws.{length-node_words}
 use Rattle.climb.specs.MakeLaws.{Logged}
@@ -82,8 +82,7 @@ le_at e f h = omega arith
 -- ---- level 1 is flushed
 
 -- what the code needs to flush level 1
-pub record Flushing (keyed : Keyed) (constants : List ℕ) (T : ℕ) (area log : List ℕ) (at : ℕ) : Type 0 where
-  pub ready : Ready keyed constants
+pub record Flushing (keyed : Keyed) (T : ℕ) (area log : List ℕ) (at : ℕ) : Type 0 where
   pub long : Long area
   pub own : (params_of area).limit ≡ keyed.params.limit
   pub room : at + 2 * length (flushed (tree_params keyed) keyed.params.limit T (levels_of area)).nodes ≤ length log
@@ -98,7 +97,7 @@ module _ (P : Params) (T : ℕ) (area : List ℕ) where
   flushed_none (suc n) h = absurd (omega arith)
 
 -- a parallel level 1 whose block has the words ws: its node is made, and its output passed on
-module _ {keyed : Keyed} {constants area : List ℕ} (p : Parallel keyed constants area) (T : ℕ) (ws : List ℕ)
+module _ {keyed : Keyed} {area : List ℕ} (p : Parallel keyed area) (T : ℕ) (ws : List ℕ)
     {index : ℕ} {out : List ℕ} (d : index ≡ done_blocks block_bits T) (o : out ≡ node_words (tree_params keyed) 1 index 0 0 ws) where
   abbrev R : Params
   R = tree_params keyed
@@ -115,7 +114,7 @@ module _ {keyed : Keyed} {constants area : List ℕ} (p : Parallel keyed constan
       by (suc n) h = let e : suc n - 1 ≡ n = omega arith in rw (d, e)
 
   module _ {log : List ℕ} {at : ℕ} where
-    passing : index < 2 ^ 56 → at + 2 * length here.nodes ≤ length log → Passing keyed constants index out area log at
+    passing : index < 2 ^ 56 → at + 2 * length here.nodes ≤ length log → Passing keyed index out area log at
     passing small room = record {
       parallel = p;
       small = small;
@@ -127,7 +126,7 @@ module _ {keyed : Keyed} {constants area : List ℕ} (p : Parallel keyed constan
         → Left here area log at area' log' at'
     was_passed l = rw is_passed (passed-node keyed index ws o l)
 
-module _ {keyed : Keyed} {constants : List ℕ} {T : ℕ} {area log : List ℕ} {at : ℕ} (f : Flushing keyed constants T area log at) where
+module _ {keyed : Keyed} {T : ℕ} {area log : List ℕ} {at : ℕ} (f : Flushing keyed T area log at) where
   abbrev P : Params
   P = tree_params keyed
 
@@ -157,10 +156,10 @@ module _ {keyed : Keyed} {constants : List ℕ} {T : ℕ} {area log : List ℕ} 
   -- a parallel one passes it on
   module _ {done : ℕ} {place : Place} {level out : List ℕ} (some : 1 ≤ limit) (d : done ≡ done_blocks block_bits T)
       (ep : place ≡ record { level = 1; index = done; z = 0; p = 0 }) (el : level ≡ level_words area 1) (o : out ≡ out_words P (placed P place level)) where
-    parallel : Parallel keyed constants area
-    parallel = record { ready = f.ready; long = f.long; own = f.own; some = some }
+    parallel : Parallel keyed area
+    parallel = record { long = f.long; own = f.own; some = some }
 
-    pub flush_passing : T < 2 ^ 64 → Passing keyed constants done out area log at
+    pub flush_passing : T < 2 ^ 64 → Passing keyed done out area log at
     flush_passing h = passing parallel T (level_words area 1) d (rw (ep, el) at o) (omega (arith, d, (done-fits T h).0)) (rw (levels_split area) at f.room)
 
     pub flush_passed : {area' log' : List ℕ} {at' : ℕ} → Left (passed_words keyed done out area) area log at area' log' at'
@@ -170,13 +169,13 @@ module _ {keyed : Keyed} {constants : List ℕ} {T : ℕ} {area log : List ℕ} 
 -- ---- two nodes of level 1
 
 -- what the code needs to flush the full block that level 1 held, and then the one that it holds
-pub record FlushingTwo (keyed : Keyed) (constants : List ℕ) (T : ℕ) (held area log : List ℕ) (at : ℕ) : Type 0 where
-  pub parallel : Parallel keyed constants area
+pub record FlushingTwo (keyed : Keyed) (T : ℕ) (held area log : List ℕ) (at : ℕ) : Type 0 where
+  pub parallel : Parallel keyed area
   pub full : held_bits block_bits T ≡ block_bits
   pub words : length held ≡ block_words
   pub room : at + 2 * length (flushed_two (tree_params keyed) keyed.params.limit T held (levels_of area)).nodes ≤ length log
 
-module _ {keyed : Keyed} {constants : List ℕ} {T : ℕ} {held area log : List ℕ} {at : ℕ} (f : FlushingTwo keyed constants T held area log at) where
+module _ {keyed : Keyed} {T : ℕ} {held area log : List ℕ} {at : ℕ} (f : FlushingTwo keyed T held area log at) where
   abbrev Q : Params
   Q = tree_params keyed
 
@@ -204,7 +203,7 @@ module _ {keyed : Keyed} {constants : List ℕ} {T : ℕ} {held area log : List 
     o₁ : out ≡ node_words Q 1 index 0 0 held
     o₁ = rw ep at o.0
 
-    pub first-passing : T < 2 ^ 64 → Passing keyed constants index out area log at
+    pub first-passing : T < 2 ^ 64 → Passing keyed index out area log at
     first-passing h = passing f.parallel T held d o₁ (omega (arith, d, (done-fits T h).0)) (omega (arith, f.room, counted))
 
     -- the second, where the first has been passed on
@@ -215,9 +214,8 @@ module _ {keyed : Keyed} {constants : List ℕ} {T : ℕ} {held area log : List 
       second : index + 1 ≡ done_blocks block_bits (T + block_bits)
       second = omega (arith, d, f.full)
 
-      parallel₁ : Parallel keyed constants area₁
+      parallel₁ : Parallel keyed area₁
       parallel₁ = record {
-        ready = f.parallel.ready;
         long = left-long f.parallel.long wide l;
         own = rw (left-params f.parallel.long wide l) f.parallel.own;
         some = f.parallel.some;
@@ -226,7 +224,7 @@ module _ {keyed : Keyed} {constants : List ℕ} {T : ℕ} {held area log : List 
       above : levels_up area₁ 2 ≡ rest_of one.levels
       above = ap rest_of (sym (levels_split area₁) ∙ left-levels f.parallel.long wide l)
 
-      pub second-passing : T < 2 ^ 64 → Passing keyed constants (index + 1) out₂ area₁ log₁ at₁
+      pub second-passing : T < 2 ^ 64 → Passing keyed (index + 1) out₂ area₁ log₁ at₁
       second-passing h =
           passing parallel₁ (T + block_bits) (level_words area 1) second (rw (en, el) at o.1) (omega (arith, d, (done-fits T h).0))
           (rw above (omega (arith, f.room, counted, l.next, ap length l.logged ∙ length-sets log at (node_log one.nodes))))

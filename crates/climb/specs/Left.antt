@@ -1,13 +1,16 @@
 -- Laws: what is left of levels and nodes that a definition gives, and of one after the other.
-use Rattle.std.specs.Prelude.{◌≡◌, List, ◌++◌, ℕ, ◌+◌, ◌*◌, length}
+use Rattle.std.specs.Prelude.{◌≡◌, List, ◌++◌, ℕ, ◌+◌, ◌-◌, ◌*◌, ◌≤◌, length}
 use Rattle.std.proofs.Common.{sym, ap, ◌∙◌, arith, length-append}
 use Rattle.std.proofs.lemmas.List.Edits.{sets}
+use Rattle.lists.specs.Part.{put}
+use Rattle.tree.proofs.OutputLaws.{length-node_log}
 use Rattle.tree.specs.Tree.{node_log}
 use Rattle.calls.specs.Area.{Long, params_of, levels_of, with_levels}
 use Rattle.calls.proofs.AreaLaws.{length-with_levels, params-with_levels, levels_of-with_levels}
 use Rattle.calls.specs.Calls.{Made}
 use Rattle.calls.proofs.Widths.{Wide}
 use Rattle.calls.proofs.WriteLaws.{with_levels_again}
+use Rattle.climb.specs.MakeLaws.{log_rest, stored_rest}
 use Rattle.climb.specs.ReceiveLaws.{made, log-append}
 
 -- area, log and the place where the log goes on, for levels and nodes that a definition gives
@@ -15,6 +18,15 @@ pub record Left (F : Made) (area log : List ℕ) (at : ℕ) (area' log' : List �
   pub levels : area' ≡ with_levels area F.levels
   pub logged : log' ≡ sets log at (node_log F.nodes)
   pub next : at' ≡ at + 2 * length F.nodes
+
+-- a step is lent the rest of the log, from the place where it goes on
+pub left_rest : {F : Made} {area log : List ℕ} (at : ℕ) {area' rest log' : List ℕ} {n : ℕ} → at + 2 * length F.nodes ≤ length log
+    → Left F area (log_rest at log) 0 area' rest n → log' ≡ put at (length log - at) log rest → Left F area log at area' log' (at + n)
+left_rest {F} {log = log} at room l el = record {
+  levels = l.levels;
+  logged = stored_rest (node_log F.nodes) at log (rw (length-node_log F.nodes) room) l.logged el;
+  next = omega (arith, l.next);
+}
 
 -- ---- as many levels as there were, of 64 words each
 

@@ -1,11 +1,10 @@
 -- Laws: an area as its levels: one level replaced, and all levels from one on. The contracts of the code's own steps cite these.
 use Rattle.std.specs.Prelude.{◌≡◌, refl, Bool, true, false, ℕ, zero, suc, ◌+◌, ◌-◌, ◌*◌, ◌%◌, ◌≤◌, ◌<◌, length, replicate}
 use Rattle.std.proofs.Math.Path.{sym, ap}
-use Rattle.std.proofs.Common.{◌∙◌, take-append-drop, take_at, drop_at, take_all, drop-drop, length-take-le, take-take}
-use mathlib.Core.List.{List, ◌∷◌, ◌++◌, append_assoc, append-nil, flatten}
+use Rattle.std.proofs.Common.{◌∙◌, take-append-drop, take_at, drop_at, drop-drop, length-take-le, take-take}
+use mathlib.Core.List.{List, ◌∷◌, ◌++◌, append_assoc, flatten}
 use native.Mathlib.Omega.{arith}
 use Rattle.std.proofs.Math.ListN.{take, drop}
-use Rattle.std.proofs.Math.Seq.{paste}
 use Rattle.std.proofs.lemmas.List.{take-append-le}
 use Rattle.lists.specs.Part.{put}
 use Rattle.lists.specs.PartLaws.{put-length, put-take, put-drop}
@@ -15,7 +14,6 @@ use Rattle.calls.proofs.AreaLaws.{same_head}
 pub use Rattle.calls.proofs.AreaLaws.{levels_split}
 use Rattle.calls.proofs.FeedLaws.{flatten-from}
 pub use Rattle.calls.proofs.Widths.{length-joined, length-empty}
-use Rattle.area.specs.SoundLaws.{LevelPart}
 
 -- an area with other words in a level
 abbrev pub with_level : List ℕ → ℕ → List ℕ → List ℕ
@@ -59,17 +57,6 @@ module _ (a : ℕ) (l ws : List ℕ) (fits : a + block_words ≤ length l) (size
   put_again vs =
       let d = drop-drop block_words a put-here ∙ put-drop a block_words l ws fits size ∙ sym (drop-drop block_words a l) in
       rw (take_at (take a l) (ws ++ drop block_words (drop a l)) a front, d)
-
--- a copy of a whole list is that list put into its place
-pub paste-put : (d : List ℕ) (at n : ℕ) (s : List ℕ) → length s ≡ n → paste d at s (length s) ≡ put at n d s
-paste-put d at n s h =
-    let t : take (length s) s ≡ s = take_all (length s) s (omega arith) in
-    let e : at + length s ≡ at + n = omega arith in
-    rw (t, e) (append_assoc (take at d) s (drop (at + n) d) ∙ ap (λ (x : List ℕ). take at d ++ (s ++ x)) (sym (drop-drop n at d)))
-
--- a level's part, copied whole
-pub level_copied : {area part copy : List ℕ} {k : ℕ} → LevelPart area k part → copy ≡ paste (replicate block_words 0) 0 part (length part) → copy ≡ level_words area k
-level_copied {part = part} l e = e ∙ paste-put (replicate block_words 0) 0 block_words part l.size ∙ append-nil part ∙ l.words
 
 -- ---- one level replaced
 
@@ -164,15 +151,6 @@ lent-size a = omega arith
 
 pub lent-put : (area : List ℕ) (k : ℕ) (ws : List ℕ) → put (level_start k) ((level_start k + block_words) - level_start k) area ws ≡ with_level area k ws
 lent-put area k ws = rw (lent-size (level_start k))
-
--- words copied into a lent level
-pub lent_join : (area : List ℕ) (k place : ℕ) (out : List ℕ) → length out ≡ output_words
-    → put (level_start k) ((level_start k + block_words) - level_start k) area (paste (take ((level_start k + block_words) - level_start k) (drop (level_start k) area)) place out (length out))
-    ≡ with_level area k (put place output_words (level_words area k) out)
-lent_join area k place out h =
-    lent-put area k (paste (take ((level_start k + block_words) - level_start k) (drop (level_start k) area)) place out (length out))
-    ∙ ap (λ (n : ℕ). with_level area k (paste (take n (drop (level_start k) area)) place out (length out))) (lent-size (level_start k))
-    ∙ ap (with_level area k) (paste-put (level_words area k) place output_words out h)
 
 -- a level cleared, and an output put in front
 pub chain-made : {area : List ℕ} {k : ℕ} (l : HasLevel area k) (out : List ℕ)

@@ -1,7 +1,6 @@
 -- Laws: what the words of an area give: parameters and K; in a sound open one parameters are in range, and the compressions done.
-use Rattle.std.specs.Prelude.{◌≡◌, refl, List, ℕ, ◌^◌, length, get_or, replicate}
-use Rattle.std.proofs.Common.{sym, ◌∙◌, append-nil, arith, length-take, length-drop, take_all}
-use Rattle.std.proofs.Math.Seq.{paste}
+use Rattle.std.specs.Prelude.{◌≡◌, refl, List, ℕ, ◌^◌, length, get_or}
+use Rattle.std.proofs.Common.{sym, ◌∙◌, arith, length-take, length-drop}
 use borrow.Author.Tests.{eqb-true}
 use Rattle.lists.specs.Below.{Below}
 use Rattle.constants.specs.Constants.{RoundTable, part_entries}
@@ -33,12 +32,6 @@ size-read area = refl
 
 pub length-key_of : (area : List ℕ) → Long area → length (k_of area) ≡ 8
 length-key_of area long = simp (length-take, length-drop) (omega arith)
-
--- K is copied out of the area
-pub key_copied : (area : List ℕ) → Long area → paste (replicate 8 0) 0 (k_of area) (length (k_of area)) ≡ k_of area
-key_copied area long =
-    let l : length (k_of area) ≡ 8 = length-key_of area long in
-    rw (l, take_all 8 (k_of area) (omega arith)) (append-nil (k_of area))
 
 module _ {area : List ℕ} (o : OpenArea area) where
   pub open_range : InRange (get_or area 2 0) (get_or area 3 0) (get_or area 4 0) (get_or area 5 0)

@@ -3,12 +3,11 @@ use Rattle.std.specs.Prelude.{◌≡◌, refl, List, [], ◌∷◌, ℕ, ◌+◌
 use Rattle.std.proofs.Common.{sym, ◌∙◌, arith}
 use Rattle.std.proofs.lemmas.List.Edits.{sets}
 use Rattle.std.proofs.Math.Seq.{length-sets}
-use Rattle.tree.specs.Tree.{Params, Node, node_u, node_v, node, output_words, out_words, node_log}
+use Rattle.tree.specs.Tree.{Params, Node, node, output_words, out_words, node_log}
 use Rattle.calls.specs.Area.{Long, params_of, levels_up, empty_level}
 use Rattle.calls.specs.Calls.{Made, receive}
 use Rattle.node.specs.declared.Keyed.{Keyed}
-use Rattle.node.specs.Words.{sized, node_words, tree_params, Ready}
-use Rattle.node.specs.WordLaws.{v-made}
+use Rattle.node.specs.Words.{node_words, tree_params}
 use Rattle.climb.specs.Levels.{with_level, HasLevel, up_step, other-up, length_with, params_with, length-empty, first-level, with_up}
 use Rattle.climb.specs.ReceiveLaws.{made, received, Climbed, Coming, log-more}
 use Rattle.climb.specs.Left.{Left}
@@ -27,18 +26,22 @@ passed_words keyed index out area =
     passed P (keyed.params.limit - 1) index (node P 1 index 0 0 []) out (levels_up area 2)
 
 -- what the code needs where level 1 is parallel
-pub record Parallel (keyed : Keyed) (constants area : List ℕ) : Type 0 where
-  pub ready : Ready keyed constants
+pub record Parallel (keyed : Keyed) (area : List ℕ) : Type 0 where
   pub long : Long area
   pub own : (params_of area).limit ≡ keyed.params.limit
   pub some : 1 ≤ keyed.params.limit
 
 -- and to pass an output on
-pub record Passing (keyed : Keyed) (constants : List ℕ) (index : ℕ) (out area log : List ℕ) (at : ℕ) : Type 0 where
-  pub parallel : Parallel keyed constants area
+pub record Passing (keyed : Keyed) (index : ℕ) (out area log : List ℕ) (at : ℕ) : Type 0 where
+  pub parallel : Parallel keyed area
   pub small : index < 2 ^ 56
   pub words : length out ≡ output_words
   pub room : at + 2 * length (passed_words keyed index out area).nodes ≤ length log
+
+-- as much of a log as is left from a place on has room, too
+pub passing_rest : {keyed : Keyed} {index : ℕ} {out area log rest : List ℕ} {at : ℕ} → Passing keyed index out area log at → length log ≤ at + length rest
+    → Passing keyed index out area rest 0
+passing_rest p h = record { parallel = p.parallel; small = p.small; words = p.words; room = omega (arith, p.room, h) }
 
 -- the node has any block with that output
 pub passed-node : (keyed : Keyed) (index : ℕ) {out area log : List ℕ} {at : ℕ} {area' log' : List ℕ} {at' : ℕ} (block : List ℕ)
@@ -47,8 +50,8 @@ pub passed-node : (keyed : Keyed) (index : ℕ) {out area log : List ℕ} {at : 
     Left (passed (tree_params keyed) (keyed.params.limit - 1) index m (out_words (tree_params keyed) m) (levels_up area 2)) area log at area' log' at')
 passed-node keyed index block e l = rw (← e) record { levels = l.levels; logged = l.logged; next = l.next }
 
-module _ {keyed : Keyed} {constants : List ℕ} {index : ℕ} {out area log : List ℕ} {at : ℕ}
-    (p : Passing keyed constants index out area log at) where
+module _ {keyed : Keyed} {index : ℕ} {out area log : List ℕ} {at : ℕ}
+    (p : Passing keyed index out area log at) where
   abbrev P : Params
   P = tree_params keyed
 
@@ -64,14 +67,7 @@ module _ {keyed : Keyed} {constants : List ℕ} {index : ℕ} {out area log : Li
   same : params_of (with_level area 1 empty_level) ≡ params_of area
   same = params_with first empty_level length-empty
 
-  -- the log has room for the node
-  pub pass_room : at + 2 ≤ length log
-  pass_room = omega (arith, p.room)
-
-  module _ {log₁ area₁ : List ℕ} (l₁ : log₁ ≡ sets log at (node_u 1 index ∷ node_v (sized keyed.params) 0 0 ∷ [])) (e₁ : area₁ ≡ with_level area 1 empty_level) where
-    l : log₁ ≡ sets log at (node_log (no_block ∷ []))
-    l = rw (v-made p.parallel.ready 0 0) at l₁
-
+  module _ {log₁ area₁ : List ℕ} (l : log₁ ≡ sets log at (node_log (no_block ∷ []))) (e₁ : area₁ ≡ with_level area 1 empty_level) where
     abbrev above : Made
     above = receive P (limit - 1) 2 index out (levels_up area 2)
 
@@ -80,9 +76,8 @@ module _ {keyed : Keyed} {constants : List ℕ} {index : ℕ} {out area log : Li
         let e : limit + 1 - 2 ≡ limit - 1 = omega arith in
         rw (e₁, other-up first empty_level length-empty, e) refl
 
-    pub pass_coming : Coming keyed constants 2 index out area₁ log₁ (at + 2)
+    pub pass_coming : Coming keyed 2 index out area₁ log₁ (at + 2)
     pass_coming = record {
-      ready = p.parallel.ready;
       level = record { long = rw (e₁, length_with first empty_level length-empty, same) p.parallel.long; low = omega arith; high = rw (e₁, same) (omega (arith, p.parallel.own, p.parallel.some)) };
       own = rw (e₁, same) p.parallel.own;
       small = p.small;

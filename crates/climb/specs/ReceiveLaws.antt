@@ -15,8 +15,8 @@ use Rattle.calls.proofs.Widths.{length-chained}
 pub use Rattle.tree.proofs.OutputLaws.{length-out_words}
 use Rattle.climb.specs.Levels.{output_place, place-fits, length-empty, with_level, up_area, HasLevel, Joins, up_step, up-level, up_same, other-up, level_with, with_with, length_with, params_with, level-still, length-joined}
 use Rattle.node.specs.declared.Keyed.{Keyed}
-use Rattle.node.specs.Words.{tree_params, Ready}
-use Rattle.climb.specs.MakeLaws.{Logged}
+use Rattle.node.specs.Words.{tree_params}
+use Rattle.climb.specs.MakeLaws.{Logged, log_rest, length-log_rest, stored_rest}
 
 abbrev pub made : List (List ℕ) → List Node → Made
 made levels nodes = record { levels = levels; nodes = nodes }
@@ -99,17 +99,28 @@ pub record Climbed (k : ℕ) (F : Made) (area log : List ℕ) (at : ℕ) (area' 
   pub next : at' ≡ at + 2 * length F.nodes
 
 -- output i comes to a level: what the code needs then
-pub record Coming (keyed : Keyed) (constants : List ℕ) (k i : ℕ) (out area log : List ℕ) (at : ℕ) : Type 0 where
-  pub ready : Ready keyed constants
+pub record Coming (keyed : Keyed) (k i : ℕ) (out area log : List ℕ) (at : ℕ) : Type 0 where
   pub level : HasLevel area k
   pub own : (params_of area).limit ≡ keyed.params.limit
   pub small : i < 2 ^ 56
   pub words : length out ≡ output_words
   pub room : at + 2 * length (received keyed k i out area).nodes ≤ length log
 
+-- a step is lent the rest of the log, from the place where it goes on
+pub climbed_rest : {k : ℕ} {F : Made} {area log : List ℕ} (at : ℕ) {area' rest log' : List ℕ} {n : ℕ} → at + 2 * length F.nodes ≤ length log
+    → Climbed k F area (log_rest at log) 0 area' rest n → log' ≡ put at (length log - at) log rest → Climbed k F area log at area' log' (at + n)
+climbed_rest {F = F} {log = log} at room c el = record {
+  levels = c.levels;
+  logged = stored_rest (node_log F.nodes) at log (rw (length-node_log F.nodes) room) c.logged el;
+  next = omega (arith, c.next);
+}
+
+pub coming_rest : {keyed : Keyed} {k i : ℕ} {out area log : List ℕ} {at : ℕ} → Coming keyed k i out area log at → Coming keyed k i out area (log_rest at log) 0
+coming_rest {log = log} {at} c = record { level = c.level; own = c.own; small = c.small; words = c.words; room = omega (arith, c.room, length-log_rest at log) }
+
 -- it can be given to the level
-pub coming-joins : {keyed : Keyed} {constants : List ℕ} {k i : ℕ} {out area log : List ℕ} {at place : ℕ}
-    → Coming keyed constants k i out area log at
+pub coming-joins : {keyed : Keyed} {k i : ℕ} {out area log : List ℕ} {at place : ℕ}
+    → Coming keyed k i out area log at
     → (sequential : Bool) → place ≡ output_place sequential i → Joins area k place out
 coming-joins {i = i} c sequential e = record { level = c.level; inside = omega (arith, e, place-fits sequential i); words = c.words }
 
@@ -138,7 +149,7 @@ module _ {area : List ℕ} {k place : ℕ} {out : List ℕ} (j : Joins area k pl
 
 -- ---- the sequential level
 
-module _ {keyed : Keyed} {constants : List ℕ} {k i : ℕ} {out area log : List ℕ} {at : ℕ} (c : Coming keyed constants k i out area log at)
+module _ {keyed : Keyed} {k i : ℕ} {out area log : List ℕ} {at : ℕ} (c : Coming keyed k i out area log at)
     (last : keyed.params.limit < k) where
   module _ {place : ℕ} {area₁ : List ℕ} (ep : place ≡ output_place true i)
       (ea : area₁ ≡ with_level area k (put place output_words (level_words area k) out)) where
@@ -185,7 +196,7 @@ pub record Climb (keyed : Keyed) (all : Made) (area₀ log₀ : List ℕ) (at₀
   count_same : at + 2 * length (received keyed k i out area).nodes ≡ at₀ + 2 * length all.nodes
   pub room : at + 2 * length (received keyed k i out area).nodes ≤ length log
 
-pub climb-start : {keyed : Keyed} {constants : List ℕ} {i : ℕ} {out area log : List ℕ} {at : ℕ} → Coming keyed constants 2 i out area log at
+pub climb-start : {keyed : Keyed} {i : ℕ} {out area log : List ℕ} {at : ℕ} → Coming keyed 2 i out area log at
     → Climb keyed (received keyed 2 i out area) area log at 2 i out area log at
 climb-start c = record {
   low = omega arith;
@@ -209,8 +220,8 @@ module _ {keyed : Keyed} {all : Made} {area₀ log₀ : List ℕ} {at₀ k i : �
   climb-level h = record { long = c.long; low = omega (arith, c.low); high = omega (arith, h, c.most, c.own) }
 
   -- the output can come to this level
-  pub climb-coming : {constants : List ℕ} → Ready keyed constants → k ≤ most_levels → Coming keyed constants k i out area log at
-  climb-coming r h = record { ready = r; level = climb-level h; own = c.own; small = c.small; words = c.words; room = c.room }
+  pub climb-coming : k ≤ most_levels → Coming keyed k i out area log at
+  climb-coming h = record { level = climb-level h; own = c.own; small = c.small; words = c.words; room = c.room }
 
   -- what is left of the output where the loop is, is what is left of all
   pub climb-end : {area' log' : List ℕ} {at' : ℕ} → Climbed k (received keyed k i out area) area log at area' log' at'

@@ -4,7 +4,7 @@ use mathlib.Core.Logic.{◌≢◌}
 use mathlib.Core.Bool.{Bool, true, false}
 use mathlib.Core.List.{List}
 use Prim.Native.Nat.{ℕ, zero, suc, ◌+◌, ◌-◌, ◌*◌, ◌≤◌, ◌<◌, zero-le}
-use native.Mathlib.Nat.{zero-add, add-zero}
+use native.Mathlib.Nat.{zero-add}
 use native.Mathlib.Numerals.{add-one}
 use native.Mathlib.Omega.{arith}
 use borrow.Author.Tests.{eqb-true, eqb-false}
@@ -35,91 +35,7 @@ get_d_lane lanes j i xs h = get_d_apart lanes j 345 xs i h
 agree : (xs ys : List ℕ) → length xs ≡ 345 → length ys ≡ 345 → ((i : ℕ) → i < 345 → get_or xs i 0 ≡ get_or ys i 0) → xs ≡ ys
 agree xs ys hx hy f = ext_get_or 0 xs ys (hx ∙ sym hy) (λ i h. f i (omega arith))
 
--- a buffer of one lane is that lane
-pub only_lane : (xs : List ℕ) → length xs ≡ 345 → lane 1 0 xs ≡ xs
-only_lane xs size =
-    agree (lane 1 0 xs) xs (length-apart 1 0 345 xs) size (λ i h. get_d_lane 1 0 i xs h ∙ ap (λ (k : ℕ). get_or xs k 0) (omega arith))
-
--- what is done to a buffer of one lane is done to its lane
-pub one_lane : (f : List ℕ → List ℕ) (xs ys : List ℕ) → length xs ≡ 345 → length ys ≡ 345 → ys ≡ f xs → Lanes 1 f xs ys
-one_lane f xs ys hx hy e j h =
-    let first : j ≡ 0 = omega arith in
-    rw first (only_lane ys hy ∙ e ∙ ap f (sym (only_lane xs hx)))
-
--- ---- a store to one of two lanes
-
-module _ (xs : List ℕ) (size : length xs ≡ 690) (j i v : ℕ) (low : j < 2) (room : i < 345) where
-  stored : (k : ℕ) → k < 345 → (b : Bool) → eqb k i ≡ b → get_or (lane 2 j (set xs (2 * i + j) v)) k 0 ≡ get_or (set (lane 2 j xs) i v) k 0
-  stored k h true e =
-      let same : k ≡ i = eqb-true k i e in
-      get_d_lane 2 j k (set xs (2 * i + j) v) h
-      ∙ ap (λ (m : ℕ). get_or (set xs (2 * i + j) v) (2 * m + j) 0) same
-      ∙ get_or-set_same xs (2 * i + j) v 0 (omega arith)
-      ∙ sym (get_or-set_same (lane 2 j xs) i v 0 (omega (arith, length-apart 2 j 345 xs)))
-      ∙ ap (λ (m : ℕ). get_or (set (lane 2 j xs) i v) m 0) (sym same)
-  stored k h false e =
-      let other : k ≢ i = eqb-false k i e in
-      get_d_lane 2 j k (set xs (2 * i + j) v) h
-      ∙ get_or-set_other xs (2 * i + j) (2 * k + j) v 0 (λ q. other (omega arith))
-      ∙ sym (get_d_lane 2 j k xs h)
-      ∙ sym (get_or-set_other (lane 2 j xs) i k v 0 other)
-
-  pub store : lane 2 j (set xs (2 * i + j) v) ≡ set (lane 2 j xs) i v
-  store =
-      agree (lane 2 j (set xs (2 * i + j) v)) (set (lane 2 j xs) i v)
-      (length-apart 2 j 345 _) (length-set (lane 2 j xs) i v ∙ length-apart 2 j 345 xs)
-      (λ k h. stored k h (eqb k i) refl)
-
-  pub store_beside : (m : ℕ) → m < 2 → m ≢ j → lane 2 m (set xs (2 * i + j) v) ≡ lane 2 m xs
-  store_beside m h other =
-      agree (lane 2 m (set xs (2 * i + j) v)) (lane 2 m xs) (length-apart 2 m 345 _) (length-apart 2 m 345 xs)
-      (λ k l.
-      get_d_lane 2 m k (set xs (2 * i + j) v) l
-      ∙ get_or-set_other xs (2 * i + j) (2 * k + m) v 0 (λ q. other (omega arith))
-      ∙ sym (get_d_lane 2 m k xs l))
-
--- ---- a step in both of two lanes
-
-module _ (xs : List ℕ) (size : length xs ≡ 690) (i s r t : ℕ) (low : 89 ≤ i) (room : i < 345) where
-  tap : (j k : ℕ) → k ≤ 89 → get_or xs (2 * i + j - 2 * k) 0 ≡ get_or (lane 2 j xs) (i - k) 0
-  tap j k h = ap (λ (m : ℕ). get_or xs m 0) (omega arith) ∙ sym (get_d_lane 2 j (i - k) xs (omega arith))
-
-  new_word_lem : (j : ℕ) → new_word 2 (2 * i + j) s r t xs ≡ new_word 1 i s r t (lane 2 j xs)
-  unfolding new_word
-  new_word_lem j =
-      rw (
-        tap j 17 (omega arith),
-        tap j 89 (omega arith),
-        tap j 18 (omega arith),
-        tap j 21 (omega arith),
-        tap j 31 (omega arith),
-        tap j 67 (omega arith),
-      )
-
-  put-each : (x y : ℕ) → x ≡ new_word 2 (2 * i + 0) s r t xs → y ≡ new_word 2 (2 * i + 1) s r t xs
-      → Lanes 2 (put_at i s r t) xs (set (set xs (2 * i + 0) x) (2 * i + 1) y)
-  unfolding put_at
-  put-each x y hx hy zero h =
-      store_beside (set xs (2 * i + 0) x) (length-set xs (2 * i + 0) x ∙ size) 1 i y (omega arith) room 0 h (omega arith)
-      ∙ store xs size 0 i x h room
-      ∙ ap (set (lane 2 0 xs) i) (hx ∙ new_word_lem 0)
-  put-each x y hx hy (suc zero) h =
-      store (set xs (2 * i + 0) x) (length-set xs (2 * i + 0) x ∙ size) 1 i y h room
-      ∙ ap (λ (l : List ℕ). set l i y) (store_beside xs size 0 i x (omega arith) room 1 h (omega arith))
-      ∙ ap (set (lane 2 1 xs) i) (hy ∙ new_word_lem 1)
-  put-each x y hx hy (suc (suc j)) h = absurd (omega arith)
-
-  pub put_both : (x y : ℕ) → x ≡ new_word 2 (2 * i) s r t xs → y ≡ new_word 2 (2 * i + 1) s r t xs
-      → Lanes 2 (put_at i s r t) xs (set (set xs (2 * i) x) (2 * i + 1) y)
-  put_both x y hx hy = rw (add-zero (2 * i)) at (put-each x y (rw (add-zero (2 * i)) hx) hy)
-
--- one more word of a round
-pub put_next : (m i s : ℕ) (xs ys zs : List ℕ) → Lanes 2 (put_round m i s) xs ys
-    → Lanes 2 (put_at (i + m) s (get_or shifts_r m 0) (get_or shifts_t m 0)) ys zs → Lanes 2 (put_round (m + 1) i s) xs zs
-unfolding put_round
-put_next m i s xs ys zs f g j h = g j h ∙ rw (add-one, f j h)
-
--- ---- the last 89 words of each lane, moved to the front
+-- ---- places, in a buffer of one lane or two
 
 -- a place of a lane, among so many words of each lane
 within : (lanes j i n : ℕ) → lanes ≤ 2 → j < lanes → i < n → lanes * i + j < lanes * n
@@ -127,6 +43,108 @@ within zero j i n h l m = absurd (omega arith)
 within (suc zero) j i n h l m = omega arith
 within (suc (suc zero)) j i n h l m = omega arith
 within (suc (suc (suc lanes))) j i n h l m = absurd (omega arith)
+
+-- words at one place are the same word of the same lane
+one-place : (lanes j i m k : ℕ) → lanes ≤ 2 → j < lanes → m < lanes → lanes * i + j ≡ lanes * k + m → (j ≡ m) × (i ≡ k)
+one-place zero j i m k h l r e = absurd (omega arith)
+one-place (suc zero) j i m k h l r e = (omega arith, omega arith)
+one-place (suc (suc zero)) j i m k h l r e = (omega arith, omega arith)
+one-place (suc (suc (suc lanes))) j i m k h l r e = absurd (omega arith)
+
+-- the place so many words before
+back : (lanes j i k : ℕ) → k ≤ i → lanes ≤ 2 → lanes * i + j - lanes * k ≡ lanes * (i - k) + j
+back zero j i k h l = omega arith
+back (suc zero) j i k h l = omega arith
+back (suc (suc zero)) j i k h l = omega arith
+back (suc (suc (suc lanes))) j i k h l = absurd (omega arith)
+
+-- ---- a store to a lane
+
+module _ (lanes : ℕ) (xs : List ℕ) (sized : Sized lanes xs) (j i v : ℕ) (low : j < lanes) (room : i < 345) where
+  stored : (k : ℕ) → k < 345 → (b : Bool) → eqb k i ≡ b
+      → get_or (lane lanes j (set xs (lanes * i + j) v)) k 0 ≡ get_or (set (lane lanes j xs) i v) k 0
+  stored k h true e =
+      let same : k ≡ i = eqb-true k i e in
+      let there : lanes * i + j < length xs = omega (arith, within lanes j i 345 sized.1 low room) in
+      get_d_lane lanes j k (set xs (lanes * i + j) v) h
+      ∙ ap (λ (m : ℕ). get_or (set xs (lanes * i + j) v) (lanes * m + j) 0) same
+      ∙ get_or-set_same xs (lanes * i + j) v 0 there
+      ∙ sym (get_or-set_same (lane lanes j xs) i v 0 (omega (arith, length-apart lanes j 345 xs)))
+      ∙ ap (λ (m : ℕ). get_or (set (lane lanes j xs) i v) m 0) (sym same)
+  stored k h false e =
+      let other : k ≢ i = eqb-false k i e in
+      get_d_lane lanes j k (set xs (lanes * i + j) v) h
+      ∙ get_or-set_other xs (lanes * i + j) (lanes * k + j) v 0 (λ q. other (one-place lanes j k j i sized.1 low low q).1)
+      ∙ sym (get_d_lane lanes j k xs h)
+      ∙ sym (get_or-set_other (lane lanes j xs) i k v 0 other)
+
+  pub store : lane lanes j (set xs (lanes * i + j) v) ≡ set (lane lanes j xs) i v
+  store =
+      agree (lane lanes j (set xs (lanes * i + j) v)) (set (lane lanes j xs) i v)
+      (length-apart lanes j 345 _) (length-set (lane lanes j xs) i v ∙ length-apart lanes j 345 xs)
+      (λ k h. stored k h (eqb k i) refl)
+
+  pub store_beside : (m : ℕ) → m < lanes → m ≢ j → lane lanes m (set xs (lanes * i + j) v) ≡ lane lanes m xs
+  store_beside m h other =
+      agree (lane lanes m (set xs (lanes * i + j) v)) (lane lanes m xs) (length-apart lanes m 345 _) (length-apart lanes m 345 xs)
+      (λ k l.
+      get_d_lane lanes m k (set xs (lanes * i + j) v) l
+      ∙ get_or-set_other xs (lanes * i + j) (lanes * k + m) v 0 (λ q. other (one-place lanes m k j i sized.1 h low q).0)
+      ∙ sym (get_d_lane lanes m k xs l))
+
+-- ---- a step in a lane
+
+module _ (lanes : ℕ) (xs : List ℕ) (two : lanes ≤ 2) (j i s r t : ℕ) (low : 89 ≤ i) (room : i < 345) where
+  tap : (k : ℕ) → k ≤ 89 → get_or xs (lanes * i + j - lanes * k) 0 ≡ get_or (lane lanes j xs) (i - k) 0
+  tap k h =
+      ap (λ (m : ℕ). get_or xs m 0) (back lanes j i k (omega arith) two) ∙ sym (get_d_lane lanes j (i - k) xs (omega arith))
+
+  pub new_word_lem : new_word lanes (lanes * i + j) s r t xs ≡ new_word 1 i s r t (lane lanes j xs)
+  unfolding new_word
+  new_word_lem =
+      rw (
+        tap 17 (omega arith),
+        tap 89 (omega arith),
+        tap 18 (omega arith),
+        tap 21 (omega arith),
+        tap 31 (omega arith),
+        tap 67 (omega arith),
+      )
+
+-- word i made in one more lane
+module _ (lanes j i s r t : ℕ) (xs ys : List ℕ) (sized : Sized lanes ys) (low : j < lanes) (from : 89 ≤ i) (room : i < 345)
+    (made : (k : ℕ) → k < j → k < lanes → lane lanes k ys ≡ put_at i s r t (lane lanes k xs))
+    (kept : (k : ℕ) → j ≤ k → k < lanes → lane lanes k ys ≡ lane lanes k xs) where
+  module _ (v : ℕ) (e : v ≡ new_word lanes (lanes * i + j) s r t ys) where
+    this-lane : lane lanes j (set ys (lanes * i + j) v) ≡ put_at i s r t (lane lanes j xs)
+    unfolding put_at
+    this-lane =
+        store lanes ys sized j i v low room
+        ∙ ap (set (lane lanes j ys) i) (e ∙ new_word_lem lanes ys sized.1 j i s r t from room)
+        ∙ ap (λ (l : List ℕ). set l i (new_word 1 i s r t l)) (kept j (omega arith) low)
+
+    made-lane : (k : ℕ) → k < j + 1 → k < lanes → (b : Bool) → eqb k j ≡ b
+        → lane lanes k (set ys (lanes * i + j) v) ≡ put_at i s r t (lane lanes k xs)
+    made-lane k h l true q =
+        let same : k ≡ j = eqb-true k j q in
+        rw same this-lane
+    made-lane k h l false q =
+        let other : k ≢ j = eqb-false k j q in
+        store_beside lanes ys sized j i v low room k l other ∙ made k (omega arith) l
+
+    pub put_lane : (k : ℕ) → k < j + 1 → k < lanes → lane lanes k (set ys (lanes * i + j) v) ≡ put_at i s r t (lane lanes k xs)
+    put_lane k h l = made-lane k h l (eqb k j) refl
+
+    pub leave_lane : (k : ℕ) → j + 1 ≤ k → k < lanes → lane lanes k (set ys (lanes * i + j) v) ≡ lane lanes k xs
+    leave_lane k h l = store_beside lanes ys sized j i v low room k l (λ q. absurd (omega arith)) ∙ kept k (omega arith) l
+
+-- one more word of a round
+pub put_next : (lanes m i s r t : ℕ) (xs ys zs : List ℕ) → Lanes lanes (put_round m i s) xs ys → Lanes lanes (put_at (i + m) s r t) ys zs
+    → (r ≡ get_or shifts_r m 0) × (t ≡ get_or shifts_t m 0) → Lanes lanes (put_round (m + 1) i s) xs zs
+unfolding put_round
+put_next lanes m i s r t xs ys zs f g by j h = g j h ∙ rw (add-one, by.0, by.1, f j h)
+
+-- ---- the last 89 words of each lane, moved to the front
 
 module _ (lanes : ℕ) (xs : List ℕ) (sized : Sized lanes xs) (j : ℕ) (low : j < lanes) where
   moved : (i : ℕ) → i < 89

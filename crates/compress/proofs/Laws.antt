@@ -1,19 +1,18 @@
 -- The mathematics of the crate's proofs: a copy, word by word; and the 89 words before a place of the buffer, which stay the last 89
 -- words of the report's array A.
 use mathlib.Core.Path.{◌≡◌, refl, sym, ap, ◌∙◌, subst}
-use mathlib.Core.Bool.{Bool}
-use mathlib.Core.List.{List, [], ◌∷◌, ◌++◌, append-nil}
+use mathlib.Core.List.{List, map, [], ◌∷◌, ◌++◌}
 use Prim.Native.Nat.{ℕ, zero, suc, ◌+◌, ◌-◌, ◌*◌, ◌/◌, ◌%◌, ◌≤◌, ◌<◌, zero-le}
-use native.Mathlib.Nat.{zero-add, add-zero, add_comm}
+use native.Mathlib.Nat.{zero-add, add-zero}
 use native.Mathlib.Numerals.{add-one}
 use native.Mathlib.Omega.{arith}
-use lib.Dec.{T, ltb, ltb→lt}
-use lib.ListN.{length, get_or, set, take, drop, length-set, length-drop, replicate}
-use lib.Seq.{paste, paste-suc, take-paste, drop-paste, take_all, get_or-take, get_or-drop, drop-drop, drop-cons, drop-set-add, take-suc-set, take-take, length-take-le, drop-append-le}
-use Rattle.lists.specs.Table.{every, at}
+use lib.ListN.{length, get_or, set, take, drop, length-set, length-drop}
+use lib.Seq.{paste, paste-suc, take-paste, take_all, get_or-take, get_or-drop, drop-drop, drop-cons, drop-set-add, take-suc-set, length-take-le, drop-append-le}
+use Rattle.std.proofs.lemmas.List.{get_or-map, length-map}
 use Rattle.lists.specs.Take.{drop-take}
+use Rattle.compress.specs.declared.Shifts.{Shifts}
 use Rattle.compress.specs.Compress.{shifts_r, shifts_t, word, grown, compressed}
-use Rattle.constants.specs.Constants.{S}
+use Rattle.constants.specs.Constants.{S, RoundTable}
 use Rattle.compress.proofs.CompressLaws.{length-grown, grown-zero, grown-suc}
 use Rattle.compress.specs.Buffer.{new_word, put_at, put_round, before, after, Advances}
 
@@ -24,23 +23,6 @@ copy_more d s j hd hs =
     rw add-one
     (subst (λ (k : ℕ). set (paste d 0 s j) k (get_or s j 0) ≡ paste d 0 s (suc j)) (zero-add j)
     (paste-suc d 0 s j 0 (omega (arith, zero-add j)) hs))
-
--- ---- a loop that moves the words from b on to the front
-
-pub move_more : (d : List ℕ) (b j : ℕ) → j + b < length d
-    → set (paste d 0 (drop b d) j) j (get_or (paste d 0 (drop b d) j) (j + b) 0) ≡ paste d 0 (drop b d) (j + 1)
-move_more d b j room =
-    let s : List ℕ = drop b d in
-    let size : length s ≡ length d - b = length-drop b d in
-    let ahead : get_or (paste d 0 s j) (j + b) 0 ≡ get_or s j 0 =
-    sym (get_or-drop j (paste d 0 s j) b 0)
-    ∙ ap (λ (k : ℕ). get_or (drop k (paste d 0 s j)) b 0) (sym (zero-add j))
-    ∙ ap (λ (l : List ℕ). get_or l b 0) (drop-paste d 0 s j (omega arith) (omega arith))
-    ∙ ap (λ (k : ℕ). get_or (drop k d) b 0) (zero-add j)
-    ∙ get_or-drop j d b 0
-    ∙ ap (λ (k : ℕ). get_or d k 0) (add_comm j b)
-    ∙ sym (get_or-drop b d j 0) in
-    ap (set (paste d 0 s j) j) ahead ∙ copy_more d s j (omega arith) (omega arith)
 
 -- ---- the window
 
@@ -151,20 +133,25 @@ last-words N xs i r low e =
     ∙ ap (drop 73) e
     ∙ drop-drop 73 (16 * r) A
 
--- 16 words copied from a part of the buffer to an array of 16
-pub part_out : (xs : List ℕ) (e m : ℕ) → m ≡ 16 → e + 16 ≤ length xs
-    → paste (replicate 16 0) 0 (take m (drop e xs)) (length (take m (drop e xs))) ≡ take 16 (drop e xs)
-part_out xs e m h l =
-    let n : length (take 16 (drop e xs)) ≡ 16 = length-take-le 16 (drop e xs) (rw length-drop (omega arith)) in
-    rw (h, n) (append-nil _ ∙ take-take 16 16 (drop e xs) (omega arith))
+-- ---- the shifts that stand at place j of a list, where the list's are document 01's
 
--- ---- the shifts are below 64
+pub record AreShifts (xs : List Shifts) : Type 0 where
+  pub right : map (λ (s : Shifts). s.r) xs ≡ shifts_r
+  pub left : map (λ (s : Shifts). s.l) xs ≡ shifts_t
 
-abbrev small : ℕ → ℕ → Bool
-small k x = ltb x 64
+pub shifts_at : {xs : List Shifts} → AreShifts xs → (j : ℕ) (s : Shifts) → j < 16
+    → ((get_or xs j s).r ≡ get_or shifts_r j 0) × ((get_or xs j s).l ≡ get_or shifts_t j 0)
+shifts_at {xs} are j s low =
+    let h : j < length xs = omega (arith, length-map xs (λ (s : Shifts). s.r), ap length are.right) in (
+      sym (get_or-map (λ (s : Shifts). s.r) xs j s 0 h) ∙ ap (λ (l : List ℕ). get_or l j 0) are.right,
+      sym (get_or-map (λ (s : Shifts). s.l) xs j s 0 h) ∙ ap (λ (l : List ℕ). get_or l j 0) are.left,
+    )
 
-small_shift : (xs : List ℕ) → T (every small 0 xs) → (k : ℕ) → k < length xs → get_or xs k 0 < 64
-small_shift xs t k h = ltb→lt (get_or xs k 0) 64 (at small xs t k h)
+-- ---- the first constants of a part are the constants of as many rounds
 
-pub small_shifts : (j : ℕ) → j < 16 → (get_or shifts_r j 0 < 64) × (get_or shifts_t j 0 < 64)
-small_shifts j h = (small_shift shifts_r tt j h, small_shift shifts_t tt j h)
+pub first_constants : (q n : ℕ) (part : List ℕ) → n ≤ length part → RoundTable q part → RoundTable q (take n part)
+first_constants q n part h t = record {
+  rule = λ j l.
+      let low : j < n = omega (arith, length-take-le n part h) in
+      get_or-take n part j 0 low ∙ t.rule j (omega arith);
+}

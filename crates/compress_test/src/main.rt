@@ -3,7 +3,7 @@
 #![tactic(auto)]
 
 ghost use Rattle.std.specs.Prelude.{◌≡◌, ◌+◌, ◌^◌, ◌≤◌, ◌<◌, length};
-ghost use Rattle.constants.specs.Constants.{RoundTable, part_entries};
+ghost use Rattle.constants.specs.Constants.{RoundTable};
 
 use std::io;
 
@@ -31,18 +31,11 @@ fn misprinted(node: usize, i: usize) -> bool {
     }
 }
 
-// Prints the first n words as A[first] on of a node, one to a line.
-fn print_words(
-    rt: &impl Print,
-    node: usize,
-    first: usize,
-    words: &[u64],
-    n: usize,
-) -> io::Result<()>
-    requires { (first + n < 2 ^ 16) × (n ≤ length words.now) }
+// Prints words as A[first] on of a node, one to a line.
+fn print_words(rt: &impl Print, node: usize, first: usize, words: &[u64]) -> io::Result<()>
+    requires { first + length words.now < 2 ^ 16 }
 {
-    for i in 0..n {
-        let word = words[i];
+    for (i, word) in words.iter().enumerate() {
         if misprinted(node, first + i) {
             println!(rt; "misprint")?;
         } else {
@@ -52,15 +45,20 @@ fn print_words(
     Ok(())
 }
 
+// The constants of the first rounds, which each compression is lent.
+#[derive(Drop)]
+struct Lent {
+    constants: [u64; constants::PART],
+    ghost table: { RoundTable 0 constants },
+}
+
 // A node with five rounds of which the report prints all words: A[0] to A[72], and then the outputs of 0 to 5 rounds,
 // which are A[73] to A[168].
-fn print_all(rt: &impl Print, node: usize, window: &[u64; 89], first: &[u64]) -> io::Result<()>
-    requires { RoundTable 0 first.now × (length first.now ≡ part_entries) }
-{
-    print_words(rt, node, 0, window, 73)?;
+fn print_all(rt: &impl Print, node: usize, window: &[u64; 89], lent: &Lent) -> io::Result<()> {
+    print_words(rt, node, 0, &window[..73])?;
     for r in 0..6 {
-        let c = compress::compress(window, first, r);
-        print_words(rt, node, 73 + 16 * r, &c, 16)?;
+        let c = compress::compress(window, &lent.constants, r);
+        print_words(rt, node, 73 + 16 * r, &c)?;
     }
     Ok(())
 }
@@ -69,8 +67,8 @@ fn print_all(rt: &impl Print, node: usize, window: &[u64; 89], first: &[u64]) ->
 fn window_of(k0: u64, k1: u64, u: u64, v: u64, block: &[u64; 64]) -> [u64; 89] {
     let mut w = [0u64; 89];
     let q = compress::q_words();
-    words::copy(&mut w, 0, &q);
-    words::copy(&mut w, 25, block);
+    w[..15].copy_from_slice(&q);
+    w[25..].copy_from_slice(block);
     w[15] = k0;
     w[16] = k1;
     w[23] = u;
@@ -81,8 +79,8 @@ fn window_of(k0: u64, k1: u64, u: u64, v: u64, block: &[u64; 64]) -> [u64; 89] {
 // The block of a node above two others: their outputs, and padding.
 fn joined(left: &[u64; 16], right: &[u64; 16]) -> [u64; 64] {
     let mut block = [0u64; 64];
-    words::copy(&mut block, 0, left);
-    words::copy(&mut block, 16, right);
+    block[..16].copy_from_slice(left);
+    block[16..32].copy_from_slice(right);
     block
 }
 
@@ -90,20 +88,17 @@ fn joined(left: &[u64; 16], right: &[u64; 16]) -> [u64; 64] {
 fn fill(part: &mut [u64], from: usize)
     requires { from + length part.old < 2 ^ 16 }
 {
-    let words = REPEATED;
-    for i in 0..part.len() {
-        part[i] = words[(from + i) % 7];
+    for (i, word) in part.iter_mut().enumerate() {
+        *word = REPEATED[(from + i) % 7];
     }
 }
 
 // C.1: "abc", d = 256, r = 5.
-fn first_example(rt: &impl Print, first: &[u64]) -> io::Result<()>
-    requires { RoundTable 0 first.now × (length first.now ≡ part_entries) }
-{
+fn first_example(rt: &impl Print, lent: &Lent) -> io::Result<()> {
     let mut block = [0u64; 64];
     block[0] = 0x6162630000000000;
     let w = window_of(0, 0, 0x0100000000000000, 0x00054010fe800100, &block);
-    print_all(rt, 0, &w, first)
+    print_all(rt, 0, &w, lent)
 }
 
 // A window of C.2, with the key "abcde12345".
@@ -113,30 +108,26 @@ fn keyed(u: u64, v: u64, block: &[u64; 64]) -> [u64; 89] {
 
 // The leaves of C.2, whose words are printed, and the block of the root over them. They are compressed two at a time, so that the
 // root's window, which the report prints, has the outputs of both.
-fn leaves(rt: &impl Print, first: &[u64]) -> io::Result<[u64; 64]>
-    requires { RoundTable 0 first.now × (length first.now ≡ part_entries) }
-{
+fn leaves(rt: &impl Print, lent: &Lent) -> io::Result<[u64; 64]> {
     let mut left = [0u64; 64];
     fill(&mut left, 0);
     let one = keyed(0x0100000000000000, 0x000540000000a0e0, &left);
-    print_all(rt, 1, &one, first)?;
+    print_all(rt, 1, &one, lent)?;
     let mut right = [0u64; 64];
     fill(&mut right[..11], 64);
     let other = keyed(0x0100000000000001, 0x00054000d400a0e0, &right);
-    print_all(rt, 2, &other, first)?;
-    let two = compress::compress_two(&one, &other, first, 5);
+    print_all(rt, 2, &other, lent)?;
+    let two = compress::compress_two(&one, &other, &lent.constants, 5);
     let c = two.first;
     let d = two.second;
     Ok(joined(&c, &d))
 }
 
 // C.2: 600 bytes, d = 224, r = 5: two leaves, and the root over their outputs.
-fn second_example(rt: &impl Print, first: &[u64]) -> io::Result<()>
-    requires { RoundTable 0 first.now × (length first.now ≡ part_entries) }
-{
-    let above = leaves(rt, first)?;
+fn second_example(rt: &impl Print, lent: &Lent) -> io::Result<()> {
+    let above = leaves(rt, lent)?;
     let root = keyed(0x0200000000000000, 0x000540108000a0e0, &above);
-    print_all(rt, 3, &root, first)
+    print_all(rt, 3, &root, lent)
 }
 
 // A node of C.3, of which the report prints only the window and the output: U and V, the output before it, and so many
@@ -147,35 +138,35 @@ fn sequential(
     v: u64,
     chain: &[u64; 16],
     words: usize,
-    first: &[u64],
+    lent: &Lent,
 ) -> io::Result<[u64; 16]>
-    requires { RoundTable 0 first.now × (length first.now ≡ part_entries) × (index < 3) × (words ≤ 48) }
+    requires { (index < 3) × (words ≤ 48) }
 {
     let mut block = [0u64; 64];
-    words::copy(&mut block, 0, chain);
+    block[..16].copy_from_slice(chain);
     let end = 16 + words;
     fill(&mut block[16..end], 48 * index);
     let w = window_of(0, 0, 0x0100000000000000 + index as u64, v, &block);
-    print_words(rt, 4 + index, 0, &w, 89)?;
-    let c = compress::compress(&w, first, 104);
-    print_words(rt, 4 + index, 1737, &c, 16)?;
+    print_words(rt, 4 + index, 0, &w)?;
+    let c = compress::compress(&w, &lent.constants, 104);
+    print_words(rt, 4 + index, 1737, &c)?;
     Ok(c)
 }
 
 // C.3: 800 bytes, L = 0, d = 256, r = 104: three nodes in sequence.
-fn third_example(rt: &impl Print, first: &[u64]) -> io::Result<()>
-    requires { RoundTable 0 first.now × (length first.now ≡ part_entries) }
-{
+fn third_example(rt: &impl Print, lent: &Lent) -> io::Result<()> {
     let none = [0u64; 16];
-    let c = sequential(rt, 0, 0x0068000000000100, &none, 48, first)?;
-    let d = sequential(rt, 1, 0x0068000000000100, &c, 48, first)?;
-    sequential(rt, 2, 0x00680010b0000100, &d, 4, first)?;
+    let c = sequential(rt, 0, 0x0068000000000100, &none, 48, lent)?;
+    let d = sequential(rt, 1, 0x0068000000000100, &c, 48, lent)?;
+    sequential(rt, 2, 0x00680010b0000100, &d, 4, lent)?;
     Ok(())
 }
 
 fn main(rt: HostRuntime) -> io::Result<()> {
-    let first = constants::first_part();
-    first_example(&rt, &first)?;
-    second_example(&rt, &first)?;
-    third_example(&rt, &first)
+    let lent = Lent {
+        constants: constants::first_part(),
+    };
+    first_example(&rt, &lent)?;
+    second_example(&rt, &lent)?;
+    third_example(&rt, &lent)
 }

@@ -1,4 +1,4 @@
--- The mathematics of the crate's proofs: the parts of the table, and the arms of a `match`.
+-- The mathematics of the crate's proofs: the parts of the table.
 use mathlib.Core.Path.{◌≡◌, sym, ap, ◌∙◌, subst}
 use mathlib.Core.List.{List, [], ◌∷◌, map, flatten, nil≢cons, head-eq_of_cons-eq, tail-eq_of_cons-eq}
 use Prim.Native.Nat.{ℕ, zero, suc, ◌+◌, ◌*◌, ◌<◌}
@@ -7,8 +7,6 @@ use native.Mathlib.Omega.{arith}
 use lib.ListN.{length, get_or, length-append, replicate, get_or-append}
 use lib.Seq.{get_or-append-add}
 use Rattle.constants.specs.Constants.{S, RoundTable, table_entries, table_parts, part_entries}
-
--- ---- the table of round constants
 
 -- a table in parts that begins with the constant of round q: its first part, those after it, and part k
 module _ (r : List ℕ) (rows : List (List ℕ)) (q : ℕ) (size : length r ≡ part_entries) (t : RoundTable q (flatten (r ∷ rows))) where
@@ -37,23 +35,9 @@ parts (suc n) (r ∷ rows) e q t (suc k) h =
     subst (λ (m : ℕ). RoundTable m (get_or rows k [])) from
     (parts n rows (tail-eq_of_cons-eq e) (q + part_entries) (later-parts r rows q (head-eq_of_cons-eq e) t) k (le_of_suc-le-suc h))
 
--- part k of the table, for a p that is k
+-- part k of the whole table
 pub part : (rows : List (List ℕ)) → RoundTable 0 (flatten rows) × (length (flatten rows) ≡ table_entries) × (map length rows ≡ replicate table_parts part_entries)
-    → (k : ℕ) {p : ℕ} → p ≡ k → k < table_parts → RoundTable (part_entries * p) (get_or rows k [])
-part rows t k {p} e h =
-    let from : 0 + part_entries * k ≡ part_entries * p = omega arith in
+    → (k : ℕ) → k < table_parts → RoundTable (part_entries * k) (get_or rows k [])
+part rows t k h =
+    let from : 0 + part_entries * k ≡ part_entries * k = omega arith in
     subst (λ (m : ℕ). RoundTable m (get_or rows k [])) from (parts table_parts rows t.2 0 t.0 k h)
-
--- ---- the arms of a `match`
-
--- what is known of x after the arms of the keys below k
-abbrev pub Past : ℕ → ℕ → Type 0
-Past zero x = Unit {0}
-Past (suc k) x = Past k x × (x ≡ k → ⊥)
-
--- an x below k is one of them
-pub none_left : (k x : ℕ) → Past k x → x < k → ⊥
-none_left zero x r h = not-suc-le-zero h
-none_left (suc k) x r h =
-    let other : x ≡ k → ⊥ = r.1 in
-    none_left k x r.0 (omega arith)

@@ -3,7 +3,7 @@ PARTS, PART = 15, 273
 
 print(f"// Made by table.py: S of each round, in parts of {PART}; entry j of part p is S of round {PART} * p + j. That it is so is the")
 print("// contract of `round_constants`.")
-print(f"pub const ROUND_CONSTANTS: [[u64; {PART}]; {PARTS}] = [")
+print(f"pub static ROUND_CONSTANTS: [[u64; {PART}]; {PARTS}] = [")
 s = 0x0123456789ABCDEF
 for _ in range(PARTS):
     print("    [")

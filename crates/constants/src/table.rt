@@ -1,6 +1,6 @@
 // Made by table.py: S of each round, in parts of 273; entry j of part p is S of round 273 * p + j. That it is so is the
 // contract of `round_constants`.
-pub const ROUND_CONSTANTS: [[u64; 273]; 15] = [
+pub static ROUND_CONSTANTS: [[u64; 273]; 15] = [
     [
         0x0123456789abcdef,
         0x0347cace1376567e,

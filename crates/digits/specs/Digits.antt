@@ -1,13 +1,8 @@
 -- Definitions: numbers and words as hexadecimal digits, and back. Document 01, "Suspended text": "digits 0 to 9 and a to f; a capital is
 -- refused". A text is a list of bytes.
 use mathlib.Core.List.{List, [], ◌∷◌, ◌++◌, map, flatten}
-use Rattle.std.proofs.Math.Option.{Option, none, some}
-use Rattle.std.specs.Prelude.{ℕ, zero, suc, ◌+◌, ◌*◌, ◌/◌, ◌%◌, ◌^◌, take, drop}
+use Rattle.std.specs.Prelude.{Option, Some, None, option_and_then, ℕ, zero, suc, ◌+◌, ◌*◌, ◌/◌, ◌%◌, ◌^◌, take, drop}
 use Rattle.digits.specs.Hex.{digit_of, hex_digit}
-use Rattle.digits.specs.declared.Digit.{Digit}
-use Rattle.digits.specs.declared.Digit.TheVariants.{Value, Refused}
-use Rattle.digits.specs.declared.Reading.{Reading}
-use Rattle.digits.specs.declared.Reading.TheVariants.{Number, NoDigit}
 
 -- n hexadecimal digits of a number, high digit first
 unfoldable pub hex_digits : ℕ → ℕ → List ℕ
@@ -22,15 +17,10 @@ word_digits ws = flatten (map (hex_digits 16) ws)
 abbrev pub line : List ℕ → List ℕ
 line ds = ds ++ (10 ∷ [])
 
--- "digits 0 to 9 and a to f; a capital is refused": what follows a digit goes on with its value, and a refused digit refuses
-abbrev pub with_digit : Digit → (ℕ → Option ℕ) → Option ℕ
-with_digit (Value v) go = go v
-with_digit Refused go = none
-
 -- the number that digits spell, high digit first, after those that spelt x; none if a byte is refused
 abbrev pub spelt : ℕ → List ℕ → Option ℕ
-spelt x [] = some x
-spelt x (b ∷ bs) = with_digit (digit_of b) (λ (v : ℕ). spelt (x * 16 + v) bs)
+spelt x [] = Some x
+spelt x (b ∷ bs) = option_and_then (λ (v : ℕ). spelt (x * 16 + v) bs) (digit_of b)
 
 -- n words of 16 digits each, each spelt or none
 unfoldable pub spelt_words : ℕ → List ℕ → List (Option ℕ)
@@ -39,21 +29,16 @@ spelt_words (suc n) text = spelt 0 (take 16 text) ∷ spelt_words n (drop 16 tex
 
 -- the words, if each is spelt; none if one is not
 abbrev pub with_word : Option ℕ → Option (List ℕ) → Option (List ℕ)
-with_word none ws = none
-with_word (some w) none = none
-with_word (some w) (some ws) = some (w ∷ ws)
+with_word None ws = None
+with_word (Some w) None = None
+with_word (Some w) (Some ws) = Some (w ∷ ws)
 
 abbrev pub all_spelt : List (Option ℕ) → Option (List ℕ)
-all_spelt [] = some []
+all_spelt [] = Some []
 all_spelt (w ∷ ws) = with_word w (all_spelt ws)
 
 -- the bytes that an even count of digits spells, two digits a byte, high digit first; none if a digit is refused or one is left
 abbrev pub bytes_of : List ℕ → Option (List ℕ)
-bytes_of [] = some []
-bytes_of (a ∷ []) = none
+bytes_of [] = Some []
+bytes_of (a ∷ []) = None
 bytes_of (a ∷ b ∷ bs) = with_word (spelt 0 (a ∷ b ∷ [])) (bytes_of bs)
-
--- what the answer of `digits::number` says
-abbrev pub reading_number : Reading → Option ℕ
-reading_number (Number x) = some x
-reading_number NoDigit = none

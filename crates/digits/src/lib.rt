@@ -1,25 +1,21 @@
 // Numbers and words as hexadecimal digits, and back; a digit is 0 to 9 or a to f, and a capital is refused.
 #![tactic(auto)]
 
-ghost use Rattle.std.specs.Prelude.{◌≡◌, cond, ◌*◌, ◌≤◌, ◌<◌, length};
-ghost use Rattle.std.proofs.Math.Option.{none, some};
+ghost use Rattle.std.specs.Prelude.{◌≡◌, ◌*◌, ◌≤◌, ◌<◌, length, option_map};
 ghost use Rattle.digits.specs.Hex.{digit_of, hex_digit};
-ghost use Rattle.digits.specs.Digits.{hex_digits, word_digits, spelt, spelt_words, all_spelt, reading_number};
+ghost use Rattle.digits.specs.Digits.{hex_digits, word_digits, spelt, spelt_words, all_spelt};
 
-// What a byte is as a hexadecimal digit.
-#[derive(Clone, Copy)]
-pub enum Digit {
-    Value(u64),
-    Refused,
-}
+// The digits of a word.
+const WORD_DIGITS: usize = 16;
 
-pub fn digit_value(b: u8) -> Digit
+// The value of a byte as a hexadecimal digit, if it is one.
+pub fn digit_value(b: u8) -> Option<u64>
     ensures { result ≡ digit_of b }
 {
     match b {
-        b'0'..=b'9' => Digit::Value((b - b'0') as u64),
-        b'a'..=b'f' => Digit::Value((b - b'a' + 10) as u64),
-        _ => Digit::Refused,
+        b'0'..=b'9' => Some(u64::from(b - b'0')),
+        b'a'..=b'f' => Some(u64::from(b - b'a' + 10)),
+        _ => None,
     }
 }
 
@@ -40,11 +36,9 @@ pub fn put_digits(part: &mut [u8], x: u64)
     ensures { part.new ≡ hex_digits (length part.old) x }
 {
     let n = part.len();
-    let mut i = 0;
-    while i < n {
+    for (i, digit) in part.iter_mut().enumerate() {
         let s = 4 * (n - 1 - i);
-        part[i] = value_digit((x >> s) % 16);
-        i += 1;
+        *digit = value_digit((x >> s) % 16);
     }
 }
 
@@ -53,52 +47,34 @@ pub fn put_words(part: &mut [u8], words: &[u64])
     requires { length part.old ≡ 16 * length words.now }
     ensures { part.new ≡ word_digits words.now }
 {
-    let mut i = 0;
-    while i < words.len() {
-        let a = 16 * i;
-        let e = a + 16;
-        put_digits(&mut part[a..e], words[i]);
-        i += 1;
+    // no `chunks_exact_mut`: of what is written through it a proof knows the length alone
+    for (i, word) in words.iter().enumerate() {
+        let a = WORD_DIGITS * i;
+        put_digits(&mut part[a..a + WORD_DIGITS], *word);
     }
 }
 
 // The number that digits spell; none if a byte is no digit.
-#[derive(Clone, Copy)]
-pub enum Reading {
-    Number(u64),
-    NoDigit,
-}
-
-pub fn number(part: &[u8]) -> Reading
+#[tactic(auto, using(crate::proofs::Loops::number_steps))]
+pub fn number(part: &[u8]) -> Option<u64>
     requires { length part.now ≤ 16 }
-    ensures { reading_number result ≡ spelt 0 part.now }
+    ensures { result ≡ spelt 0 part.now }
 {
-    let mut x: u64 = 0;
-    let mut i = 0;
-    while i < part.len() {
-        match digit_value(part[i]) {
-            Digit::Value(v) => x = x * 16 + v,
-            Digit::Refused => return Reading::NoDigit,
-        }
-        i += 1;
+    let mut x = 0;
+    for b in part {
+        x = x * 16 + digit_value(*b)?;
     }
-    Reading::Number(x)
+    Some(x)
 }
 
-// The words that digits spell, 16 each. Answers false at the first byte that is no digit.
-pub fn spell_words(words: &mut [u64], part: &[u8]) -> bool
+// The words that digits spell, 16 each; none at the first byte that is no digit.
+pub fn spell_words(words: &mut [u64], part: &[u8]) -> Option<()>
     requires { length part.now ≡ 16 * length words.old }
-    ensures { cond result (some words.new) none ≡ all_spelt (spelt_words (length words.old) part.now) }
+    ensures { option_map (λ _. words.new) result ≡ all_spelt (spelt_words (length words.old) part.now) }
 {
-    let mut i = 0;
-    while i < words.len() {
-        let a = 16 * i;
-        let e = a + 16;
-        match number(&part[a..e]) {
-            Reading::Number(w) => words[i] = w,
-            Reading::NoDigit => return false,
-        }
-        i += 1;
+    for (i, word) in words.iter_mut().enumerate() {
+        let a = WORD_DIGITS * i;
+        *word = number(&part[a..a + WORD_DIGITS])?;
     }
-    true
+    Some(())
 }

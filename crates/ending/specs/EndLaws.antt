@@ -1,19 +1,19 @@
 -- Laws: of the end in Calls: the root's words and the digest, the wipe, and a log that is copied.
 use Rattle.std.specs.Prelude.{◌≡◌, refl, Bool, true, false, List, ◌∷◌, ◌++◌, ℕ, zero, suc, ◌+◌, ◌-◌, ◌*◌, ◌/◌, ◌%◌, ◌^◌, ◌≤◌, ◌<◌, eqb, length, take, drop, get_or, set, replicate}
-use Rattle.std.proofs.Common.{sym, ap, ◌∙◌, zero-add, arith, take_all, drop-drop}
-use Rattle.std.proofs.Math.Seq.{paste}
+use Rattle.std.proofs.Common.{sym, ap, ◌∙◌, arith, drop-drop, length-take, length-drop, length-set}
 use Rattle.lists.specs.Part.{put}
 use Rattle.bits.specs.Bits.{bits_of, numbers}
-use Rattle.tree.specs.Tree.{Params, Node, node, output, last_or, no_node, digest_bytes, block_bits, sequential_bits, output_bits, out_words, node_log, logged}
+use Rattle.tree.specs.Tree.{Params, Node, most_levels, node, output, last_or, no_node, digest_bytes, block_bits, sequential_bits, output_bits, out_words, logged}
 use Rattle.tree.proofs.TreeLaws.{length-output-node}
 use Rattle.tree.proofs.Count.{tree_nodes_bound}
-use Rattle.tree.proofs.OutputLaws.{length-node_log, logged-front, words-bits}
-use Rattle.calls.specs.Area.{total_of, compressions_of, params_of, own_levels, own_words, level_words, levels_from, levels_of, with_levels, empty_levels, done_blocks, held_bits, head_words, block_words, levels_up, Long}
-use Rattle.calls.specs.Calls.{join_parallel, join_sequential, last_above, last_nodes, last_nodes_of, ended_area, digest_out}
+use Rattle.tree.proofs.OutputLaws.{length-logged, words-bits}
+use Rattle.calls.proofs.LogWords.{last_bound}
+use Rattle.calls.specs.Area.{total_of, compressions_of, params_of, area_words, own_levels, level_words, levels_from, levels_of, with_levels, empty_levels, done_blocks, held_bits, head_words, block_words, levels_up, Long}
+use Rattle.calls.specs.Calls.{join_parallel, join_sequential, last_above, last_nodes, last_nodes_of, digest_out}
 use Rattle.calls.proofs.CallLaws.{EndPassed}
 use Rattle.calls.proofs.Machine
 use Rattle.calls.proofs.LastNodes
-use Rattle.calls.proofs.AreaLaws.{length-level_words, levels_split, flatten-empty}
+use Rattle.calls.proofs.AreaLaws.{length-level_words, levels_split, flatten-empty, limit-word, params-set}
 use Rattle.calls.proofs.Widths.{length-joined}
 use Rattle.climb.specs.ReceiveLaws.{length-out_words}
 use Rattle.climb.specs.OpenArea.{OpenArea, size-read}
@@ -83,12 +83,21 @@ digest-written area out root d long ed e =
 
 -- ---- the wipe
 
-pub wiped : (area : List ℕ) (e : ℕ) → e ≡ own_words area
-    → put head_words (e - head_words) area (replicate (e - head_words) 0) ≡ with_levels area (empty_levels (own_levels area))
+all-zero : (area : List ℕ) (k : ℕ) → k ≡ block_words * own_levels area
+    → put head_words k area (replicate k 0) ≡ with_levels area (empty_levels (own_levels area))
 unfolding with_levels
-wiped area e h =
-    let n : e - head_words ≡ block_words * own_levels area = omega arith in
-    rw (n, drop-drop (block_words * own_levels area) head_words area, flatten-empty (own_levels area)) refl
+all-zero area k h = rw (h, drop-drop (block_words * own_levels area) head_words area, flatten-empty (own_levels area)) refl
+
+-- word 0 is then 2 and word 14 counts all nodes, and the levels, k words, are zero
+pub wiped : (area : List ℕ) (phase n k : ℕ) → phase ≡ 2 → Long area → k ≡ area_words (get_or area 4 0) - head_words
+    → (let marked : List ℕ = set (set area 0 phase) 14 n in
+    put head_words k marked (replicate (length (take k (drop head_words marked))) 0) ≡ with_levels (set (set area 0 2) 14 n) (empty_levels (own_levels area)))
+wiped area phase n k p long h =
+    let ended : List ℕ = set (set area 0 2) 14 n in
+    let same : params_of ended ≡ params_of area = params-set (set area 0 2) 14 n (λ h. omega arith) ∙ params-set area 0 2 (λ h. omega arith) in
+    let m : k ≡ block_words * own_levels area = omega (arith, limit-word area) in
+    let size : length (take k (drop head_words (set (set area 0 phase) 14 n))) ≡ k = simp (length-take, length-drop, length-set) (omega (arith, limit-word area)) in
+    rw (size, p) (rw same at (all-zero ended k (rw same m)))
 
 -- room for the digest
 pub digest-room : {area out log : List ℕ} → EndPassed area out log → digest_bytes (get_or area 3 0) ≤ length out
@@ -98,17 +107,10 @@ digest-room {area} p = rw (size-read area) at p.output
 pub count_fits : {area : List ℕ} → OpenArea area → total_of area < 2 ^ 64 → compressions_of area + length (last_nodes_of area) < 2 ^ 64
 count_fits {area} o h = omega (arith, count_left o h, tree_nodes_bound (get_or area 4 0) (total_of area) h)
 
--- what the wipe leaves
-pub wiped-area : (area : List ℕ) (nodes : ℕ) → nodes ≡ length (last_nodes_of area)
-    → with_levels (set (set area 0 2) 14 (compressions_of area + nodes)) (empty_levels (own_levels area)) ≡ ended_area area (last_nodes_of area)
-unfolding ended_area
-wiped-area area nodes e = ap (λ (x : ℕ). with_levels (set (set area 0 2) 14 (compressions_of area + x)) (empty_levels (own_levels area))) e
-
 -- ---- a close: the log that the nodes were written to before
 
--- U and V of the nodes, copied to the lent log
-pub log_copied : {n : ℕ} {made now : List ℕ} (nodes : List Node) (before log : List ℕ) → now ≡ (let us : List ℕ = take n made in paste log 0 us (length us))
-    → made ≡ logged nodes before → n ≡ 2 * length nodes → now ≡ logged nodes log
-log_copied nodes before log c m e =
-    let f : take (2 * length nodes) (logged nodes before) ≡ node_log nodes = logged-front nodes before in
-    c ∙ rw (m, e, f, length-node_log nodes, zero-add (2 * length nodes), take_all (2 * length nodes) (node_log nodes) (omega (arith, length-node_log nodes))) refl
+-- its words are room for them
+pub made_room : {made : List ℕ} (area before : List ℕ) → made ≡ logged (last_nodes_of area) before → 2 * most_levels ≤ length before
+    → 2 * length (last_nodes_of area) ≤ length made
+made_room area before e h =
+    omega (arith, last_bound area, ap length e ∙ length-logged (last_nodes_of area) before (omega (arith, last_bound area)))

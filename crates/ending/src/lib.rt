@@ -4,14 +4,14 @@
 
 ghost use Rattle.std.specs.Prelude.{◌≡◌, ◌*◌, ◌≤◌, length, set};
 ghost use Rattle.tree.specs.Tree.{logged};
+ghost use Rattle.refusals.specs.Refusals.{first_refusal, told_number, told_count};
 ghost use Rattle.calls.specs.Area.{own_levels, Long, with_levels, empty_levels};
-ghost use Rattle.calls.specs.Calls.{last_nodes_of, ended_area, digest_out, end_of, preview_of, close_of};
+ghost use Rattle.calls.specs.Calls.{last_nodes_of, nodes_digest, close_tests, ended_area, digest_out, end_of, preview_of, close_of};
 ghost use Rattle.calls.proofs.CallLaws.{EndPassed};
 ghost use Rattle.climb.specs.OpenArea.{OpenArea};
-ghost use Rattle.numbers.specs.NumberLaws.{open_close_number};
 
-use area::Area;
-use refusals::{Answer, Params};
+use area::{Area, Phase};
+use refusals::{Params, Refusal};
 
 // The most words of log that an end needs: two for each level.
 const MOST_LOG: usize = 2 * Area::LEVELS;
@@ -36,12 +36,13 @@ fn wipe(area: &mut [u64], nodes: u64)
         ≡ with_levels (set (set area.old 0 2) 14 nodes) (empty_levels (own_levels area.old)) }
 {
     let e = Area::words(area[Area::LIMIT]);
-    area[Area::PHASE] = 2;
+    area[Area::PHASE] = u64::from(Phase::Ended);
     area[Area::DONE] = nodes;
-    words::clear(&mut area[Area::HEAD..e]);
+    area[Area::HEAD..e].fill(0);
 }
 
 // The second half: wipes the area; answers how many nodes were left.
+#[tactic(auto, unfolding(calls::specs::Calls::ended_area))]
 fn end_area(area: &mut [u64]) -> u64
     requires { OpenArea area.old }
     ensures { (area.new ≡ ended_area area.old (last_nodes_of area.old))
@@ -54,70 +55,68 @@ fn end_area(area: &mut [u64]) -> u64
 }
 
 // Ends a stream.
-pub fn end(area: &mut [u64], digest: &mut [u8], log: &mut [u64]) -> Answer
+#[tactic(auto, using(numbers::specs::NumberLaws::answer_of_refusal), unfolding(calls::specs::Calls::end_of, calls::specs::Calls::end_number))]
+pub fn end(area: &mut [u64], digest: &mut [u8], log: &mut [u64]) -> Result<u64, Refusal>
     ensures { record {
-      number = result.number;
-      count = result.count;
+      number = told_number result;
+      count = told_count result;
       area = area.new;
       digest = digest.new;
       log = log.new;
     }
         ≡ end_of area.old digest.old log.old }
 {
-    let number = numbers::end_number(area, digest, log);
-    if number != 0 {
-        return Answer::refused(number);
-    }
+    numbers::check_end(area, digest, log)?;
     make_digest(area, digest, log);
-    let nodes = end_area(area);
-    Answer::accepted(nodes)
+    Ok(end_area(area))
 }
 
 // Writes the digest that an end would, and leaves the stream open as it is. The nodes are not logged.
-pub fn preview(area: &[u64], digest: &mut [u8]) -> Answer
-    ensures { record { number = result.number; count = result.count; digest = digest.new }
+#[tactic(auto, using(numbers::specs::NumberLaws::answer_of_refusal, calls::proofs::LogWords::last_bound), unfolding(calls::specs::Calls::preview_of, calls::specs::Calls::preview_number))]
+pub fn preview(area: &[u64], digest: &mut [u8]) -> Result<u64, Refusal>
+    ensures { record { number = told_number result; count = told_count result; digest = digest.new }
         ≡ preview_of area.now digest.old }
 {
-    let number = numbers::preview_number(area, digest);
-    if number != 0 {
-        return Answer::refused(number);
-    }
+    numbers::check_preview(area, digest)?;
     let mut log = [0u64; MOST_LOG];
     make_digest(area, digest, &mut log);
-    Answer::accepted(0)
+    Ok(0)
 }
 
-// The number that refuses a close of an open area with a figure, and otherwise 0: 8, then 14. The nodes are made for that, and U and V of
-// them go to `made`, so that the lent log stays as it is if the close is refused.
-fn figure_number(area: &[u64], figure: &[u8], log: &[u64], made: &mut [u64]) -> u64
+// What refuses a close of an open area with a figure: the log's room, then the figure. The nodes are made for that, and U and V of them
+// go to `made`, so that the lent log stays as it is if the close is refused.
+fn check_figure(area: &[u64], figure: &[u8], log: &[u64], made: &mut [u64]) -> Result<(), Refusal>
     requires { OpenArea area.now × (2 * length (last_nodes_of area.now) ≤ length made.old) }
-    ensures { (result ≡ open_close_number area.now figure.now log.now)
+    ensures { (told_number result
+        ≡ first_refusal (close_tests (length (last_nodes_of area.now)) (nodes_digest area.now (last_nodes_of area.now)) figure.now log.now))
         × (made.new ≡ logged (last_nodes_of area.now) made.old) }
 {
     let mut digest = [0u8; MOST_DIGEST];
     make_digest(area, &mut digest, made);
     let bytes = numbers::digest_bytes(area);
-    let differs = !words::same_bytes(&digest[0..bytes], figure);
-    let short = numbers::is_short_log(log, numbers::nodes_left(area));
-    refusals::first_of_two(short, 8, differs, 14)
+    numbers::check_log(log, numbers::nodes_left(area))?;
+    if !words::same_bytes(&digest[..bytes], figure) {
+        return Err(Refusal::Figure);
+    }
+    Ok(())
 }
 
 // Ends a stream if the given digest is the one that a preview would write.
-pub fn close(area: &mut [u64], digest: &[u8], log: &mut [u64]) -> Answer
-    ensures { record { number = result.number; count = result.count; area = area.new; log = log.new }
+#[tactic(auto, using(numbers::specs::NumberLaws::answer_of_refusal, calls::proofs::LogWords::last_bound), unfolding(calls::specs::Calls::close_of, calls::specs::Calls::close_number))]
+pub fn close(area: &mut [u64], digest: &[u8], log: &mut [u64]) -> Result<u64, Refusal>
+    ensures { record {
+      number = told_number result;
+      count = told_count result;
+      area = area.new;
+      log = log.new;
+    }
         ≡ close_of area.old digest.now log.old }
 {
-    let unfit = numbers::area_number(area);
-    if unfit != 0 {
-        return Answer::refused(unfit); // 7, 10
-    }
+    numbers::check_area(area)?;
     let mut made = [0u64; MOST_LOG];
-    let number = figure_number(area, digest, log, &mut made);
-    if number != 0 {
-        return Answer::refused(number); // 8, 14
-    }
+    check_figure(area, digest, log, &mut made)?;
     let nodes = end_area(area);
     let n = 2 * (nodes as usize);
-    words::copy(log, 0, &made[0..n]);
-    Answer::accepted(nodes)
+    log[..n].copy_from_slice(&made[..n]);
+    Ok(nodes)
 }

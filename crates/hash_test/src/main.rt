@@ -1,6 +1,6 @@
 // Calls `hash` from Rattle, since `md6_hash` does not tell C the count: for each bit count of the rows that tests/hash/rows.c runs
-// from C, at three height limits and start bits, and for refused calls. A line is what hash_number tells, the number and the
-// count that hash answers, and the output, which held a5 in every byte before the call. Then some default rounds.
+// from C, at three height limits and start bits, and for refused calls. A line is the number of what `check` refuses by, the number and
+// the count that hash answers, and the output, which held a5 in every byte before the call. Then some default rounds.
 // tests/hash/expected.py --rattle makes the expected lines with the second program and from document 02.
 #![tactic(auto)]
 
@@ -32,10 +32,13 @@ fn call(
         limit,
         rounds,
     };
-    let number = hash::hash_number(&ones, Span { start, bits }, params, &out);
+    let number = match hash::check(&ones, Span { start, bits }, params, &out) {
+        Ok(()) => 0,
+        Err(refusal) => refusal.number(),
+    };
     print!(rt; "{number} ")?;
-    let answer = hash::hash(&ones, start, bits, key, d, limit, rounds, &mut out);
-    test_print::answer(rt, answer.number, answer.count)?;
+    let told = hash::hash(&ones, start, bits, key, d, limit, rounds, &mut out);
+    test_print::answer(rt, told)?;
     print!(rt; " ")?;
     test_print::bytes(rt, &out)?;
     println!(rt; "")
@@ -86,8 +89,7 @@ fn edges(rt: &impl Print) -> io::Result<()> {
 
 // What is told for a digest size and a key length, and the rounds by the formula alone.
 fn told(rt: &impl Print, d: u64, key_bytes: u64) -> io::Result<()> {
-    let answer = hash::default_rounds(d, key_bytes);
-    test_print::answer(rt, answer.number, answer.count)?;
+    test_print::answer(rt, hash::default_rounds(d, key_bytes))?;
     println!(rt; " {}", hash::rounds_by_default(d, key_bytes))
 }
 

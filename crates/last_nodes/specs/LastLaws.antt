@@ -15,7 +15,7 @@ use Rattle.calls.proofs.Machine
 use Rattle.calls.proofs.LastNodes
 use Rattle.node.specs.declared.Keyed.{Keyed}
 use Rattle.node.specs.declared.Place.{Place}
-use Rattle.node.specs.Words.{placed, FieldsFit, tree_params, Ready}
+use Rattle.node.specs.Words.{placed, FieldsFit, tree_params}
 use Rattle.climb.specs.Levels.{output_place, place-fits, HasLevel, Joins, levels_split}
 use Rattle.climb.specs.MakeLaws.{Logged}
 use Rattle.climb.specs.ReceiveLaws.{length-out_words, log-more}
@@ -107,8 +107,7 @@ module _ (keyed : Keyed) (k i : ℕ) (out area : List ℕ) where
 -- ---- the loop over the levels
 
 -- the last output of level 1 goes up: what the code needs then
-pub record Rising (keyed : Keyed) (constants : List ℕ) (i : ℕ) (out area log : List ℕ) : Type 0 where
-  pub ready : Ready keyed constants
+pub record Rising (keyed : Keyed) (i : ℕ) (out area log : List ℕ) : Type 0 where
   pub long : Long area
   pub own : (params_of area).limit ≡ keyed.params.limit
   pub parallel : 1 ≤ keyed.params.limit
@@ -135,7 +134,7 @@ pub record LastLoop (keyed : Keyed) (all : List Node) (area log₀ : List ℕ) (
   last-same : last_or last (last_up keyed k i out area) ≡ last_or no_node all
   pub room : at + 2 * length (last_up keyed k i out area) ≤ length log
 
-pub loop_start : {keyed : Keyed} {constants : List ℕ} {i : ℕ} {out area log : List ℕ} → Rising keyed constants i out area log
+pub loop_start : {keyed : Keyed} {i : ℕ} {out area log : List ℕ} → Rising keyed i out area log
     → LastLoop keyed (last_up keyed 2 i out area) area log 2 2 i out log 2
 loop_start r = record {
   last = no_node;
@@ -277,13 +276,12 @@ last-above P (suc n) i out ws up x y = go (eqb (i / 4) 0) refl
     go false e = rw (LastNodes.above_many P n 2 i out ws up e)
 
 -- what the code needs to make the last nodes of all levels
-pub record Ending (keyed : Keyed) (constants : List ℕ) (T : ℕ) (area log : List ℕ) : Type 0 where
-  pub ready : Ready keyed constants
+pub record Ending (keyed : Keyed) (T : ℕ) (area log : List ℕ) : Type 0 where
   pub long : Long area
   pub own : (params_of area).limit ≡ keyed.params.limit
   pub room : 2 * length (last_nodes (tree_params keyed) keyed.params.limit T (levels_of area)) ≤ length log
 
-module _ {keyed : Keyed} {constants : List ℕ} {T : ℕ} {area log : List ℕ} (c : Ending keyed constants T area log) where
+module _ {keyed : Keyed} {T : ℕ} {area log : List ℕ} (c : Ending keyed T area log) where
   abbrev P : Params
   P = tree_params keyed
 
@@ -329,9 +327,8 @@ module _ {keyed : Keyed} {constants : List ℕ} {T : ℕ} {area log : List ℕ} 
       all_is = rw (d₀.words, e) (last_nodes-more P limit T area some (rw e at h))
 
       -- its output goes up otherwise
-      pub first-rising : done < 2 ^ 52 → Rising keyed constants done first area log₁
+      pub first-rising : done < 2 ^ 52 → Rising keyed done first area log₁
       first-rising small = record {
-        ready = c.ready;
         long = c.long;
         own = c.own;
         parallel = some;

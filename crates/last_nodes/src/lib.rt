@@ -6,35 +6,39 @@ ghost use Rattle.lists.specs.Part.{put};
 ghost use Rattle.tree.specs.Tree.{block_bits, last_or, no_node, output_words, out_words, logged};
 ghost use Rattle.calls.specs.Area.{Long, params_of, level_words, levels_of, done_blocks, held_bits};
 ghost use Rattle.calls.specs.Calls.{last_nodes, last_nodes_of};
-ghost use Rattle.node.specs.Words.{tree_params, Ready};
+ghost use Rattle.node.specs.Words.{tree_params};
 ghost use Rattle.climb.specs.Levels.{Joins};
 ghost use Rattle.climb.specs.MakeLaws.{Logged};
 ghost use Rattle.climb.specs.OpenArea.{OpenArea};
 ghost use Rattle.last_nodes.specs.LastLaws.{last_up, first_node, root_flag, last_place, Rising, Ending};
 
 use area::{Area, count};
-use node::{Block, Keyed, Place};
+use node::{Block, Compressor, Place};
 
 // A copy of a level's block with an output given to it, in words that the caller lends: the area itself is not changed. A block that is
 // given back by a function of its own would stand on the caller's stack twice.
 #[inline(never)]
-fn joined_block(block: &mut [u64], area: &[u64], level: usize, place: usize, out: &[u64])
-    requires joins { Joins area.now level place out.now }
-    requires empty { block.old ≡ replicate 64 0 }
+fn joined_block(
+    block: &mut [u64; Area::LEVEL],
+    area: &[u64],
+    level: usize,
+    place: usize,
+    out: &[u64],
+)
+    requires { Joins area.now level place out.now }
     ensures { block.new ≡ put place output_words (level_words area.now level) out.now }
 {
-    words::copy(&mut *block, 0, Area::level(area, level));
-    words::copy(&mut *block, place, out);
+    block.copy_from_slice(Area::level(area, level));
+    block[place..place + Area::OUTPUT].copy_from_slice(out);
 }
 
-// z of a parallel level's last node, by its index: 1 if it is the level's only node, and so the root.
+// z of a parallel level's last node, by its index: 1 if it is the level's only node, and so the root. (`shape::last_flag` compares an
+// index with how many nodes there are, which is not known here.)
 fn root_flag(index: u64) -> u64
-    ensures { result ≡ root_flag index }
+    ensures value { result ≡ root_flag index }
+    ensures most { result ≤ 1 }
 {
-    if index < 1 {
-        return 1;
-    }
-    0
+    u64::from(index < 1)
 }
 
 // The place of a level's last node, when so many outputs came to the level before the last. The sequential level's is the root.
@@ -45,33 +49,26 @@ fn last_place(sequential: bool, level: u64, i: u64) -> Place
         let index = i / 3;
         let z = 1;
         let p = Block::OUTPUT_BITS * (2 - i % 3);
-        return Place { level, index, z, p };
+        Place { level, index, z, p }
+    } else {
+        let index = i / 4;
+        let z = root_flag(index);
+        let p = Block::OUTPUT_BITS * (3 - i % 4);
+        Place { level, index, z, p }
     }
-    let index = i / 4;
-    let z = root_flag(index);
-    let p = Block::OUTPUT_BITS * (3 - i % 4);
-    Place { level, index, z, p }
 }
 
 // Makes the nodes above level 1, when so many outputs came to level 2 before this last one. Each is the last of its level, whose block
 // need not be full, and takes the output of the one below it, up to the root, whose words are given back. Level 1's node is in the log.
-fn above(
-    area: &[u64],
-    keyed: Keyed,
-    constants: &[u64],
-    outputs: u64,
-    out: &mut [u64; 16],
-    log: &mut [u64],
-)
-    requires { Rising keyed constants.now outputs out.old area.now log.old }
-    ensures { Logged (tree_params keyed) (last_up keyed 2 outputs out.old area.now)
+fn above(area: &[u64], with: &Compressor, outputs: u64, out: &mut [u64; 16], log: &mut [u64])
+    requires { Rising with.now.keyed outputs out.old area.now log.old }
+    ensures { Logged (tree_params with.now.keyed) (last_up with.now.keyed 2 outputs out.old area.now)
         log.old 2 out.new log.new }
 {
     let mut i = outputs;
     let mut at: usize = 2;
-    let mut k: usize = 2;
-    while k <= Area::LEVELS {
-        let sequential = keyed.params.limit < k as u64;
+    for k in 2..Area::LEVELS + 1 {
+        let sequential = with.keyed.params.limit < k as u64;
         let mut block = [0u64; Area::LEVEL];
         joined_block(
             &mut block,
@@ -81,30 +78,27 @@ fn above(
             &*out,
         );
         let last = last_place(sequential, k as u64, i);
-        *out = climb::make_node(keyed, constants, last, &block, log, at);
+        *out = climb::make_node(with, last, &block, &mut log[at..]);
         if last.z == 1 {
             return;
         }
         at += 2;
         i = last.index;
-        k += 1;
     }
 }
 
 // Makes the last node of level 1, which takes blocks of a size.
 fn first_node(
     area: &[u64],
-    keyed: Keyed,
-    constants: &[u64],
+    with: &Compressor,
     size: u64,
     z: u64,
     total: u64,
     log: &mut [u64],
 ) -> [u64; 16]
-    requires ready { Ready keyed constants.now }
-    requires long { Long area.now × (0 < size) × (size ≤ block_bits) × (held_bits size total ≤ size) × (done_blocks size total < 2 ^ 56)
+    requires { Long area.now × (0 < size) × (size ≤ block_bits) × (held_bits size total ≤ size) × (done_blocks size total < 2 ^ 56)
         × (z ≤ 1) × (2 ≤ length log.old) }
-    ensures { Logged (tree_params keyed) (first_node (tree_params keyed) size total z area.now ∷ [])
+    ensures { Logged (tree_params with.now.keyed) (first_node (tree_params with.now.keyed) size total z area.now ∷ [])
         log.old 0 result log.new }
 {
     let level = 1;
@@ -112,34 +106,26 @@ fn first_node(
     let p = size - count::held_bits(size, total);
     let block = &area[Area::HEAD..Area::FIRST_END];
     let last = Place { level, index, z, p };
-    climb::make_node(keyed, constants, last, block, log, 0)
+    climb::make_node(with, last, block, log)
 }
 
 // Makes the nodes of all levels, when so many bits came. U and V of each go to the log from its first word, and the root's
 // words are given back.
-fn levels(area: &[u64], keyed: Keyed, constants: &[u64], total: u64, log: &mut [u64]) -> [u64; 16]
-    requires { Ending keyed constants.now total area.now log.old }
-    ensures { Logged (tree_params keyed) (last_nodes (tree_params keyed) keyed.params.limit total (levels_of area.now))
+fn levels(area: &[u64], with: &Compressor, total: u64, log: &mut [u64]) -> [u64; 16]
+    requires { Ending with.now.keyed total area.now log.old }
+    ensures { Logged (tree_params with.now.keyed) (last_nodes (tree_params with.now.keyed) with.now.keyed.params.limit total (levels_of area.now))
         log.old 0 result log.new }
 {
-    if keyed.params.limit < 1 {
-        return first_node(
-            area,
-            keyed,
-            constants,
-            Block::SEQUENTIAL_BITS,
-            1,
-            total,
-            log,
-        );
+    if with.keyed.params.limit < 1 {
+        return first_node(area, with, Block::SEQUENTIAL_BITS, 1, total, log);
     }
     let done = count::done_blocks(Block::BITS, total);
     let z = root_flag(done);
-    let mut out = first_node(area, keyed, constants, Block::BITS, z, total, log);
+    let mut out = first_node(area, with, Block::BITS, z, total, log);
     if done < 1 {
         return out;
     }
-    above(area, keyed, constants, done, &mut out, log);
+    above(area, with, done, &mut out, log);
     out
 }
 
@@ -150,7 +136,7 @@ pub fn make(area: &[u64], log: &mut [u64]) -> [u64; 16]
     ensures value { result ≡ out_words (params_of area.now) (last_or no_node (last_nodes_of area.now)) }
     ensures log_after { log.new ≡ logged (last_nodes_of area.now) log.old }
 {
-    let keyed = climb::keyed_of(area);
     let first = constants::first_part();
-    levels(area, keyed, &first, area[Area::TOTAL], log)
+    let with = Compressor::new(climb::keyed_of(area), &first);
+    levels(area, &with, area[Area::TOTAL], log)
 }

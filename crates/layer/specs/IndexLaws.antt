@@ -1,56 +1,22 @@
 -- Laws: the node at an index of a layer: how many bits it takes, z, and what it takes.
-use Rattle.std.specs.Prelude.{◌≡◌, refl, Bool, true, false, cond, ◌⊎◌, List, [], ◌++◌, ℕ, suc, ◌+◌, ◌-◌, ◌*◌, ◌/◌, ◌%◌, ◌^◌, ◌≤◌, ◌<◌, min, eqb, length, take, drop, replicate}
-use Rattle.std.proofs.Common.{sym, ap, ◌∙◌, inl, inr, mul_assoc, arith, eq-eqb, ne_eqb, eqb-true, lt-ltb, le-ltb, length-append, length-take, length-drop}
+use Rattle.std.specs.Prelude.{◌≡◌, refl, Bool, true, false, ◌⊎◌, List, ◌++◌, ℕ, suc, ◌+◌, ◌-◌, ◌*◌, ◌/◌, ◌%◌, ◌^◌, ◌≤◌, ◌<◌, min, eqb, length, take, drop, replicate}
+use Rattle.std.proofs.Common.{sym, ap, ◌∙◌, inl, inr, mul_assoc, arith, eq-eqb, ne_eqb, eqb-true, length-append, length-take, length-drop}
 use Rattle.std.proofs.lemmas.Bool.{eqb-false}
 use Rattle.std.proofs.lemmas.List.{length-replicate}
-use Rattle.std.proofs.Math.Seq.{paste}
 use Rattle.lists.specs.Below.{Below}
 use Rattle.lists.specs.BelowLaws.{below-append, below-zeros, below-take, below-drop}
 use Rattle.lists.specs.Replicate.{drop-replicate}
 use Rattle.lists.specs.Take.{drop-take}
-use Rattle.bits.specs.Bits.{digit, bits_of, filled}
-use Rattle.bits.specs.BitsLaws.{digit_le, length-bits_of, bits_of-append, bits_of-zeros, bits_of-take, bits_of-drop, numbers-exact}
+use Rattle.bits.specs.Bits.{bits_of, filled}
+use Rattle.bits.specs.BitsLaws.{length-bits_of, bits_of-append, bits_of-zeros, bits_of-take, bits_of-drop, numbers-exact}
 use Rattle.bits.specs.Piece.{Piece}
 use Rattle.bits.specs.PieceLaws.{spanned, length-piece_bits}
 use Rattle.tree.specs.Tree.{words, block_bits, sequential_bits, blocks, padding}
-use Rattle.tree.proofs.TreeLaws.{last_only, last_only_le}
-use Rattle.node.specs.NodeLaws.{paste-at}
 use Rattle.shape.specs.Shape.{taken}
 use Rattle.nodes.specs.Value.{message_part}
 use Rattle.nodes.specs.BlockLaws.{take_min, filled-part}
 use Rattle.layer.specs.declared.Layer.{Layer}
-use Rattle.layer.specs.OneLayer.{size_of, nodes_in, flag_of, taken_at, source, Source, Counted}
-
--- ---- the bits that each node takes
-
-pub size-sequential : (limit level : ℕ) → limit < level → sequential_bits ≡ size_of limit level
-size-sequential limit level h = rw (lt-ltb limit level h)
-
-pub size-block : (limit level : ℕ) → level ≤ limit → block_bits ≡ size_of limit level
-size-block limit level h = rw (le-ltb limit level h)
-
--- ---- z
-
-pub flag-parallel : (size nodes index : ℕ) → size ≡ block_bits → digit (eqb 1 nodes) ≡ flag_of size nodes index
-flag-parallel size nodes index e = rw (eq-eqb size block_bits e) (go (eqb nodes 1) refl)
-  where
-    go : (b : Bool) → eqb nodes 1 ≡ b → digit (eqb 1 nodes) ≡ digit (eqb nodes 1)
-    go true f = rw (f, eq-eqb 1 nodes (sym (eqb-true nodes 1 f)))
-    go false f = rw (f, ne_eqb 1 nodes (λ g. eqb-false nodes 1 f (sym g)))
-
-pub flag-sequential : (size nodes index : ℕ) → (size ≡ block_bits → ⊥) → digit (eqb (suc index) nodes) ≡ flag_of size nodes index
-flag-sequential size nodes index n = rw (ne_eqb size block_bits n) (go (eqb (suc index) nodes))
-  where
-    go : (b : Bool) → digit b ≡ cond b 1 0
-    go true = refl
-    go false = refl
-
-pub flag_low : (size nodes index : ℕ) → flag_of size nodes index ≤ 1
-flag_low size nodes index = go (eqb size block_bits)
-  where
-    go : (b : Bool) → cond b (digit (eqb nodes 1)) (last_only nodes index 1) ≤ 1
-    go true = digit_le (eqb nodes 1)
-    go false = last_only_le nodes index 1
+use Rattle.layer.specs.OneLayer.{nodes_in, taken_at, source, Source, Counted}
 
 -- ---- what a node takes
 
@@ -74,16 +40,12 @@ length-source bytes ws l s = go (eqb l.level 1) refl
 min_le : (a b : ℕ) → min a b ≤ a
 min_le a b = omega arith
 
-copied_zeros : (w k : ℕ) (S : List ℕ) → length S ≡ k → k ≤ w → paste (replicate w 0) 0 S (length S) ≡ S ++ replicate (w - k) 0
-copied_zeros w k S e h =
-    paste-at [] S (replicate w 0) 0 (length S) refl refl ∙ ap (λ (z : List ℕ). S ++ z) (rw e (drop-replicate {A = ℕ} k w 0 h))
-
 -- words that are copied to zero words are the bits that the node takes
 pub copied_part : (ws : List ℕ) (w size bits index : ℕ) → w * 64 ≡ size → size * index ≤ bits → bits % 64 ≡ 0 → size * index % 64 ≡ 0
     → bits ≤ 64 * length ws → Below (2 ^ 64) ws
     → (let n : ℕ = taken size bits index in
     let S : List ℕ = take (n / 64) (drop (size * index / 64) ws) in
-    paste (replicate w 0) 0 S (length S) ≡ words w (message_part size (bits_of 64 (take (bits / 64) ws)) index))
+    S ++ drop (n / 64) (replicate w 0) ≡ words w (message_part size (bits_of 64 (take (bits / 64) ws)) index))
 copied_part ws w size bits index e h b r g below =
     let n : ℕ = taken size bits index in
     let q : ℕ = size * index / 64 in
@@ -111,7 +73,7 @@ copied_part ws w size bits index e h b r g below =
     let lw : length (S ++ Z) ≡ w = simp (length-append, length-replicate) (rw lS (rest (n / 64) w some)) in
     let low : Below (2 ^ 64) (S ++ Z) =
     below-append (below-take (n / 64) (below-drop q below)) (below-zeros (2 ^ 64) (w - n / 64) (omega arith)) in
-    copied_zeros w (n / 64) S lS some ∙ sym (ap (words w) all ∙ numbers-exact 64 w low lw)
+    ap (λ (z : List ℕ). S ++ z) (drop-replicate {A = ℕ} (n / 64) w 0 some) ∙ sym (ap (words w) all ∙ numbers-exact 64 w low lw)
   where
     most : (w n size : ℕ) → n ≤ size → w * 64 ≡ size → n / 64 ≤ w
     most w n size h e = omega arith
@@ -132,30 +94,16 @@ module _ (bytes ws part : List ℕ) (l : Layer) (index n : ℕ) (s : Source byte
       (ap (λ (x : List ℕ). filled x 0 bytes from n) zeros
       ∙ filled-part m (length part) l.size index from n (omega arith) h (s.message e) (omega arith) en)
 
-  pub fill_above : (first k : ℕ) → first ≡ l.size * index / 64 → k ≡ n / 64 → (l.level ≡ 1 → ⊥) → Below (2 ^ 64) ws
-      → paste part 0 (take k (drop first ws)) (length (take k (drop first ws))) ≡ words (length part) (taken_at bytes ws l index)
-  fill_above first k ef ek e below =
+  -- T is copied to its front
+  pub fill_above : (T : List ℕ) (first k : ℕ) → T ≡ take k (drop first ws) → first ≡ l.size * index / 64 → k ≡ n / 64 → (l.level ≡ 1 → ⊥)
+      → Below (2 ^ 64) ws → T ++ drop (n / 64) part ≡ words (length part) (taken_at bytes ws l index)
+  fill_above T first k et ef ek e below =
       let a = s.above e in
       let r : l.size * index % 64 ≡ 0 = whole_words l.size index s.whole in
       let S : List ℕ = take (taken l.size l.span.bits index / 64) (drop (l.size * index / 64) ws) in
-      rw (ne_eqb l.level 1 e, ef, ek, en)
-      (ap (λ (x : List ℕ). paste x 0 S (length S)) zeros
+      rw (ne_eqb l.level 1 e, et, ef, ek, en)
+      (ap (λ (x : List ℕ). S ++ drop (taken l.size l.span.bits index / 64) x) zeros
       ∙ copied_part ws (length part) l.size l.span.bits index (omega arith) h a.0 r a.1 below)
-
-pub some_size : (l : Layer) → Counted l → 0 < l.size
-some_size l f = go f.kind
-  where
-    go : (l.size ≡ block_bits) ⊎ (l.size ≡ sequential_bits) → 0 < l.size
-    go (inl e) = omega arith
-    go (inr e) = omega arith
-
--- a layer that is not parallel is sequential
-pub sequential-size : (l : Layer) → Counted l → (l.size ≡ block_bits → ⊥) → l.size ≡ sequential_bits
-sequential-size l f h = go f.kind
-  where
-    go : (l.size ≡ block_bits) ⊎ (l.size ≡ sequential_bits) → l.size ≡ sequential_bits
-    go (inl e) = absurd (h e)
-    go (inr e) = e
 
 -- ---- the node at an index
 

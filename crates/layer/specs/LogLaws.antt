@@ -1,6 +1,6 @@
 -- Laws: for the code that writes the log of a layer, two words a node.
 use Rattle.std.specs.Prelude.{◌≡◌, List, [], ◌∷◌, ◌++◌, ℕ, ◌+◌, ◌*◌, ◌≤◌, ◌<◌, length, take, drop}
-use Rattle.std.proofs.Common.{sym, ap, ◌∙◌, append_assoc, arith, length-take, take_all, drop-drop, take-append-drop}
+use Rattle.std.proofs.Common.{sym, ap, ◌∙◌, append_assoc, arith, length-take, take_all, drop-drop}
 use Rattle.std.proofs.Math.Option.{some}
 use Rattle.std.proofs.Math.ListN.{get_elem?}
 use Rattle.std.proofs.lemmas.List.Edits.{sets, sets-eq}
@@ -14,9 +14,6 @@ use Rattle.layer.specs.OverLaws.{take_more}
 -- the log with U and V of i of the nodes ns from a place on
 abbrev pub log_up_to : ℕ → List ℕ → List Node → ℕ → List ℕ
 log_up_to at log ns i = put at (2 * i) log (node_log (take i ns))
-
-pub log_none : (at : ℕ) (log : List ℕ) (ns : List Node) → log ≡ log_up_to at log ns 0
-log_none at log ns = sym (take-append-drop at log)
 
 module _ (at : ℕ) (log : List ℕ) (ns : List Node) (room : at + 2 * length ns ≤ length log) where
   length-up-to : (i : ℕ) → i ≤ length ns → length (node_log (take i ns)) ≡ 2 * i

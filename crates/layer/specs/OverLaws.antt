@@ -18,15 +18,13 @@ use Rattle.tree.specs.Tree.{out_words}
 use Rattle.tree.proofs.TreeLaws.{chain_at, chain_at-zero, seq-chain, length-parallel, length-sequential, parallel-at, sequential-at}
 use Rattle.tree.proofs.KindLaws.{first-chain}
 use Rattle.tree.proofs.OutputLaws.{length-out_words}
-use Rattle.node.specs.Words.{placed, FieldsFit}
-use Rattle.node.specs.declared.Place.{Place}
+use Rattle.node.specs.Words.{placed}
 use Rattle.node.specs.NodeLaws.{paste-at}
-use Rattle.shape.specs.Shape.{taken}
 use Rattle.nodes.specs.Value.{message_part}
 use Rattle.nodes.specs.NodeByNode.{part-words}
 use Rattle.layer.specs.declared.Layer.{Layer}
 use Rattle.layer.specs.OneLayer.{nodes_in, place_of, taken_at, output_at, put_output, source, Source, Counted, Fitting, layer_nodes}
-use Rattle.layer.specs.IndexLaws.{flag_low, block-bits, sequential-bits, index-room, whole_words, length-source}
+use Rattle.layer.specs.IndexLaws.{block-bits, sequential-bits, index-room, whole_words, length-source}
 use Rattle.layer.specs.Outputs.{level_outputs, length-level_outputs, outputs-append}
 
 -- the words ws with the outputs of the nodes ns over their first
@@ -204,15 +202,6 @@ module _ (P : Params) (l : Layer) (X : List Bool) (bits : length X ≡ l.span.bi
 -- ---- what is known of the node at an index
 
 module _ (l : Layer) (f : Counted l) (index : ℕ) (h : index < nodes_in l) where
-  -- its place and block are what the compression needs
-  pub fields_fit : (place : Place) (block : List ℕ) → place ≡ place_of l index → length block ≡ 64 → FieldsFit place block
-  fields_fit place block e size =
-      rw e (f.low, omega (arith, f.nodes), omega (arith, flag_low l.size (nodes_in l) index), most f.kind, size)
-    where
-      most : (l.size ≡ block_bits) ⊎ (l.size ≡ sequential_bits) → l.size - taken l.size l.span.bits index < 65536
-      most (inl e) = omega arith
-      most (inr e) = omega arith
-
   -- what the log says of it
   pub log-node : (P : Params) (X : List Bool) → length X ≡ l.span.bits → (c : List ℕ) × Makes P l X index c
   log-node P X bits = go f.kind
@@ -251,13 +240,6 @@ module _ {P : Params} {bytes ws : List ℕ} {l : Layer} {i : ℕ} {vs : List ℕ
 
   size_of_level : length (layer_nodes P l (source bytes ws l)) ≡ nodes_in l
   size_of_level = length_level_over P l (source bytes ws l) bits w.fits.counted.kind
-
-  -- the next nodes find room, and what they take
-  pub written-fitting : Fitting vs l
-  written-fitting = record { counted = w.fits.counted; room = omega (arith, w.fits.room, w.same) }
-
-  pub written-source : (index : ℕ) → index < nodes_in l → Source bytes vs l × (l.size * index ≤ l.span.bits)
-  written-source index h = (source-kept bytes ws vs l w.there w.same, index-room l w.fits.counted index h)
 
   written-part : (index : ℕ) → i ≤ index → index < nodes_in l → taken_at bytes vs l index ≡ taken_at bytes ws l index
   written-part index h g =
@@ -306,12 +288,11 @@ module _ {P : Params} {bytes ws : List ℕ} {l : Layer} {i : ℕ} {vs : List ℕ
     written_one block c h eb ec = rw ec (written-more w (output_at P l i block) h (parallel_turn w i block (omega arith) h e eb))
 
     pub written-two : (one other : List ℕ) → i + 1 < nodes_in l → one ≡ words 64 (taken_at bytes vs l i)
-        → other ≡ words 64 (taken_at bytes vs l (i + 1))
-        → Written P bytes ws l (i + 2) (put_output (put_output vs i (output_at P l i one)) (i + 1) (output_at P l (i + 1) other))
-    written-two one other h eo et =
+        → other ≡ words 64 (taken_at bytes vs l (i + 1)) → (next : ℕ) → next ≡ i + 2
+        → Written P bytes ws l next (put_output (put_output vs i (output_at P l i one)) (i + 1) (output_at P l (i + 1) other))
+    written-two one other h eo et next n =
         let c : List ℕ = output_at P l i one in
         let d : List ℕ = output_at P l (i + 1) other in
-        let n : i + 1 + 1 ≡ i + 2 = omega arith in
-        let next = parallel_turn w (i + 1) other (omega arith) h e et in
-        subst (λ (k : ℕ). Written P bytes ws l k (put_output (put_output vs i c) (i + 1) d)) n
-        (written-more (written_one one c (omega arith) eo refl) d h next)
+        let made = parallel_turn w (i + 1) other (omega arith) h e et in
+        subst (λ (k : ℕ). Written P bytes ws l k (put_output (put_output vs i c) (i + 1) d)) (omega arith)
+        (written-more (written_one one c (omega arith) eo refl) d h made)

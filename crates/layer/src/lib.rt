@@ -1,9 +1,9 @@
 // A layer: a level of the tree in work. How many nodes it has, where each stands, and what each takes.
 #![tactic(auto)]
 
-ghost use Rattle.std.specs.Prelude.{◌≡◌, suc, ◌+◌, ◌-◌, ◌*◌, ◌≤◌, ◌<◌, length, replicate};
+ghost use Rattle.std.specs.Prelude.{◌≡◌, suc, ◌+◌, ◌-◌, ◌*◌, ◌≤◌, ◌<◌, eqb, length, replicate};
 ghost use Rattle.bits.specs.Bits.{numbers};
-ghost use Rattle.tree.specs.Tree.{most_levels};
+ghost use Rattle.tree.specs.Tree.{most_levels, block_bits};
 ghost use Rattle.layer.specs.OneLayer.{size_of, nodes_in, flag_of, place_of, taken_at, Counted, Source};
 
 use bits::Span;
@@ -14,7 +14,7 @@ pub mod log; // log.rt: U and V of each of them
 
 // A layer: the number of its level, which bits it works on, and how many of them each of its nodes takes: the bits of a block, or of
 // one at the sequential level. At level 1 they are bits of the message; above it they stand in words, from the first on, and only their
-// number counts.
+// number counts. The size is a number and no kind of level, since `nodes` and `fill` take layers of other sizes, too.
 #[derive(Clone, Copy)]
 pub struct Layer {
     pub level: u64,
@@ -32,9 +32,17 @@ impl Layer {
         let size = size_of(limit, level);
         Self { level, span, size }
     }
+
+    // Whether its level is parallel: its nodes take whole blocks.
+    fn is_parallel(self) -> bool
+        ensures { result ≡ eqb self.size block_bits }
+    {
+        self.size == Block::BITS
+    }
 }
 
-// The bits that each node of a level takes.
+// The bits that each node of a level takes. A feed knows level 1 alone, and `piece` has this for it in the terms of its own definitions: one
+// function for both would be as long as either.
 fn size_of(limit: u64, level: u64) -> u64
     ensures { result ≡ size_of limit level }
 {
@@ -50,7 +58,7 @@ fn flag(layer: Layer, nodes: u64, index: u64) -> u64
     requires { index < nodes }
     ensures { result ≡ flag_of layer.size nodes index }
 {
-    if layer.size == Block::BITS {
+    if layer.is_parallel() {
         return shape::last_flag(0, nodes);
     }
     shape::last_flag(index, nodes)
@@ -96,6 +104,6 @@ pub fn fill(part: &mut [u64], message: &[u8], words: &[u64], layer: Layer, index
         return;
     }
     let first = (from / 64) as usize;
-    let end = first + (n / 64) as usize;
-    words::copy(part, 0, &words[first..end]);
+    let count = (n / 64) as usize;
+    part[..count].copy_from_slice(&words[first..first + count]);
 }

@@ -12,14 +12,10 @@ pub fn put_layer(log: &mut [u64], at: usize, params: Params, layer: Layer) -> us
     requires room { at + 2 * nodes_in layer ≤ length log.old }
     ensures { (result ≡ at + 2 * nodes_in layer) × LayerLogged params layer at log.old log.new }
 {
-    let nodes = super::nodes(layer);
     let mut to = at;
-    let mut i: u64 = 0;
-    while i < nodes {
-        let place = super::place(layer, i);
-        node::log_node(params, place, log, to);
+    for i in 0..super::nodes(layer) {
+        node::log_node(params, super::place(layer, i), log, to);
         to += 2;
-        i += 1;
     }
     to
 }

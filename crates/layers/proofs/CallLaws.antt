@@ -1,19 +1,22 @@
 -- Laws: for the code of the call: its numbers, what an accepted call knows, and the digest.
-use Rattle.std.specs.Prelude.{◌≡◌, Bool, true, false, ℕ, zero, suc, ◌-◌, ◌*◌, ◌≤◌, ◌<◌, eqb, length, take, drop, replicate}
+use Rattle.std.specs.Prelude.{◌≡◌, Bool, true, false, ℕ, ◌-◌, ◌*◌, ◌≤◌, eqb, length, take, drop, replicate, Result, Err, IsErrAnd}
 use Rattle.std.proofs.Math.Path.{refl}
-use Rattle.std.proofs.Common.{sym, ◌∙◌, arith}
-use mathlib.Core.List.{List, [], ◌++◌}
-use borrow.Author.Tests.{le-ltb, ltb-false, eqb-true, eqb-false}
+use Rattle.std.proofs.Common.{sym, ap, ◌∙◌}
+use mathlib.Core.List.{List, [], ◌∷◌, ◌++◌}
+use borrow.Author.Tests.{ltb-false, eqb-true, eqb-false}
 use Rattle.std.proofs.lemmas.List.{length-replicate}
+use Rattle.std.proofs.lemmas.Result.{err_from_is_err_and}
 use Rattle.bits.specs.Bits.{bits_of, numbers}
 use Rattle.bits.specs.Piece.{Piece, piece_bits}
 use Rattle.bits.specs.PieceLaws.{length-piece_bits}
-use Rattle.tree.specs.Tree.{most_limit, Params, tree, output, root, digest_bytes, digest, blocks, out_words}
+use Rattle.tree.specs.Tree.{most_limit, Params, tree, output, root, digest_bytes, digest, out_words}
 use Rattle.tree.specs.Sizes.{tree_nodes}
 use Rattle.tree.specs.Vocabulary.{root_level, root_index}
 use Rattle.tree.proofs.Places.{root-place, root-at, tree-output}
 use Rattle.refusals.specs.declared.Params as declared
-use Rattle.refusals.specs.RefusalLaws.{passed-by, passed, first_part, second-part, answer_refused}
+use Rattle.refusals.specs.declared.Refusal.{Refusal}
+use Rattle.refusals.specs.Refusals.{first_refusal, limit_test, told_for, told_number, told_count}
+use Rattle.refusals.specs.RefusalLaws.{passed-by, passed, first_part, second-part, answer_refused, number_not0}
 use Rattle.hash.specs.Hash.{hash_tests, hash_number}
 use Rattle.hash.proofs.HashLaws as whole
 use Rattle.hash.specs.Accepted as of_hash
@@ -21,18 +24,7 @@ use Rattle.tree.proofs.OutputLaws.{words-bits}
 use Rattle.layers.specs.Layers.{layer_order, words_after, lent_tests, layers_number, layers_of, first_nodes}
 use Rattle.layers.proofs.LayerLaws.{given-words, given-nodes, then_lent, layers_accepted}
 use Rattle.layers.proofs.Highest.{root-words}
-use Rattle.layer.specs.OneLayer.{size_of}
 use Rattle.layers.specs.Accepted.{lent_number, Accepted, number_for, AllPut}
-
--- ---- how many words
-
-pub first-nodes : (limit bits : ℕ) → blocks (size_of limit 1) bits ≡ first_nodes limit bits
-first-nodes zero bits = refl
-first-nodes (suc n) bits = rw (le-ltb (suc n) 1 (omega arith))
-
-pub first-size : (limit : ℕ) → 0 < size_of limit 1
-first-size zero = omega arith
-first-size (suc n) = rw (le-ltb (suc n) 1 (omega arith)) (omega arith)
 
 -- ---- the number
 
@@ -78,6 +70,15 @@ limit_low m params out e =
     let key : List ℕ = replicate params.keylen 0 in
     let same = whole.number_for_lem m key params out (sym (length-replicate params.keylen 0)) in
     (whole.number-accepted m (of_hash.with_key key params) out (sym same ∙ e)).ranges.limit_high
+
+-- ---- a height limit alone
+
+-- what a call that tells a number answers if its test `t` refuses, and `u` is the refusal handed on
+pub limit-refused : {A : Type 0} (limit count : ℕ) (t : Result A Refusal) (u : Result ℕ Refusal) (r : Refusal) → told_number t ≡ first_refusal (limit_test limit ∷ [])
+    → t ≡ Err r → IsErrAnd u (λ s. s ≡ r) → record { number = told_number u; count = told_count u } ≡ told_for limit count
+limit-refused limit count t u r e was given =
+    let p = err_from_is_err_and u given in
+    rw (p.1, p.2) (answer_refused _ _ _ (λ k. record { number = k; count = 0 }) (sym (ap told_number was) ∙ e) (number_not0 r))
 
 -- ---- the answer
 

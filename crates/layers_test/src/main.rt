@@ -15,15 +15,15 @@ fn show(rt: &impl Print, bits: u64, d: u64, limit: u64) -> io::Result<()> {
     let mut words = [FILL; 96];
     let mut log = [FILL; 16];
     let mut out = [0xa5u8; 3];
-    let answer = layers::layers(
+    let told = layers::layers(
         &ones, 0, bits, b"key", d, limit, 5, &mut words, &mut log, &mut out,
     );
-    test_print::answer(rt, answer.number, answer.count)?;
+    test_print::answer(rt, told)?;
     print!(rt; " ")?;
     test_print::bytes(rt, &out)?;
     println!(rt; "")?;
-    test_print::rows(rt, &log, 16, 2)?;
-    test_print::rows(rt, &words, 96, 16)
+    test_print::rows(rt, &log, 2)?;
+    test_print::rows(rt, &words, 16)
 }
 
 fn accepted(rt: &impl Print) -> io::Result<()> {
@@ -45,11 +45,9 @@ fn refused(rt: &impl Print) -> io::Result<()> {
 
 // The words that are told, and the words of log.
 fn told(rt: &impl Print, bits: u64, limit: u64) -> io::Result<()> {
-    let words = layers::layer_words(bits, limit);
-    let log = layers::layer_log_words(bits, limit);
-    test_print::answer(rt, words.number, words.count)?;
+    test_print::answer(rt, layers::layer_words(bits, limit))?;
     print!(rt; " ")?;
-    test_print::answer(rt, log.number, log.count)?;
+    test_print::answer(rt, layers::layer_log_words(bits, limit))?;
     println!(rt; "")
 }
 

@@ -1,19 +1,16 @@
 -- Laws: the fold decides the line: what is read byte by byte, in fixed memory, is what the definition of a whole line says.
-use Rattle.std.specs.Prelude.{◌≡◌, refl, Bool, true, false, cond, List, [], ◌∷◌, ℕ, ◌≤◌, ◌<◌, min, eqb, length, take}
+use Rattle.std.specs.Prelude.{Option, Some, None, ◌≡◌, refl, Bool, true, false, cond, List, [], ◌∷◌, ℕ, ◌≤◌, ◌<◌, min, eqb, length, take}
 use Rattle.std.proofs.Common.{ap, ◌∙◌, arith, take_all}
-use Rattle.std.proofs.Math.Option.{Option, none, some}
 use Rattle.line.specs.Line.{Line, cut, fields, number_of, rounds_of, key_of, together, four_of, line_of}
 use Rattle.line.specs.Fold.{Says, start, space_of, push_at, step_of, fold_of, read_fields, reading_of, key_bytes_in}
 use Rattle.line.specs.Numbers.{push_numbers, number-field, rounds-field}
 use Rattle.line.specs.Keys.{SaysKey, push_keys, no_key, key-field, counted}
-use Rattle.line.specs.declared.Rounds.{Rounds}
 use Rattle.line.specs.declared.Field.{Field}
 use Rattle.line.specs.declared.Field.TheVariants.{Digest as InDigest, Limit as InLimit, Rounds as InRounds, Key as InKey, Past}
 use Rattle.line.specs.declared.Number.{Number}
 use Rattle.line.specs.declared.Number.TheVariants.{Empty}
 use Rattle.line.specs.declared.Key.{Key}
 use Rattle.line.specs.declared.State.{State}
-use Rattle.line.specs.declared.Reading.TheVariants.{Unreadable, Readable}
 
 -- ---- the fold goes field by field
 
@@ -85,13 +82,13 @@ after-past (f ∷ fs) d l r k = rw (in_past f d l r k) (after-past fs d l r k)
 
 -- ---- the four fields together
 
-all-four : (d l : Option ℕ) (r : Option Rounds) (o : Option (List ℕ)) (s : State) → SaysKey s.key o
+all-four : (d l : Option ℕ) (r : Option (Option ℕ)) (o : Option (List ℕ)) (s : State) → SaysKey s.key o
     → reading_of s ≡ read_fields d l r (key_bytes_in s.key.pairs) → Says s (together d l r o)
-all-four none l r o s h e = e
-all-four (some d) none r o s h e = e
-all-four (some d) (some l) none o s h e = e
-all-four (some d) (some l) (some r) none s h e = e ∙ rw h
-all-four (some d) (some l) (some r) (some key) s h e = (e ∙ rw h.0, h.1)
+all-four None l r o s h e = e
+all-four (Some d) None r o s h e = e
+all-four (Some d) (Some l) None o s h e = e
+all-four (Some d) (Some l) (Some r) None s h e = e ∙ rw h
+all-four (Some d) (Some l) (Some r) (Some key) s h e = (e ∙ rw h.0, h.1)
 
 -- the first three fields, and all four
 three : (d l r : List ℕ)
@@ -133,26 +130,26 @@ decides line = rw (by-fields line start) (says (fields line))
 -- ---- the same in parts
 
 -- only an unreadable line is read as unreadable
-pub unreadable_only : (line : List ℕ) → reading_of (fold_of start line) ≡ Unreadable → line_of line ≡ none
+pub unreadable_only : (line : List ℕ) → reading_of (fold_of start line) ≡ None → line_of line ≡ None
 unreadable_only line e = by (line_of line) (decides line)
   where
-    by : (o : Option Line) → Says (fold_of start line) o → o ≡ none
-    by none h = refl
-    by (some l) h = cc h.0
+    by : (o : Option Line) → Says (fold_of start line) o → o ≡ None
+    by None h = refl
+    by (Some l) h = cc h.0
 
 -- a key of at most 64 bytes: the count of its bytes, and they are the first that the state keeps
-pub whole-key : (line : List ℕ) (l : Line) → line_of line ≡ some l → length l.key ≤ 64
-    → (reading_of (fold_of start line) ≡ Readable l.d l.limit l.rounds (length l.key))
+pub whole-key : (line : List ℕ) (l : Line) → line_of line ≡ Some l → length l.key ≤ 64
+    → (reading_of (fold_of start line) ≡ Some (record { d = l.d; limit = l.limit; rounds = l.rounds; key_bytes = length l.key }))
     × (take (length l.key) (fold_of start line).key.bytes ≡ l.key)
 whole-key line l e h =
-    let s : Says (fold_of start line) (some l) = rw e at (decides line) in
+    let s : Says (fold_of start line) (Some l) = rw e at (decides line) in
     let n : min (length l.key) 65 ≡ length l.key = omega arith in
     (rw n at s.0, rw s.1 (rw n at (counted l.key) ∙ take_all 65 l.key (omega arith)))
 
 -- a key of more: 65, which no other line gives
-pub over-key : (line : List ℕ) (l : Line) → line_of line ≡ some l → 64 < length l.key
-    → reading_of (fold_of start line) ≡ Readable l.d l.limit l.rounds 65
+pub over-key : (line : List ℕ) (l : Line) → line_of line ≡ Some l → 64 < length l.key
+    → reading_of (fold_of start line) ≡ Some (record { d = l.d; limit = l.limit; rounds = l.rounds; key_bytes = 65 })
 over-key line l e h =
-    let s : Says (fold_of start line) (some l) = rw e at (decides line) in
+    let s : Says (fold_of start line) (Some l) = rw e at (decides line) in
     let n : min (length l.key) 65 ≡ 65 = omega arith in
     rw n at s.0

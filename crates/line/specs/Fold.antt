@@ -1,11 +1,8 @@
 -- Definitions: reading a line byte by byte, as the code does it: a state, what each byte makes of it, and what it says at the end.
 -- That this decides what `Line` defines is the theorem of `Decides`.
-use Rattle.std.specs.Prelude.{cond, ◌&&◌, List, [], ◌∷◌, ◌++◌, ℕ, ◌+◌, ◌-◌, ◌*◌, ◌%◌, min, ltb, eqb, set, replicate, length, take, ◌≡◌}
-use Rattle.std.proofs.Math.Option.{Option, none, some}
+use Rattle.std.specs.Prelude.{Option, Some, None, fold, cond, ◌&&◌, List, [], ◌∷◌, ◌++◌, ℕ, ◌+◌, ◌-◌, ◌*◌, ◌%◌, min, ltb, eqb, set, replicate, length, take, ◌≡◌}
 use Rattle.digits.specs.Digits.{spelt}
 use Rattle.line.specs.Line.{is_decimal, Line}
-use Rattle.line.specs.declared.Rounds.{Rounds}
-use Rattle.line.specs.declared.Rounds.TheVariants.{Default, Given}
 use Rattle.line.specs.declared.Field.{Field}
 use Rattle.line.specs.declared.Field.TheVariants.{Digest as InDigest, Limit as InLimit, Rounds as InRounds, Key as InKey, Past}
 use Rattle.line.specs.declared.Number.{Number}
@@ -14,8 +11,7 @@ use Rattle.line.specs.declared.Pairs.{Pairs}
 use Rattle.line.specs.declared.Pairs.TheVariants.{Whole, Half, Wrong as WrongPairs}
 use Rattle.line.specs.declared.Key.{Key}
 use Rattle.line.specs.declared.State.{State}
-use Rattle.line.specs.declared.Reading.{Reading}
-use Rattle.line.specs.declared.Reading.TheVariants.{Unreadable, Readable}
+use Rattle.line.specs.declared.FirstLine.{FirstLine}
 
 -- the key bytes that are kept: one more than a key may have
 abbrev pub kept_bytes : ℕ
@@ -42,8 +38,8 @@ put_byte bytes n x =
     cond (ltb n kept_bytes) (record { pairs = Whole (n + 1); bytes = set bytes n x }) (record { pairs = Whole n; bytes = bytes })
 
 abbrev pub put_pair : List ℕ → ℕ → Option ℕ → Key
-put_pair bytes n (some x) = put_byte bytes n x
-put_pair bytes n none = record { pairs = WrongPairs; bytes = bytes }
+put_pair bytes n (Some x) = put_byte bytes n x
+put_pair bytes n None = record { pairs = WrongPairs; bytes = bytes }
 
 -- one byte more of the key's field: two bytes are looked at together, so the first of them only waits for the second
 abbrev pub push_pairs : Pairs → List ℕ → ℕ → Key
@@ -77,56 +73,57 @@ step_of s b = cond (eqb b 32) (space_of s) (push_at s.at s b)
 
 -- all bytes of a line, from a state on
 abbrev pub fold_of : State → List ℕ → State
-fold_of s [] = s
-fold_of s (b ∷ bs) = fold_of (step_of s b) bs
+fold_of s bs = fold step_of s bs
 
 -- ---- what a state says at the end of the line
 
 -- the number of d's field or L's, if that is readable
 abbrev pub number_in : Number → Option ℕ
-number_in Empty = none
-number_in (Digits count value) = some value
-number_in Dash = none
-number_in WrongNumber = none
+number_in Empty = None
+number_in (Digits count value) = Some value
+number_in Dash = None
+number_in WrongNumber = None
 
-abbrev pub rounds_in : Number → Option Rounds
-rounds_in Empty = none
-rounds_in (Digits count value) = some (Given value)
-rounds_in Dash = some Default
-rounds_in WrongNumber = none
+abbrev pub rounds_in : Number → Option (Option ℕ)
+rounds_in Empty = None
+rounds_in (Digits count value) = Some (Some value)
+rounds_in Dash = Some None
+rounds_in WrongNumber = None
 
 -- the key's bytes, of which 65 stands for more than 64; `-` is a byte that waits for a second one, with no pair before it
 abbrev pub key_bytes_in : Pairs → Option ℕ
-key_bytes_in (Whole n) = cond (eqb n 0) none (some (min n kept_bytes))
-key_bytes_in (Half n a) = cond (eqb n 0 && eqb a 45) (some 0) none
-key_bytes_in WrongPairs = none
+key_bytes_in (Whole n) = cond (eqb n 0) None (Some (min n kept_bytes))
+key_bytes_in (Half n a) = cond (eqb n 0 && eqb a 45) (Some 0) None
+key_bytes_in WrongPairs = None
 
 -- readable if every field is
-abbrev pub read_fields : Option ℕ → Option ℕ → Option Rounds → Option ℕ → Reading
-read_fields none l r n = Unreadable
-read_fields (some d) none r n = Unreadable
-read_fields (some d) (some l) none n = Unreadable
-read_fields (some d) (some l) (some r) none = Unreadable
-read_fields (some d) (some l) (some r) (some n) = Readable d l r n
+abbrev pub read_fields : Option ℕ → Option ℕ → Option (Option ℕ) → Option ℕ → Option FirstLine
+read_fields None l r n = None
+read_fields (Some d) None r n = None
+read_fields (Some d) (Some l) None n = None
+read_fields (Some d) (Some l) (Some r) None = None
+read_fields (Some d) (Some l) (Some r) (Some n) = Some (record { d = d; limit = l; rounds = r; key_bytes = n })
 
 -- and if three spaces came
-abbrev pub read_at : Field → State → Reading
-read_at InDigest s = Unreadable
-read_at InLimit s = Unreadable
-read_at InRounds s = Unreadable
+abbrev pub read_at : Field → State → Option FirstLine
+read_at InDigest s = None
+read_at InLimit s = None
+read_at InRounds s = None
 read_at InKey s = read_fields (number_in s.d) (number_in s.limit) (rounds_in s.rounds) (key_bytes_in s.key.pairs)
-read_at Past s = Unreadable
+read_at Past s = None
 
-unfoldable pub reading_of : State → Reading
+unfoldable pub reading_of : State → Option FirstLine
 reading_of s = read_at s.at s
 
 -- what is kept of a key: its first 65 bytes, and zeros after them
 abbrev pub kept_of : List ℕ → List ℕ
 kept_of key = take kept_bytes key ++ replicate (kept_bytes - length key) 0
 
--- what a state must say of a line: unreadable if that is; otherwise the same d, L and r, the count of the key's bytes, where 65
--- stands for more than 64, and its first 65 bytes
+-- what is said of a line without its key's bytes: the same d, L and r, and the count of those bytes, where 65 stands for more than 64
+abbrev pub first_line_of : Line → FirstLine
+first_line_of l = record { d = l.d; limit = l.limit; rounds = l.rounds; key_bytes = min (length l.key) kept_bytes }
+
+-- what a state must say of a line: unreadable if that is; otherwise that, and the first 65 bytes of the key
 abbrev pub Says : State → Option Line → Type 0
-Says s none = reading_of s ≡ Unreadable
-Says s (some l) =
-    (reading_of s ≡ Readable l.d l.limit l.rounds (min (length l.key) kept_bytes)) × (s.key.bytes ≡ kept_of l.key)
+Says s None = reading_of s ≡ None
+Says s (Some l) = (reading_of s ≡ Some (first_line_of l)) × (s.key.bytes ≡ kept_of l.key)

@@ -1,7 +1,6 @@
 -- Laws: the key's field, read byte by byte, says what its definition says, of a key over 64 bytes the first 65.
-use Rattle.std.specs.Prelude.{◌≡◌, refl, Bool, true, false, cond, List, [], ◌∷◌, ◌++◌, ℕ, suc, ◌+◌, ◌-◌, ◌≤◌, ◌<◌, min, ltb, eqb, length, take, set, replicate}
+use Rattle.std.specs.Prelude.{Option, Some, None, ◌≡◌, refl, Bool, true, false, cond, List, [], ◌∷◌, ◌++◌, ℕ, suc, ◌+◌, ◌-◌, ◌≤◌, ◌<◌, min, ltb, eqb, length, take, set, replicate}
 use Rattle.std.proofs.Common.{sym, ap, ◌∙◌, append-nil, arith, ltb-true, ltb-false, le-leb, ne_eqb, length-append, length-take, take_all, take_at}
-use Rattle.std.proofs.Math.Option.{Option, none, some}
 use Rattle.std.proofs.lemmas.List.{set_at, take-append-le}
 use Rattle.std.proofs.Math.Seq.{append_snoc}
 use Rattle.digits.specs.Digits.{spelt, with_word, bytes_of}
@@ -12,15 +11,15 @@ use Rattle.line.specs.declared.Key.{Key}
 
 -- what a key's field must say
 abbrev pub SaysKey : Key → Option (List ℕ) → Type 0
-SaysKey k none = key_bytes_in k.pairs ≡ none
-SaysKey k (some key) = (key_bytes_in k.pairs ≡ some (min (length key) kept_bytes)) × (k.bytes ≡ kept_of key)
+SaysKey k None = key_bytes_in k.pairs ≡ None
+SaysKey k (Some key) = (key_bytes_in k.pairs ≡ Some (min (length key) kept_bytes)) × (k.bytes ≡ kept_of key)
 
 -- the bytes of a field, one after the other
 abbrev pub push_keys : Key → List ℕ → Key
 push_keys k [] = k
 push_keys k (b ∷ bs) = push_keys (push_key k b) bs
 
-stays_wrong : (bytes f : List ℕ) → key_bytes_in (push_keys (record { pairs = Wrong; bytes = bytes }) f).pairs ≡ none
+stays_wrong : (bytes f : List ℕ) → key_bytes_in (push_keys (record { pairs = Wrong; bytes = bytes }) f).pairs ≡ None
 stays_wrong bytes [] = refl
 stays_wrong bytes (b ∷ bs) = stays_wrong bytes bs
 
@@ -72,12 +71,12 @@ put key x = by (ltb (length key) 65) refl
 
 -- from one byte on: the rest of the field
 abbrev Rest : Key → List ℕ → Option (List ℕ) → Type 0
-Rest k key none = key_bytes_in k.pairs ≡ none
-Rest k key (some more) = k ≡ keyed (key ++ more)
+Rest k key None = key_bytes_in k.pairs ≡ None
+Rest k key (Some more) = k ≡ keyed (key ++ more)
 
-one_more : (k : Key) (key : List ℕ) (x : ℕ) (o : Option (List ℕ)) → Rest k (key ++ (x ∷ [])) o → Rest k key (with_word (some x) o)
-one_more k key x none h = h
-one_more k key x (some more) h = h ∙ ap keyed (append_snoc key x more)
+one_more : (k : Key) (key : List ℕ) (x : ℕ) (o : Option (List ℕ)) → Rest k (key ++ (x ∷ [])) o → Rest k key (with_word (Some x) o)
+one_more k key x None h = h
+one_more k key x (Some more) h = h ∙ ap keyed (append_snoc key x more)
 
 more_pairs : (f key : List ℕ) → 1 ≤ length key → Rest (push_keys (keyed key) f) key (bytes_of f)
 more_pairs [] key h = ap keyed (sym (append-nil key))
@@ -89,13 +88,13 @@ more_pairs (a ∷ b ∷ bs) key h =
   where
     by : (p : Option ℕ) → ((x : ℕ) → Rest (push_keys (keyed (key ++ (x ∷ []))) bs) (key ++ (x ∷ [])) (bytes_of bs))
         → Rest (push_keys (put_pair (kept_of key) (min (length key) kept_bytes) p) bs) key (with_word p (bytes_of bs))
-    by none ih = stays_wrong (kept_of key) bs
-    by (some x) ih = rw (put key x) (one_more (push_keys (keyed (key ++ (x ∷ []))) bs) key x (bytes_of bs) (ih x))
+    by None ih = stays_wrong (kept_of key) bs
+    by (Some x) ih = rw (put key x) (one_more (push_keys (keyed (key ++ (x ∷ []))) bs) key x (bytes_of bs) (ih x))
 
 -- a key of at least one byte
-says_some : (k : Key) (x : ℕ) (o : Option (List ℕ)) → Rest k (x ∷ []) o → SaysKey k (with_word (some x) o)
-says_some k x none h = h
-says_some k x (some more) h =
+says_some : (k : Key) (x : ℕ) (o : Option (List ℕ)) → Rest k (x ∷ []) o → SaysKey k (with_word (Some x) o)
+says_some k x None h = h
+says_some k x (Some more) h =
     let n : min (suc (length more)) 65 ≡ 0 → ⊥ = omega arith in
     let m : min (min (suc (length more)) 65) 65 ≡ min (suc (length more)) 65 = omega arith in
     (rw (h, ne_eqb (min (suc (length more)) 65) 0 n, m), ap (λ (k' : Key). k'.bytes) h)
@@ -108,14 +107,14 @@ pub key-field : (f : List ℕ) → SaysKey (push_keys no_key f) (key_of f)
 key-field [] = refl
 key-field (a ∷ []) = by (eqb a 45) refl
   where
-    by : (t : Bool) → eqb a 45 ≡ t → SaysKey (record { pairs = Half 0 a; bytes = replicate kept_bytes 0 }) (cond t (some []) none)
+    by : (t : Bool) → eqb a 45 ≡ t → SaysKey (record { pairs = Half 0 a; bytes = replicate kept_bytes 0 }) (cond t (Some []) None)
     by true e = (rw e, refl)
     by false e = rw e
 key-field (a ∷ b ∷ bs) = rw (le-leb 1 (suc (suc (length bs))) (omega arith)) (by (spelt 0 (a ∷ b ∷ [])))
   where
     by : (p : Option ℕ) → SaysKey (push_keys (put_pair (replicate kept_bytes 0) 0 p) bs) (with_word p (bytes_of bs))
-    by none = stays_wrong (replicate kept_bytes 0) bs
-    by (some x) = says_some (push_keys (keyed (x ∷ [])) bs) x (bytes_of bs) (more_pairs bs (x ∷ []) (omega arith))
+    by None = stays_wrong (replicate kept_bytes 0) bs
+    by (Some x) = says_some (push_keys (keyed (x ∷ [])) bs) x (bytes_of bs) (more_pairs bs (x ∷ []) (omega arith))
 
 -- the bytes that are counted are the key's first 65
 pub counted : (key : List ℕ) → take (min (length key) kept_bytes) (kept_of key) ≡ take kept_bytes key

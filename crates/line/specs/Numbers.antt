@@ -1,13 +1,11 @@
 -- Laws: a number's field, read byte by byte, says what its definition says.
-use Rattle.std.specs.Prelude.{◌≡◌, refl, Bool, true, false, cond, ◌&&◌, List, [], ◌∷◌, ℕ, suc, ◌+◌, ◌-◌, ◌*◌, ◌%◌, ◌^◌, ◌≤◌, ◌<◌, leb, ltb, eqb, length}
-use Rattle.std.proofs.Math.Option.{Option, none, some}
+use Rattle.std.specs.Prelude.{Option, Some, None, option_map, ◌≡◌, refl, Bool, true, false, cond, ◌&&◌, List, [], ◌∷◌, ℕ, suc, ◌+◌, ◌-◌, ◌*◌, ◌%◌, ◌^◌, ◌≤◌, ◌<◌, leb, ltb, eqb, length}
 use Rattle.std.proofs.Common.{lt_of_lt_of_le, le_of_suc-le-suc, pow-suc, mod-eq_of_lt, arith, ltb-true, ltb-false, le-leb, eqb-true}
 use Rattle.std.proofs.Math.Nat.{pow-le-pow_right}
 use Rattle.std.proofs.lemmas.Bool.{lt-leb}
-use Rattle.line.specs.Line.{is_dash, is_decimal, decimal, number_of, given, rounds_of}
+use Rattle.line.specs.Line.{is_dash, is_decimal, decimal, number_of, rounds_of}
 use Rattle.line.specs.Digits.{decimal-at-least, decimal-at-most}
 use Rattle.line.specs.Fold.{push_number, number_in, rounds_in}
-use Rattle.line.specs.declared.Rounds.TheVariants.{Default}
 use Rattle.line.specs.declared.Number.{Number}
 use Rattle.line.specs.declared.Number.TheVariants.{Empty, Digits, Dash, Wrong}
 
@@ -22,13 +20,13 @@ stays_wrong (b ∷ bs) = stays_wrong bs
 
 -- the field of k bytes, at most five, that spell a number
 abbrev numbered : Bool → ℕ → Option ℕ → Number
-numbered fits k none = Wrong
-numbered true k (some v) = Digits k v
-numbered false k (some v) = Wrong
+numbered fits k None = Wrong
+numbered true k (Some v) = Digits k v
+numbered false k (Some v) = Wrong
 
 too_long : (k : ℕ) (o : Option ℕ) → numbered false k o ≡ Wrong
-too_long k none = refl
-too_long k (some v) = refl
+too_long k None = refl
+too_long k (Some v) = refl
 
 -- a digit more keeps the bound, and of a number below it `%` takes nothing away
 next-below : (k v b : ℕ) → v < 10 ^ k → is_decimal b ≡ true → v * 10 + (b - 48) < 10 ^ suc k
@@ -49,7 +47,7 @@ more_digits (b ∷ bs) k v h g = by (ltb k 5) (is_decimal b) refl refl (λ (k' v
         → ((k' v' : ℕ) → k' ≤ 5 → v' < 10 ^ k'
         → push_numbers (Digits k' v') bs ≡ numbered (leb (k' + length bs) 5) (k' + length bs) (decimal v' bs))
         → push_numbers (cond s (cond t (Digits (k + 1) (v % 10000 * 10 + (b - 48))) Wrong) Wrong) bs
-        ≡ numbered (leb (k + suc (length bs)) 5) (k + suc (length bs)) (cond t (decimal (v * 10 + (b - 48)) bs) none)
+        ≡ numbered (leb (k + suc (length bs)) 5) (k + suc (length bs)) (cond t (decimal (v * 10 + (b - 48)) bs) None)
     by false t p q ih =
         let l : 5 ≤ k = ltb-false k 5 p in
         rw (stays_wrong bs, lt-leb (k + suc (length bs)) 5 (omega arith), too_long)
@@ -68,17 +66,17 @@ first-digit b bs e =
     let k : 1 + length bs ≡ suc (length bs) = omega arith in
     rw (← k) (more_digits bs 1 (b - 48) (omega arith) (omega arith))
 
-number_in_lem : (fits : Bool) (k : ℕ) (o : Option ℕ) → number_in (numbered fits k o) ≡ cond fits o none
-number_in_lem true k none = refl
-number_in_lem false k none = refl
-number_in_lem true k (some v) = refl
-number_in_lem false k (some v) = refl
+number_in_lem : (fits : Bool) (k : ℕ) (o : Option ℕ) → number_in (numbered fits k o) ≡ cond fits o None
+number_in_lem true k None = refl
+number_in_lem false k None = refl
+number_in_lem true k (Some v) = refl
+number_in_lem false k (Some v) = refl
 
-no_number : (t : Bool) → cond {A = Option ℕ} t none none ≡ none
+no_number : (t : Bool) → cond {A = Option ℕ} t None None ≡ None
 no_number true = refl
 no_number false = refl
 
-number-after_dash : (bs : List ℕ) → number_in (push_numbers Dash bs) ≡ none
+number-after_dash : (bs : List ℕ) → number_in (push_numbers Dash bs) ≡ None
 number-after_dash [] = refl
 number-after_dash (b ∷ bs) = rw (stays_wrong bs)
 
@@ -89,7 +87,7 @@ number-field (b ∷ bs) = by (is_decimal b) (eqb b 45) refl
   where
     by : (s t : Bool) → is_decimal b ≡ s
         → number_in (push_numbers (cond s (Digits 1 (b - 48)) (cond t Dash Wrong)) bs)
-        ≡ cond (leb 1 (suc (length bs)) && leb (suc (length bs)) 5) (cond s (decimal (0 * 10 + (b - 48)) bs) none) none
+        ≡ cond (leb 1 (suc (length bs)) && leb (suc (length bs)) 5) (cond s (decimal (0 * 10 + (b - 48)) bs) None) None
     by true t p =
         let z : 0 * 10 + (b - 48) ≡ b - 48 = omega arith in
         rw (first-digit b bs p, number_in_lem, le-leb 1 (suc (length bs)) (omega arith), z)
@@ -105,10 +103,10 @@ dashed Wrong = false
 
 numbered-dashed : (fits : Bool) (k : ℕ) (o : Option ℕ) → dashed (numbered fits k o) ≡ false
 unfolding dashed
-numbered-dashed true k none = refl
-numbered-dashed false k none = refl
-numbered-dashed true k (some v) = refl
-numbered-dashed false k (some v) = refl
+numbered-dashed true k None = refl
+numbered-dashed false k None = refl
+numbered-dashed true k (Some v) = refl
+numbered-dashed false k (Some v) = refl
 
 dash_field : (f : List ℕ) → dashed (push_numbers Empty f) ≡ is_dash f
 unfolding dashed
@@ -129,7 +127,7 @@ dash_field (b ∷ c ∷ bs) = by (is_decimal b) (eqb b 45) refl
     by false true p = rw (stays_wrong bs)
     by false false p = rw (stays_wrong bs)
 
-rounds_in_lem : (n : Number) → rounds_in n ≡ cond (dashed n) (some Default) (given (number_in n))
+rounds_in_lem : (n : Number) → rounds_in n ≡ cond (dashed n) (Some None) (option_map (λ (r : ℕ). Some r) (number_in n))
 unfolding dashed
 rounds_in_lem Empty = refl
 rounds_in_lem (Digits k v) = refl

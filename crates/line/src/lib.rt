@@ -3,16 +3,8 @@
 #![tactic(auto)]
 
 ghost use Rattle.std.specs.Prelude.{◌≡◌};
-ghost use Rattle.std.proofs.Math.Option.{some};
-ghost use Rattle.line.specs.Fold.{next_field, push_number, put_byte, push_key, start, space_of, push_at, step_of};
-ghost use Rattle.line.specs.Fold.{reading_of, read_fields, key_bytes_in};
-
-// The rounds that a line names: `-` for the default, or a number.
-#[derive(Clone, Copy)]
-pub enum Rounds {
-    Default,
-    Given(u64),
-}
+ghost use Rattle.line.specs.Fold.{next_field, push_number, put_byte, push_key, start, space_of, push_at, step_of, fold_of};
+ghost use Rattle.line.specs.Fold.{number_in, rounds_in, key_bytes_in, reading_of};
 
 // The field that the next byte belongs to; Past behind a fourth space.
 #[derive(Clone, Copy)]
@@ -42,7 +34,8 @@ pub enum Pairs {
     Wrong,
 }
 
-// The key's field, and the first bytes of the key: enough to tell a key of more than 64 bytes from others.
+// The key's field, and the first bytes of the key: enough to tell a key of more than 64 bytes from others. The pairs count these bytes:
+// a key that grows would need the heap, and memory is fixed.
 #[derive(Clone, Copy)]
 pub struct Key {
     pub pairs: Pairs,
@@ -59,16 +52,14 @@ pub struct State {
     pub key: Key,
 }
 
-// What a line says. Its key is the first key_bytes of the state's bytes, where 65 stands for a key over 64 bytes.
+// What a readable line says; no rounds stand for the default. Its key is the first key_bytes of the state's bytes, where 65
+// stands for a key over 64 bytes.
 #[derive(Clone, Copy)]
-pub enum Reading {
-    Unreadable,
-    Readable {
-        d: u64,
-        limit: u64,
-        rounds: Rounds,
-        key_bytes: usize,
-    },
+pub struct FirstLine {
+    pub d: u64,
+    pub limit: u64,
+    pub rounds: Option<u64>,
+    pub key_bytes: usize,
 }
 
 impl Field {
@@ -91,30 +82,52 @@ impl Number {
     fn push(self, b: u8) -> Number
         ensures { result ≡ push_number self b }
     {
-        match self {
-            Number::Empty => match b {
-                b'0'..=b'9' => Number::Digits {
-                    count: 1,
-                    value: (b - b'0') as u64,
-                },
-                b'-' => Number::Dash,
-                _ => Number::Wrong,
+        match (self, b) {
+            (Number::Empty, b'0'..=b'9') => Number::Digits {
+                count: 1,
+                value: u64::from(b - b'0'),
             },
-            Number::Digits { count, value } => {
-                if count < 5 {
-                    match b {
-                        b'0'..=b'9' => Number::Digits {
-                            count: count + 1,
-                            value: value % 10000 * 10 + (b - b'0') as u64,
-                        },
-                        _ => Number::Wrong,
-                    }
-                } else {
-                    Number::Wrong
-                }
-            }
-            Number::Dash => Number::Wrong,
-            Number::Wrong => Number::Wrong,
+            (Number::Empty, b'-') => Number::Dash,
+            (Number::Digits { count, value }, b'0'..=b'9') if count < 5 => Number::Digits {
+                count: count + 1,
+                value: value % 10000 * 10 + u64::from(b - b'0'),
+            },
+            _ => Number::Wrong,
+        }
+    }
+
+    // The number of d's field or L's, if that is readable.
+    fn number(self) -> Option<u64>
+        ensures { result ≡ number_in self }
+    {
+        match self {
+            Number::Digits { value, .. } => Some(value),
+            _ => None,
+        }
+    }
+
+    // The rounds of r's field, if that is readable; no rounds stand for the default.
+    fn rounds(self) -> Option<Option<u64>>
+        ensures { result ≡ rounds_in self }
+    {
+        match self {
+            Number::Digits { value, .. } => Some(Some(value)),
+            Number::Dash => Some(None),
+            _ => None,
+        }
+    }
+}
+
+impl Pairs {
+    // The bytes of the key, if its field is readable; `-` is a byte that waits for a second one, with no pair before it.
+    fn key_bytes(self) -> Option<usize>
+        ensures { result ≡ key_bytes_in self }
+    {
+        match self {
+            Pairs::Whole(0) => None,
+            Pairs::Whole(n) => Some(n.min(Key::KEPT)),
+            Pairs::Half(0, b'-') => Some(0),
+            _ => None,
         }
     }
 }
@@ -124,21 +137,20 @@ impl Key {
     pub const KEPT: usize = 65;
 
     // The key with one byte more at n, if there is room for it.
-    fn put(bytes: [u8; Key::KEPT], n: usize, x: u8) -> Key
-        ensures { result ≡ put_byte bytes n x }
+    fn put(self, n: usize, x: u8) -> Key
+        ensures { result ≡ put_byte self.bytes n x }
     {
-        let mut next = bytes;
+        let mut bytes = self.bytes;
         if n < Key::KEPT {
-            next[n] = x;
-            Key {
+            bytes[n] = x;
+            return Key {
                 pairs: Pairs::Whole(n + 1),
-                bytes: next,
-            }
-        } else {
-            Key {
-                pairs: Pairs::Whole(n),
-                bytes: next,
-            }
+                bytes,
+            };
+        }
+        Key {
+            pairs: Pairs::Whole(n),
+            bytes,
         }
     }
 
@@ -146,27 +158,19 @@ impl Key {
     fn push(self, b: u8) -> Key
         ensures { result ≡ push_key self b }
     {
-        let pairs = self.pairs;
-        let bytes = self.bytes;
-        match pairs {
+        match self.pairs {
             Pairs::Whole(n) => Key {
                 pairs: Pairs::Half(n, b),
-                bytes,
+                ..self
             },
-            Pairs::Half(n, a) => {
-                let two = [a, b];
-                match digits::number(&two) {
-                    digits::Reading::Number(x) => Key::put(bytes, n, x as u8),
-                    digits::Reading::NoDigit => Key {
-                        pairs: Pairs::Wrong,
-                        bytes,
-                    },
-                }
-            }
-            Pairs::Wrong => Key {
-                pairs: Pairs::Wrong,
-                bytes,
+            Pairs::Half(n, a) => match digits::number(&[a, b]) {
+                Some(x) => self.put(n, x as u8),
+                None => Key {
+                    pairs: Pairs::Wrong,
+                    ..self
+                },
             },
+            Pairs::Wrong => self,
         }
     }
 }
@@ -176,17 +180,15 @@ impl State {
     pub fn new() -> State
         ensures { result ≡ start }
     {
-        let bytes = [0u8; Key::KEPT];
-        let key = Key {
-            pairs: Pairs::Whole(0),
-            bytes,
-        };
         State {
             at: Field::Digest,
             d: Number::Empty,
             limit: Number::Empty,
             rounds: Number::Empty,
-            key,
+            key: Key {
+                pairs: Pairs::Whole(0),
+                bytes: [0; Key::KEPT],
+            },
         }
     }
 
@@ -194,17 +196,9 @@ impl State {
     fn space(self) -> State
         ensures { result ≡ space_of self }
     {
-        let at = self.at;
-        let d = self.d;
-        let limit = self.limit;
-        let rounds = self.rounds;
-        let key = self.key;
         State {
-            at: at.next(),
-            d,
-            limit,
-            rounds,
-            key,
+            at: self.at.next(),
+            ..self
         }
     }
 
@@ -212,45 +206,29 @@ impl State {
     fn push(self, b: u8) -> State
         ensures { result ≡ push_at self.at self b }
     {
-        let at = self.at;
-        let d = self.d;
-        let limit = self.limit;
-        let rounds = self.rounds;
-        let key = self.key;
-        match at {
+        match self.at {
             Field::Digest => State {
-                at,
-                d: d.push(b),
-                limit,
-                rounds,
-                key,
+                d: self.d.push(b),
+                ..self
             },
             Field::Limit => State {
-                at,
-                d,
-                limit: limit.push(b),
-                rounds,
-                key,
+                limit: self.limit.push(b),
+                ..self
             },
             Field::Rounds => State {
-                at,
-                d,
-                limit,
-                rounds: rounds.push(b),
-                key,
+                rounds: self.rounds.push(b),
+                ..self
             },
             Field::Key => State {
-                at,
-                d,
-                limit,
-                rounds,
-                key: key.push(b),
+                key: self.key.push(b),
+                ..self
             },
             Field::Past => self,
         }
     }
 
     // The line with one byte more; byte 10, which ends the line, is not given to it.
+    #[tactic(auto, unfolding(crate::specs::Fold::step_of))]
     pub fn step(self, b: u8) -> State
         ensures { result ≡ step_of self b }
     {
@@ -261,82 +239,26 @@ impl State {
         }
     }
 
-    // What the line says, once all its bytes have come.
+    // The line with bytes more.
+    pub fn steps(self, bytes: &[u8]) -> State
+        ensures { result ≡ fold_of self bytes.now }
+    {
+        bytes.iter().fold(self, |line, b| line.step(*b))
+    }
+
+    // What the line says, once all its bytes have come; none if it is unreadable.
     #[tactic(auto, unfolding(crate::specs::Fold::reading_of))]
-    pub fn reading(self) -> Reading
+    pub fn reading(self) -> Option<FirstLine>
         ensures { result ≡ reading_of self }
     {
-        let at = self.at;
-        let Field::Key = at else {
-            return Reading::Unreadable;
+        let Field::Key = self.at else {
+            return None;
         };
-        let digest_field = self.d;
-        let Number::Digits { count: _, value: d } = digest_field else {
-            return Reading::Unreadable;
-        };
-        let limit_field = self.limit;
-        let Number::Digits {
-            count: _,
-            value: limit,
-        } = limit_field
-        else {
-            return Reading::Unreadable;
-        };
-        let rounds_field = self.rounds;
-        let key = self.key;
-        let pairs = key.pairs;
-        match rounds_field {
-            Number::Digits { count: _, value } => key_reading(
-                d,
-                limit,
-                Rounds::Given(value),
-                pairs,
-            ),
-            Number::Dash => key_reading(d, limit, Rounds::Default, pairs),
-            Number::Empty => Reading::Unreadable,
-            Number::Wrong => Reading::Unreadable,
-        }
-    }
-}
-
-// What a line says with these numbers, by its key's field.
-fn key_reading(d: u64, limit: u64, rounds: Rounds, pairs: Pairs) -> Reading
-    ensures { result ≡ read_fields (some d) (some limit) (some rounds) (key_bytes_in pairs) }
-{
-    match pairs {
-        Pairs::Whole(n) => {
-            if n == 0 {
-                Reading::Unreadable
-            } else if n < Key::KEPT {
-                Reading::Readable {
-                    d,
-                    limit,
-                    rounds,
-                    key_bytes: n,
-                }
-            } else {
-                Reading::Readable {
-                    d,
-                    limit,
-                    rounds,
-                    key_bytes: Key::KEPT,
-                }
-            }
-        }
-        Pairs::Half(n, a) => {
-            if n != 0 {
-                return Reading::Unreadable;
-            }
-            if a != b'-' {
-                return Reading::Unreadable;
-            }
-            Reading::Readable {
-                d,
-                limit,
-                rounds,
-                key_bytes: 0,
-            }
-        }
-        Pairs::Wrong => Reading::Unreadable,
+        Some(FirstLine {
+            d: self.d.number()?,
+            limit: self.limit.number()?,
+            rounds: self.rounds.rounds()?,
+            key_bytes: self.key.pairs.key_bytes()?,
+        })
     }
 }

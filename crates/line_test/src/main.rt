@@ -2,61 +2,31 @@
 // the count of key bytes that are kept and these bytes, or that the line is unreadable.
 #![tactic(auto)]
 
-ghost use Rattle.std.specs.Prelude.{◌≡◌, ◌≤◌, IfOk, length};
-ghost use Rattle.line.specs.Fold.{kept_bytes, start, fold_of};
+ghost use Rattle.std.specs.Prelude.{◌≤◌, IfOk, length};
 
-use line::{Key, Reading, Rounds, State};
+use line::{FirstLine, State};
 use std::io;
 use std::io::Read;
 
-// The state after a whole line.
-fn line_state(line: &[u8]) -> State
-    ensures { result ≡ fold_of start line.now }
-{
-    let mut s = State::new();
-    let mut i = 0;
-    while i < line.len() {
-        let next = s.step(line[i]);
-        s = next;
-        i += 1;
-    }
-    s
-}
-
-// The key's bytes are a part of those that are kept.
-fn write_key(rt: &impl Print, kept: [u8; Key::KEPT], n: usize) -> io::Result<()>
-    requires { n ≤ kept_bytes }
-{
-    print!(rt; "{n}:")?;
-    test_print::bytes(rt, &kept[..n])
-}
-
-fn write_rounds(rt: &impl Print, rounds: Rounds) -> io::Result<()> {
+fn write_rounds(rt: &impl Print, rounds: Option<u64>) -> io::Result<()> {
     match rounds {
-        Rounds::Default => print!(rt; "-"),
-        Rounds::Given(r) => print!(rt; "{r}"),
+        None => print!(rt; "-"),
+        Some(r) => print!(rt; "{r}"),
     }
 }
 
-fn write_numbers(rt: &impl Print, d: u64, limit: u64, rounds: Rounds) -> io::Result<()> {
-    print!(rt; "{d} {limit} ")?;
-    write_rounds(rt, rounds)?;
-    print!(rt; " ")
+fn write_numbers(rt: &impl Print, said: FirstLine) -> io::Result<()> {
+    print!(rt; "{} {} ", said.d, said.limit)?;
+    write_rounds(rt, said.rounds)?;
+    print!(rt; " {}:", said.key_bytes)
 }
 
 fn write_reading(rt: &impl Print, s: State) -> io::Result<()> {
-    let key = s.key;
-    let bytes = key.bytes;
     match s.reading() {
-        Reading::Unreadable => print!(rt; "unreadable")?,
-        Reading::Readable {
-            d,
-            limit,
-            rounds,
-            key_bytes,
-        } => {
-            write_numbers(rt, d, limit, rounds)?;
-            write_key(rt, bytes, key_bytes)?;
+        None => print!(rt; "unreadable")?,
+        Some(said) => {
+            write_numbers(rt, said)?;
+            test_print::bytes(rt, &s.key.bytes[..said.key_bytes])?;
         }
     }
     println!(rt; "")
@@ -64,15 +34,10 @@ fn write_reading(rt: &impl Print, s: State) -> io::Result<()> {
 
 // Each line of a text, ended by byte 10.
 fn write_lines(rt: &impl Print, text: &[u8]) -> io::Result<()> {
-    let mut from = 0;
-    let mut i = 0;
-    while i < text.len() {
-        if text[i] == 10 {
-            let s = line_state(&text[from..i]);
-            write_reading(rt, s)?;
-            from = i + 1;
+    for line in text.split_inclusive(|b| *b == 10) {
+        if let Some(line) = line.strip_suffix(b"\n") {
+            write_reading(rt, State::new().steps(line))?;
         }
-        i += 1;
     }
     Ok(())
 }

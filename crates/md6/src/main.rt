@@ -2,18 +2,9 @@
 // written is what the crate `program` gives for each read and for the end of the input; here is only the reading and writing.
 #![tactic(auto)]
 
-ghost use Rattle.std.specs.Prelude.{◌≤◌, length};
-
 use area::Area;
-use program::{BUFFER, OUT, Phase, Program};
+use program::{BUFFER, OUT, Program};
 use std::io::Read;
-
-// Writes the first bytes of a text. Answers whether all were written.
-fn write_first(rt: &impl Print, text: &[u8], n: usize) -> bool
-    requires { n ≤ length text.now }
-{
-    rt.write_all(&text[..n]).is_ok()
-}
 
 // Reads until the input ends, a read or a write fails, or the input is refused. The turns are counted because a loop has
 // to end; no input of fewer than 2^64 - 1 bytes uses them up.
@@ -29,18 +20,16 @@ fn main(rt: HostRuntime) {
         };
         if n == 0 {
             let last = program::finish(program, &mut area, &mut out);
-            write_first(&rt, &out, last);
+            let _ = rt.write_all(&out[..last]);
             return;
         }
         let taken = program::take(program, &buf, n, &mut area, &mut out);
-        if !write_first(&rt, &out, taken.count) {
+        program = taken.program;
+        if rt.write_all(&out[..taken.count]).is_err() {
             return;
         }
-        let next = taken.program;
-        let phase = next.phase;
-        if let Phase::Refused = phase {
+        if matches!(program, Program::Refused) {
             return;
         }
-        program = next;
     }
 }

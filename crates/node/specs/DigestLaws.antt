@@ -1,6 +1,9 @@
 -- Laws: for the code that writes a digest: the bytes of words, and the last d bits of the root's words.
-use Rattle.std.specs.Prelude.{◌≡◌, refl, Bool, false, List, [], ◌∷◌, ◌++◌, ℕ, suc, ◌+◌, ◌-◌, ◌*◌, ◌/◌, ◌%◌, ◌^◌, ◌≤◌, ◌<◌, length, take, drop, get_or, set, replicate}
+use Rattle.std.specs.Prelude.{◌≡◌, refl, Bool, false, List, [], ◌∷◌, ◌++◌, ℕ, zero, suc, ◌+◌, ◌-◌, ◌*◌, ◌/◌, ◌%◌, ◌^◌, ◌≤◌, ◌<◌, length, take, drop, get_or, set, replicate}
+use Rattle.std.specs.Int
+use Rattle.std.specs.Int.{w64, bytes_high_first, to_be_bytes}
 use Rattle.std.proofs.Common.{sym, ap, ◌∙◌, append_assoc, arith, add-one, length-append, length-drop, take_all, take_at, drop_at, drop-drop, drop-cons}
+use Rattle.std.proofs.lemmas.Nat.{pow-add}
 use Rattle.std.proofs.lemmas.List.{length-replicate, replicate-append-replicate, set_at}
 use Rattle.std.proofs.Math.Seq.{paste, append_snoc}
 use Rattle.bits.specs.Bits.{bits, bits_of, spell, numbers, filled}
@@ -27,18 +30,46 @@ byte_of_word o k w rest e =
     ∙ spell-bits 8 0 (w / 2 ^ k)
     ∙ omega arith
 
-pub byte-value : (ws : List ℕ) (j : ℕ) → j < 8 * length ws → get_or ws (j / 8) 0 / 2 ^ (56 - 8 * (j % 8)) % 2 ^ 8 ≡ byte_at ws j
+-- byte j of a word's eight, the highest first, is got by a shift
+pow-bytes : (k : ℕ) → 256 ^ k ≡ 2 ^ (8 * k)
+pow-bytes zero = refl
+pow-bytes (suc k) =
+    let e : suc k ≡ k + 1 = omega arith in
+    let f : 8 * k + 8 ≡ 8 * suc k = omega arith in
+    ap (λ (n : ℕ). 256 ^ n) e
+    ∙ pow-add 256 k 1
+    ∙ ap (λ (x : ℕ). x * 256) (pow-bytes k)
+    ∙ sym (pow-add 2 (8 * k) 8)
+    ∙ ap (λ (n : ℕ). 2 ^ n) f
+
+high-byte : (k w : ℕ) → Int.byte_at k w ≡ w / 2 ^ (8 * k) % 2 ^ 8
+high-byte zero w = omega arith
+high-byte (suc k) w = ap (λ (x : ℕ). w / x % 256) (pow-bytes (suc k))
+
+high-first : (k j w : ℕ) → j < k → get_or (bytes_high_first k w) j 0 ≡ w / 2 ^ (8 * (k - 1 - j)) % 2 ^ 8
+high-first zero j w h = omega (arith, h)
+high-first (suc k) zero w h =
+    let e : k ≡ suc k - 1 - 0 = omega arith in
+    high-byte k w ∙ ap (λ (n : ℕ). w / 2 ^ (8 * n) % 2 ^ 8) e
+high-first (suc k) (suc j) w h =
+    let e : k - 1 - j ≡ suc k - 1 - suc j = omega arith in
+    high-first k j w (omega arith) ∙ ap (λ (n : ℕ). w / 2 ^ (8 * n) % 2 ^ 8) e
+
+pub byte-value : (ws : List ℕ) (j : ℕ) → j < 8 * length ws → get_or (to_be_bytes w64 (get_or ws (j / 8) 0)) (j % 8) 0 ≡ byte_at ws j
 unfolding byte_at
 byte-value ws j h =
     let i : ℕ = j / 8 in
     let o : ℕ = 8 * (j % 8) in
     let e : j * 8 ≡ i * 64 + o = omega arith in
     let l : i < length ws = omega arith in
+    let below : 8 * (8 - 1 - j % 8) ≡ 56 - o = omega arith in
     let d : drop (j * 8) (bits_of 64 ws) ≡ drop o (bits 64 (get_or ws i 0) ++ bits_of 64 (drop (suc i) ws)) =
     ap (λ (n : ℕ). drop n (bits_of 64 ws)) e
     ∙ sym (drop-drop o (i * 64) (bits_of 64 ws))
     ∙ ap (drop o) (bits_of-drop 64 i ws ∙ ap (bits_of 64) (drop-cons ws i 0 l)) in
-    sym (ap (λ (x : List Bool). spell 0 (take 8 x)) d ∙ byte_of_word o (56 - o) (get_or ws i 0) (bits_of 64 (drop (suc i) ws)) (omega arith))
+    high-first 8 (j % 8) (get_or ws i 0) (omega arith)
+    ∙ ap (λ (k : ℕ). get_or ws i 0 / 2 ^ k % 2 ^ 8) below
+    ∙ sym (ap (λ (x : List Bool). spell 0 (take 8 x)) d ∙ byte_of_word o (56 - o) (get_or ws i 0) (bits_of 64 (drop (suc i) ws)) (omega arith))
 
 -- ---- the loop that writes bytes
 

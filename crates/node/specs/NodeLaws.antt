@@ -11,21 +11,7 @@ paste-at p s zs n k e f =
     let d : drop (n + k) (p ++ zs) ≡ drop k zs = ap (λ (x : ℕ). drop (x + k) (p ++ zs)) (sym e) ∙ drop-append-add p zs k in
     rw (take_at p zs n e, take_all k s (omega arith), d) (append_assoc p s (drop k zs))
 
--- the chain, and then 48 words, are written to a block
-pub block_made : (before rest : List ℕ) → length before ≡ 16 → length rest ≡ 48
-    → paste (paste (replicate 64 0) 0 before (length before)) 16 rest (length rest) ≡ before ++ rest
-block_made before rest lb lr =
-    let a : paste (replicate 64 0) 0 before (length before) ≡ before ++ replicate 48 0 =
-    paste-at [] before (replicate 64 0) 0 (length before) refl refl ∙ rw lb refl in
-    let b : paste (before ++ replicate 48 0) 16 rest (length rest) ≡ before ++ (rest ++ []) =
-    paste-at before rest (replicate 48 0) 16 (length rest) lb refl ∙ rw lr refl in
-    ap (λ (w : List ℕ). paste w 16 rest (length rest)) a ∙ b ∙ ap (λ (w : List ℕ). before ++ w) (append-nil rest)
-
--- Q and K are written to a window that holds nothing
-pub key-put : (k : List ℕ) → length k ≡ 8 → paste (paste (replicate 89 0) 0 Q (length Q)) 15 k (length k) ≡ (Q ++ k) ++ replicate 66 0
-key-put k h = paste-at Q k (replicate 74 0) 15 (length k) refl refl ∙ rw h (sym (append_assoc Q k (replicate 66 0)))
-
--- U, V and the block are written after them
+-- U, V and the block are written to a window after Q and K
 pub window-made : (k block : List ℕ) (u v : ℕ) → length k ≡ 8 → length block ≡ 64
     → paste (set (set ((Q ++ k) ++ replicate 66 0) 23 u) 24 v) 25 block (length block) ≡ window_of k u v block
 window-made k block u v hk hb =

@@ -21,8 +21,7 @@ fn byte_of(words: &[u64], j: usize) -> u8
     requires { j < 8 * length words.now }
     ensures { result ≡ byte_at words.now j }
 {
-    let below = 56 - 8 * (j % 8);
-    ((words[j / 8] >> below) % 256) as u8
+    words[j / 8].to_be_bytes()[j % 8]
 }
 
 // Writes the first n bytes of words to the front of out.
@@ -30,10 +29,8 @@ fn put_bytes(out: &mut [u8], words: &[u64], n: usize)
     requires { (n ≤ 8 * length words.now) × (n ≤ length out.old) }
     ensures { out.new ≡ numbers 8 n (bits_of 64 words.now) ++ drop n out.old }
 {
-    let mut i = 0;
-    while i < n {
+    for i in 0..n {
         out[i] = byte_of(words, i);
-        i += 1;
     }
 }
 

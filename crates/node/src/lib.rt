@@ -1,9 +1,9 @@
 // One node, and what the whole-message call, the stream and the call by layers share: blocks, K and the digest.
 #![tactic(auto)]
 
-ghost use Rattle.std.specs.Prelude.{◌≡◌, ◌∷◌, [], ◌++◌, ◌+◌, ◌-◌, ◌≤◌, ◌<◌, ◌^◌, length, replicate};
+ghost use Rattle.std.specs.Prelude.{◌≡◌, ◌∷◌, [], ◌++◌, ◌+◌, ◌≤◌, ◌<◌, ◌^◌, length, replicate};
 ghost use Rattle.std.proofs.lemmas.List.Edits.{sets};
-ghost use Rattle.compress.specs.Compress.{Q, window_of};
+ghost use Rattle.compress.specs.Compress.{window_of};
 ghost use Rattle.refusals.specs.RefusalLaws.{InRange};
 ghost use Rattle.tree.specs.Tree.{node_u, node_v, out_words};
 ghost use Rattle.node.specs.Words.{sized, placed, FieldsFit, tree_params, Ready};
@@ -13,7 +13,8 @@ use refusals::Params;
 
 pub mod digest; // digest.rt: K from the key, and the digest from the root
 
-// Where a node stands in its tree, z, which is 1 at the root and 0 elsewhere, and the padding bits in its block.
+// Where a node stands in its tree, z, which is 1 at the root and 0 elsewhere, and the padding bits in its block. z is a number and no bool:
+// `compress_node` promises its words for each z that V has room for (`FieldsFit`).
 #[derive(Clone, Copy)]
 pub struct Place {
     pub level: u64,
@@ -77,7 +78,7 @@ pub fn node_v(params: Params, z: u64, p: u64) -> u64
     ((high * 65536 + p) * 256 + params.keylen) * 4096 + params.d
 }
 
-// Writes U and V of a node to the log, from a place on.
+// Writes U and V of a node to the log, from a place on. Word by word: an array of the two, copied to a part of the log, is no plainer.
 pub fn log_node(params: Params, place: Place, log: &mut [u64], at: usize)
     requires in_range { InRange params.keylen params.d params.limit params.rounds }
     requires level_bound { (place.level < 256) × (place.index < 2 ^ 56) × (place.z < 16) × (place.p < 65536) × (at + 2 ≤ length log.old) }
@@ -94,64 +95,70 @@ pub fn chained_block(chain: &[u64], rest: &[u64]) -> [u64; 64]
     ensures { result ≡ chain.now ++ rest.now }
 {
     let mut block = [0u64; 64];
-    words::copy(&mut block, 0, chain);
-    words::copy(&mut block, Block::OUTPUT_WORDS as usize, rest);
+    let chained = Block::OUTPUT_WORDS as usize;
+    block[..chained].copy_from_slice(chain);
+    block[chained..].copy_from_slice(rest);
     block
 }
 
-// Writes Q and K to a window that holds nothing. K is lent as a slice: where it was an array, the compiler did not put the compression
-// of a node into its callers, and the whole-message call took half as much stack again for each level.
-fn put_key(w: &mut [u64], k: &[u64])
-    requires { (w.old ≡ replicate 89 0) × (length k.now ≡ 8) }
-    ensures { w.new ≡ (Q ++ k.now) ++ replicate 66 0 }
-{
-    let q = compress::q_words();
-    words::copy(&mut *w, 0, &q);
-    words::copy(&mut *w, 15, k);
+// What the nodes of a tree are compressed with: K and the parameters, and the round constants of the first rounds, which stand in the
+// caller. It is lent to each function that makes nodes, since by value it would be copied at each call.
+#[derive(Clone, Copy)]
+pub struct Compressor<'a> {
+    pub keyed: Keyed,
+    constants: &'a [u64],
+    pub ghost ready: { Ready keyed constants.now },
 }
 
-// Fills the window of the node with this place and block, which holds nothing: Q, K, U, V and the block. The caller lends it, as a
-// window that is given back would be copied.
-fn fill_window(w: &mut [u64], keyed: Keyed, place: Place, block: &[u64])
-    requires in_range { InRange keyed.params.keylen keyed.params.d keyed.params.limit keyed.params.rounds }
-    requires fields_fit { FieldsFit place block.now × (length keyed.k ≡ 8) × (w.old ≡ replicate 89 0) }
-    ensures { w.new
-        ≡ window_of keyed.k (node_u place.level place.index) (node_v (sized keyed.params) place.z place.p)
-        block.now }
-{
-    let k = keyed.k;
-    put_key(&mut *w, &k);
-    w[23] = node_u(place.level, place.index);
-    w[24] = node_v(keyed.params, place.z, place.p);
-    words::copy(&mut *w, 25, block);
-}
+impl<'a> Compressor<'a> {
+    pub fn new(keyed: Keyed, constants: &'a [u64]) -> Self
+        requires { Ready keyed constants.now }
+        ensures { result.keyed ≡ keyed }
+    {
+        Self { keyed, constants }
+    }
 
-// The 16 words of the node with this place and block.
-pub fn compress_node(keyed: Keyed, constants: &[u64], place: Place, block: &[u64]) -> [u64; 16]
-    requires { Ready keyed constants.now × FieldsFit place block.now }
-    ensures { result ≡ out_words (tree_params keyed) (placed (tree_params keyed) place block.now) }
-{
-    let mut w = [0u64; WINDOW];
-    fill_window(&mut w, keyed, place, block);
-    compress::compress(&w, constants, keyed.params.rounds as usize)
-}
+    // Fills the window of the node with this place and block, which holds nothing: Q, K, U, V and the block. The caller lends it, as a
+    // window that is given back would be copied. Inlined, so that the window goes straight to the compression's buffer: where it was a
+    // call, the whole-message call took half as much stack again for each level.
+    #[inline(always)]
+    fn fill_window(&self, w: &mut [u64], place: Place, block: &[u64])
+        requires { FieldsFit place block.now × (w.old ≡ replicate 89 0) }
+        ensures { w.new ≡ window_of self.now.keyed.k (node_u place.level place.index) (node_v (sized self.now.keyed.params) place.z place.p) block.now }
+    {
+        w[..15].copy_from_slice(&compress::q_words());
+        w[15..23].copy_from_slice(&self.keyed.k);
+        w[23] = node_u(place.level, place.index);
+        w[24] = node_v(self.keyed.params, place.z, place.p);
+        w[25..].copy_from_slice(block);
+    }
 
-// The words of two nodes of one tree, made together.
-pub fn compress_two(
-    keyed: Keyed,
-    constants: &[u64],
-    one: Place,
-    one_block: &[u64],
-    other: Place,
-    other_block: &[u64],
-) -> Two
-    requires { Ready keyed constants.now × FieldsFit one one_block.now × FieldsFit other other_block.now }
-    ensures first { result.first ≡ out_words (tree_params keyed) (placed (tree_params keyed) one one_block.now) }
-    ensures second { result.second ≡ out_words (tree_params keyed) (placed (tree_params keyed) other other_block.now) }
-{
-    let mut w = [0u64; WINDOW];
-    fill_window(&mut w, keyed, one, one_block);
-    let mut v = [0u64; WINDOW];
-    fill_window(&mut v, keyed, other, other_block);
-    compress::compress_two(&w, &v, constants, keyed.params.rounds as usize)
+    // The 16 words of the node with this place and block.
+    pub fn compress_node(&self, place: Place, block: &[u64]) -> [u64; 16]
+        requires { FieldsFit place block.now }
+        ensures { result ≡ out_words (tree_params self.now.keyed) (placed (tree_params self.now.keyed) place block.now) }
+    {
+        let mut w = [0u64; WINDOW];
+        self.fill_window(&mut w, place, block);
+        compress::compress(&w, self.constants, self.keyed.params.rounds as usize)
+    }
+
+    // The words of two nodes of one tree, made together.
+    pub fn compress_two(
+        &self,
+        one: Place,
+        one_block: &[u64],
+        other: Place,
+        other_block: &[u64],
+    ) -> Two
+        requires { FieldsFit one one_block.now × FieldsFit other other_block.now }
+        ensures first { result.first ≡ out_words (tree_params self.now.keyed) (placed (tree_params self.now.keyed) one one_block.now) }
+        ensures second { result.second ≡ out_words (tree_params self.now.keyed) (placed (tree_params self.now.keyed) other other_block.now) }
+    {
+        let mut w = [0u64; WINDOW];
+        self.fill_window(&mut w, one, one_block);
+        let mut v = [0u64; WINDOW];
+        self.fill_window(&mut v, other, other_block);
+        compress::compress_two(&w, &v, self.constants, self.keyed.params.rounds as usize)
+    }
 }

@@ -1,5 +1,5 @@
 -- Laws: for the code that fills a block: with message bits, and with the values of children.
-use Rattle.std.specs.Prelude.{◌≡◌, refl, Bool, false, List, [], ◌∷◌, ◌++◌, ℕ, zero, suc, ◌+◌, ◌-◌, ◌*◌, ◌≤◌, ◌<◌, min, length, take, drop, replicate}
+use Rattle.std.specs.Prelude.{◌≡◌, refl, Bool, false, List, [], ◌∷◌, ◌++◌, ℕ, zero, suc, ◌+◌, ◌-◌, ◌*◌, ◌/◌, ◌≤◌, ◌<◌, min, length, take, drop, replicate}
 use Rattle.std.proofs.Common.{sym, ap, ◌∙◌, append_assoc, arith, add-one, drop-drop}
 use Rattle.std.proofs.lemmas.List.{length-replicate}
 use Rattle.std.proofs.Math.Seq.{paste, take-append-add}
@@ -12,7 +12,6 @@ use Rattle.shape.specs.Shape.{taken, block_padding}
 use Rattle.nodes.specs.Value.{message_part, joined_values, child_words, block_from, value, level_values, node_block}
 use Rattle.tree.proofs.Count.{level_nodes}
 use Rattle.bits.specs.PieceLaws.{Fits, length-piece_bits}
-use Rattle.shape.specs.ShapeLaws.{leaf-index}
 use Rattle.nodes.specs.ValueLaws.{length-value, joined-zero, joined-suc, length-joined_values}
 use Rattle.node.specs.NodeLaws.{paste-at}
 use Rattle.lists.specs.Replicate.{take-replicate, drop-replicate}
@@ -48,12 +47,16 @@ filled-part m w size index from n e h g ef en =
     let q : message_part size (take m.count D) index ≡ take n (drop from B) ++ replicate (size - n) false = rw (t, lp, en) in
     rw (l, p, q)
 
--- ---- a leaf
+-- the same, where the bytes before the node's are counted
+pub bytes-before : (w index : ℕ) → 8 * (64 * w / 8 * index) ≡ 64 * w * index
+bytes-before w index =
+    let e : 64 * w / 8 ≡ 8 * w = omega arith in
+    rw e (omega arith)
 
-pub leaf-filled : (m : Piece) (index n : ℕ) → Fits m → index < level_nodes m.count 1 → n ≡ taken block_bits m.count index
-    → filled (replicate 64 0) 0 m.bytes (8 * (512 * index) + m.start) n ≡ words 64 (message_part block_bits (piece_bits m) index)
-leaf-filled m index n g i en =
-    filled-part m 64 block_bits index (8 * (512 * index) + m.start) n refl (leaf-index m.count index i) g (omega arith) en
+pub message-filled : (m : Piece) (w index n : ℕ) → Fits m → 64 * w * index ≤ m.count → n ≡ taken (64 * w) m.count index
+    → filled (replicate w 0) 0 m.bytes (8 * (64 * w / 8 * index) + m.start) n ≡ words w (message_part (64 * w) (piece_bits m) index)
+message-filled m w index n g i en =
+    filled-part m w (64 * w) index (8 * (64 * w / 8 * index) + m.start) n (omega arith) i g (omega (arith, bytes-before w index)) en
 
 -- ---- children
 

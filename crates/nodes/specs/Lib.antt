@@ -1,4 +1,5 @@
 pub mod BlockLaws
+pub mod Making
 pub mod NodeByNode
 pub mod SequentialLaws
 pub mod Value

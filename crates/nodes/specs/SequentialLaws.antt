@@ -1,26 +1,17 @@
 -- Laws: for the code of the sequential level.
-use Rattle.std.specs.Prelude.{◌≡◌, refl, Bool, List, [], ◌++◌, ℕ, zero, suc, ◌+◌, ◌*◌, ◌≤◌, ◌<◌, eqb, length, replicate}
-use Rattle.std.proofs.Common.{sym, ◌∙◌, lt-ltb, le-ltb, append-nil, arith}
-use Rattle.std.proofs.Math.Seq.{paste}
-use Rattle.bits.specs.Bits.{digit, filled}
+use Rattle.std.specs.Prelude.{◌≡◌, Bool, List, ◌++◌, ℕ, zero, suc, ◌+◌, ◌*◌, ◌≤◌, ◌<◌, eqb, length}
+use Rattle.std.proofs.Common.{sym, lt-ltb, le-ltb, arith}
+use Rattle.bits.specs.Bits.{digit}
 use Rattle.tree.specs.Tree.{Params, words, sequential_bits}
 use Rattle.bits.specs.Piece.{Piece, piece_bits}
 use Rattle.node.specs.Words.{node_words}
 use Rattle.shape.specs.Shape.{taken, sequential_nodes, sequential_padding, top_level}
 use Rattle.nodes.specs.Value.{message_part, child_words, value, level_values, sequential_words, chained, chain, last_chained, root_value}
 use Rattle.tree.proofs.Count.{level_nodes}
-use Rattle.shape.specs.ShapeLaws.{message-index}
 use Rattle.nodes.specs.ValueLaws.{chain-suc}
-use Rattle.node.specs.NodeLaws.{paste-at}
 use Rattle.bits.specs.PieceLaws.{Fits, length-piece_bits}
-use Rattle.nodes.specs.BlockLaws.{filled-part}
 
 -- ---- words
-
-pub message-filled : (m : Piece) (index n : ℕ) → Fits m → index < sequential_nodes 0 m.count → n ≡ taken sequential_bits m.count index
-    → filled (replicate 48 0) 0 m.bytes (8 * (384 * index) + m.start) n ≡ words 48 (message_part sequential_bits (piece_bits m) index)
-message-filled m index n g i en =
-    filled-part m 48 sequential_bits index (8 * (384 * index) + m.start) n refl (message-index m.count index i) g (omega arith) en
 
 pub words-message : (P : Params) (limit : ℕ) (M : List Bool) (index : ℕ) → limit ≡ 0
     → words 48 (message_part sequential_bits M index) ≡ sequential_words P limit M index
@@ -33,10 +24,6 @@ pub words_children : (P : Params) (limit : ℕ) (m : Piece) (index n : ℕ) → 
 unfolding sequential_words
 words_children P zero m index n h g en = absurd (omega arith)
 words_children P (suc l) m index n h g en = rw (length-piece_bits m g, en)
-
--- 48 words, written to as many
-pub rest-made : (rest : List ℕ) → length rest ≡ 48 → paste (replicate 48 0) 0 rest (length rest) ≡ rest
-rest-made rest l = paste-at [] rest (replicate 48 0) 0 (length rest) refl refl ∙ rw l (append-nil rest)
 
 -- ---- the chain
 

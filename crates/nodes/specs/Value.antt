@@ -3,18 +3,10 @@
 -- place of the levels is a theorem (NodeByNode).
 use Rattle.std.specs.Prelude.{Bool, false, cond, List, [], ◌++◌, ℕ, zero, suc, ◌+◌, ◌-◌, ◌*◌, eqb, ltb, length, take, drop, replicate}
 use Rattle.bits.specs.Bits.{digit}
-use Rattle.bits.specs.Piece.{Piece}
-use Rattle.bits.specs.PieceLaws.{Fits}
 use Rattle.tree.specs.Tree.{Params, words, block_bits, sequential_bits}
 use Rattle.tree.proofs.Count.{level_nodes}
 use Rattle.shape.specs.Shape.{taken, block_padding, sequential_nodes, sequential_padding, top_level}
-use Rattle.node.specs.Words.{node_words, Ready}
-use Rattle.node.specs.declared.Keyed.{Keyed}
-
--- what the code that works out values is given: what every node needs, and a message that has its bits
-pub record Given (message : Piece) (keyed : Keyed) (constants : List ℕ) : Type 0 where
-  pub ready : Ready keyed constants
-  pub enough : Fits message
+use Rattle.node.specs.Words.{node_words}
 
 -- the message bits that a node at an index takes, and zero bits after them
 abbrev pub message_part : ℕ → List Bool → ℕ → List Bool

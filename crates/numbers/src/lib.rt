@@ -1,62 +1,49 @@
-// The numbers that refuse calls on an area: a feed, an end, a preview and the telling of log words, and what a close tests. The nodes
-// that would be made are known from the totals, before any is.
+// What refuses calls on an area: a feed, an end, a preview and the telling of log words, and what a close tests. The nodes that would be
+// made are known from the totals, before any is.
 #![tactic(auto)]
 
 ghost use Rattle.std.specs.Prelude.{◌≡◌, false, [], ◌∷◌, length, replicate};
 ghost use Rattle.bits.specs.PieceLaws.{spanned};
 ghost use Rattle.tree.specs.Tree.{digest_bytes};
-ghost use Rattle.refusals.specs.Refusals.{first_refusal, output_test, log_test};
+ghost use Rattle.refusals.specs.Refusals.{first_refusal, told_number, output_test, log_test};
 ghost use Rattle.calls.specs.Area.{params_of};
 ghost use Rattle.calls.specs.Calls.{open_tests, total_test, fed_bits, last_nodes_of, feed_number, end_number, preview_number, log_words_number};
 ghost use Rattle.calls.proofs.CallLaws.{LogWordsPassed};
 ghost use Rattle.climb.specs.OpenArea.{OpenArea};
-ghost use Rattle.numbers.specs.NumberLaws.{open_feed_number, open_end_number};
 
-use area::{Area, count};
+use area::{Area, Phase, count};
 use bits::Span;
+use refusals::Refusal;
 
-// Word 0 of an area whose stream has ended.
-const ENDED: u64 = 2;
-
-// 7 for an area that is short or unsound, 10 for one that has ended, and otherwise 0.
-pub fn area_number(area: &[u64]) -> u64
-    ensures { result ≡ first_refusal (open_tests area.now) }
+// That an area is long enough and sound, and that its stream has not ended.
+pub fn check_area(area: &[u64]) -> Result<(), Refusal>
+    ensures { told_number result ≡ first_refusal (open_tests area.now) }
 {
-    let number = area::sound_number(area);
-    if number != 0 {
-        return number;
+    area::check_sound(area)?;
+    if area[Area::PHASE] == u64::from(Phase::Ended) {
+        return Err(Refusal::Ended);
     }
-    if area[Area::PHASE] == ENDED {
-        return 10;
-    }
-    0
+    Ok(())
 }
 
-// 6 for a total that would pass 2^64 - 1, and otherwise 0.
-fn total_number(total: u64, bits: u64) -> u64
-    ensures { result ≡ first_refusal (total_test total bits ∷ []) }
+// That a total does not pass 2^64 - 1.
+fn check_total(total: u64, bits: u64) -> Result<(), Refusal>
+    ensures { told_number result ≡ first_refusal (total_test total bits ∷ []) }
 {
-    if u64::MAX - total < bits {
-        return 6;
+    if total.checked_add(bits).is_none() {
+        return Err(Refusal::Total);
     }
-    0
+    Ok(())
 }
 
-// Whether a log is shorter than 2 words a node.
-pub fn is_short_log(log: &[u64], nodes: u64) -> bool
-    ensures { result ≡ (log_test nodes log.now).0 }
+// That a log has 2 words a node.
+pub fn check_log(log: &[u64], nodes: u64) -> Result<(), Refusal>
+    ensures { told_number result ≡ first_refusal (log_test nodes log.now ∷ []) }
 {
-    (log.len() as u64) / 2 < nodes
-}
-
-// 8 for a log that is shorter than 2 words a node, and otherwise 0.
-fn log_number(log: &[u64], nodes: u64) -> u64
-    ensures { result ≡ first_refusal (log_test nodes log.now ∷ []) }
-{
-    if is_short_log(log, nodes) {
-        return 8;
+    if (log.len() as u64) / 2 < nodes {
+        return Err(Refusal::Log);
     }
-    0
+    Ok(())
 }
 
 // How many nodes a feed of so many bits to an open area makes: those that are then made, without those that are made already.
@@ -67,44 +54,30 @@ pub fn nodes_made(area: &[u64], bits: u64) -> u64
     count::open_count(area[Area::LIMIT], area[Area::TOTAL] + bits) - area[Area::DONE]
 }
 
-// The number that refuses a feed to an open area, and otherwise 0.
-fn open_feed_number(area: &[u64], piece: &[u8], span: Span, log: &[u64]) -> u64
-    requires { OpenArea area.now }
-    ensures { result ≡ open_feed_number area.now (spanned piece.now span) log.now }
+// What refuses a feed.
+#[tactic(auto, unfolding(calls::specs::Calls::feed_number))]
+pub fn check_feed(area: &[u64], piece: &[u8], span: Span, log: &[u64]) -> Result<(), Refusal>
+    ensures { told_number result ≡ feed_number area.now (spanned piece.now span) log.now }
 {
+    check_area(area)?;
     if refusals::refused_bits(piece, span) {
-        return 5;
+        return Err(Refusal::Bits);
     }
-    let number = total_number(area[Area::TOTAL], span.bits);
-    if number != 0 {
-        return number;
-    }
-    log_number(log, nodes_made(area, span.bits))
+    check_total(area[Area::TOTAL], span.bits)?;
+    check_log(log, nodes_made(area, span.bits))
 }
 
-// The number that refuses a feed, and otherwise 0.
-pub fn feed_number(area: &[u64], piece: &[u8], span: Span, log: &[u64]) -> u64
-    ensures { result ≡ feed_number area.now (spanned piece.now span) log.now }
+// What refuses the telling of log words.
+#[tactic(auto, unfolding(calls::specs::Calls::log_words_number))]
+pub fn check_log_words(area: &[u64], bits: u64) -> Result<(), Refusal>
+    ensures { told_number result ≡ log_words_number area.now bits }
 {
-    let number = area_number(area);
-    if number != 0 {
-        return number;
-    }
-    open_feed_number(area, piece, span, log)
+    check_area(area)?;
+    check_total(area[Area::TOTAL], bits)
 }
 
-// The number that refuses the telling of log words, and otherwise 0.
-pub fn log_words_number(area: &[u64], bits: u64) -> u64
-    ensures { result ≡ log_words_number area.now bits }
-{
-    let number = area_number(area);
-    if number != 0 {
-        return number;
-    }
-    total_number(area[Area::TOTAL], bits)
-}
-
-// How many nodes the end of an open area makes: those of the whole tree that are not made yet.
+// How many nodes the end of an open area makes: those of the whole tree that are not made yet. That an area is open is a clause here and in
+// four more functions, no struct: C lends the area itself, so that each of them would have to make the struct from it first.
 pub fn nodes_left(area: &[u64]) -> u64
     requires { OpenArea area.now }
     ensures { result ≡ length (last_nodes_of area.now) }
@@ -113,6 +86,7 @@ pub fn nodes_left(area: &[u64]) -> u64
 }
 
 // The bytes of an open area's digest.
+#[tactic(auto, unfolding(calls::specs::Area::params_of))]
 pub fn digest_bytes(area: &[u64]) -> usize
     requires { OpenArea area.now }
     ensures { result ≡ digest_bytes (params_of area.now).d }
@@ -120,47 +94,33 @@ pub fn digest_bytes(area: &[u64]) -> usize
     node::digest::digest_bytes(area[Area::D]) as usize
 }
 
-// 9 for an output that is shorter than an open area's digest, and otherwise 0.
-fn output_number(area: &[u64], digest: &[u8]) -> u64
+// That an output has room for an open area's digest.
+fn check_output(area: &[u64], digest: &[u8]) -> Result<(), Refusal>
     requires { OpenArea area.now }
-    ensures { result ≡ first_refusal (output_test (digest_bytes (params_of area.now).d) digest.now ∷ []) }
+    ensures { told_number result
+        ≡ first_refusal (output_test (digest_bytes (params_of area.now).d) digest.now ∷ []) }
 {
     if digest.len() < digest_bytes(area) {
-        return 9;
+        return Err(Refusal::Output);
     }
-    0
+    Ok(())
 }
 
-// The number that refuses an end of an open area, and otherwise 0.
-fn open_end_number(area: &[u64], digest: &[u8], log: &[u64]) -> u64
-    requires { OpenArea area.now }
-    ensures { result ≡ open_end_number area.now digest.now log.now }
+// What refuses an end.
+#[tactic(auto, unfolding(calls::specs::Calls::end_number))]
+pub fn check_end(area: &[u64], digest: &[u8], log: &[u64]) -> Result<(), Refusal>
+    ensures { told_number result ≡ end_number area.now digest.now log.now }
 {
-    let number = output_number(area, digest);
-    if number != 0 {
-        return number;
-    }
-    log_number(log, nodes_left(area))
+    check_area(area)?;
+    check_output(area, digest)?;
+    check_log(log, nodes_left(area))
 }
 
-// The number that refuses an end, and otherwise 0.
-pub fn end_number(area: &[u64], digest: &[u8], log: &[u64]) -> u64
-    ensures { result ≡ end_number area.now digest.now log.now }
+// What refuses a preview.
+#[tactic(auto, unfolding(calls::specs::Calls::preview_number))]
+pub fn check_preview(area: &[u64], digest: &[u8]) -> Result<(), Refusal>
+    ensures { told_number result ≡ preview_number area.now digest.now }
 {
-    let number = area_number(area);
-    if number != 0 {
-        return number;
-    }
-    open_end_number(area, digest, log)
-}
-
-// The number that refuses a preview, and otherwise 0.
-pub fn preview_number(area: &[u64], digest: &[u8]) -> u64
-    ensures { result ≡ preview_number area.now digest.now }
-{
-    let number = area_number(area);
-    if number != 0 {
-        return number;
-    }
-    output_number(area, digest)
+    check_area(area)?;
+    check_output(area, digest)
 }

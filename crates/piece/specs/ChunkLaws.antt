@@ -1,15 +1,16 @@
 -- Laws: of the code that feeds: a chunk of bits is copied into level 1, which is flushed first if it is full, and one chunk comes
 -- after the other.
 use Rattle.std.specs.Prelude.{◌≡◌, refl, Bool, List, [], ◌∷◌, ◌++◌, ℕ, ◌+◌, ◌-◌, ◌*◌, ◌/◌, ◌%◌, ◌^◌, ◌≤◌, ◌<◌, length, take, drop}
-use Rattle.std.proofs.Common.{sym, ap, ◌∙◌, arith, length-append, take-append-drop, take-add, drop-drop, take_all, length-take-le}
+use Rattle.std.proofs.Common.{sym, ap, ◌∙◌, arith, length-append, take-append-drop, take-add, drop-drop, take_all, length-drop, length-take-le}
 use Rattle.std.proofs.lemmas.List.Edits.{sets}
-use Rattle.std.proofs.Math.Seq.{length-sets}
+use Rattle.std.proofs.Math.Seq.{length-sets, paste}
 use Rattle.lists.specs.Below.{Below}
 use Rattle.lists.specs.BelowLaws.{below-take, below-drop}
 use Rattle.lists.specs.Take.{take-drop-take}
-use Rattle.bits.specs.Bits.{bits_of, filled}
+use Rattle.bits.specs.Bits.{bits_of, numbers, filled}
+use Rattle.bits.specs.BitsLaws.{bits_of-drop}
 use Rattle.bits.specs.FilledLaws.{length-filled}
-use Rattle.bits.specs.Piece.{Piece, piece_bits}
+use Rattle.bits.specs.Piece.{Piece, piece_of, piece_bits}
 use Rattle.bits.specs.PieceLaws.{Fits, length-piece_bits}
 use Rattle.tree.specs.Tree.{Params, block_bits, node_log}
 use Rattle.calls.specs.Area.{head_words, block_words, Long, params_of, level_words, levels_up, levels_of, with_levels, held_bits}
@@ -20,52 +21,64 @@ use Rattle.calls.proofs.FeedLaws.{feed_bits-append, with_levels-same}
 use Rattle.calls.proofs.Widths.{Wide, wide-levels, wide-bits}
 use Rattle.climb.specs.Levels.{with_level, levels_split, with_first}
 use Rattle.node.specs.declared.Keyed.{Keyed}
-use Rattle.node.specs.Words.{tree_params, Ready}
+use Rattle.node.specs.Words.{tree_params}
 use Rattle.node.specs.WordLaws.{limit_of}
+use Rattle.climb.specs.MakeLaws.{log_rest, length-log_rest}
 use Rattle.climb.specs.ReceiveLaws.{made}
 use Rattle.climb.specs.Left.{Left, left-length, left-params, left-long, left-levels, left_again, left_then}
 use Rattle.climb.specs.FlushLaws.{flushed, first_of, rest_of, flushed_two, wide-next, wide-flushed, wide-two, FlushingTwo}
-use Rattle.piece.specs.declared.Source.{Source}
 use Rattle.piece.specs.FeedSteps.{size_of, base_of, next_of, part_bits, free_of, room_of, free_place, room-full, next_one, next-two, next_some, held_le, chunk, full-chunk, full-two}
 
 -- ---- what the code needs, and what it leaves
 
--- the first bit of a piece that comes next
-abbrev pub first_bit : Source → ℕ
-first_bit source = 8 * source.byte + source.bit
-
--- bits of a piece for an area
-pub record Part (area bytes : List ℕ) (source : Source) : Type 0 where
+-- a piece whose bits are there, and an area that has its words
+pub record Part (area : List ℕ) (piece : Piece) : Type 0 where
   pub long : Long area
-  pub low : source.bit < 8
-  pub inside : first_bit source + source.count ≤ 8 * length bytes
+  pub bits : Fits piece
 
--- what they make of its levels after T bits
-abbrev pub fed_part : Keyed → ℕ → List ℕ → Source → List ℕ → Made
-fed_part keyed T bytes source area = feed_bits (tree_params keyed) T (part_bits bytes (first_bit source) source.count) (levels_of area)
-
--- a chunk: those that level 1 takes at once
-pub record Chunk (keyed : Keyed) (constants : List ℕ) (T : ℕ) (area bytes : List ℕ) (source : Source) (log : List ℕ) (at : ℕ) : Type 0 where
-  pub ready : Ready keyed constants
-  pub part : Part area bytes source
-  pub own : (params_of area).limit ≡ keyed.params.limit
-  pub some : 1 ≤ source.count
-  pub most : source.count ≤ room_of keyed.params.limit T
-  pub room : at + 2 * length (fed_part keyed T bytes source area).nodes ≤ length log
-
--- all bits of a piece, and what they make
+-- what its bits make of the levels after T bits
 abbrev pub fed_whole : Keyed → ℕ → Piece → List ℕ → Made
 fed_whole keyed T piece area = feed_bits (tree_params keyed) T (piece_bits piece) (levels_of area)
 
-pub record Whole (keyed : Keyed) (constants : List ℕ) (T : ℕ) (area : List ℕ) (piece : Piece) (log : List ℕ) : Type 0 where
-  pub ready : Ready keyed constants
+-- a chunk: bits that level 1 takes at once
+pub record Chunk (keyed : Keyed) (T : ℕ) (area : List ℕ) (piece : Piece) (log : List ℕ) (at : ℕ) : Type 0 where
+  pub part : Part area piece
+  pub own : (params_of area).limit ≡ keyed.params.limit
+  pub some : 1 ≤ piece.count
+  pub most : piece.count ≤ room_of keyed.params.limit T
+  pub room : at + 2 * length (fed_whole keyed T piece area).nodes ≤ length log
+
+-- the rest of the log is lent
+pub chunk_rest : {keyed : Keyed} {T : ℕ} {area : List ℕ} {piece : Piece} {log : List ℕ} {at : ℕ} → Chunk keyed T area piece log at → Chunk keyed T area piece (log_rest at log) 0
+chunk_rest {log = log} {at} c = record { part = c.part; own = c.own; some = c.some; most = c.most; room = omega (arith, c.room, length-log_rest at log) }
+
+-- all bits of a piece
+pub record Whole (keyed : Keyed) (T : ℕ) (area : List ℕ) (piece : Piece) (log : List ℕ) : Type 0 where
   pub long : Long area
   pub own : (params_of area).limit ≡ keyed.params.limit
   pub bits : Fits piece
   pub total : T + piece.count < 2 ^ 64
   pub room : 2 * length (fed_whole keyed T piece area).nodes ≤ length log
 
+-- ---- bytes left out, in front
+
+bits_drop : (n from : ℕ) (bytes : List ℕ) → drop from (bits_of 8 (drop n bytes)) ≡ drop (from + 8 * n) (bits_of 8 bytes)
+bits_drop n from bytes =
+    let e : n * 8 + from ≡ from + 8 * n = omega arith in
+    ap (drop from) (sym (bits_of-drop 8 n bytes)) ∙ drop-drop from (n * 8) (bits_of 8 bytes) ∙ ap (λ (x : ℕ). drop x (bits_of 8 bytes)) e
+
+filled_drop : (ws : List ℕ) (place n : ℕ) (bytes : List ℕ) (from count : ℕ) → filled ws place (drop n bytes) from count ≡ filled ws place bytes (from + 8 * n) count
+unfolding filled
+filled_drop ws place n bytes from count = ap (λ (x : List Bool). numbers 64 (length ws) (paste (bits_of 64 ws) place x count)) (bits_drop n from bytes)
+
+-- the rest of bytes that the code lends
+pub lent_rest : (n : ℕ) (bytes : List ℕ) → take (length bytes - n) (drop n bytes) ≡ drop n bytes
+lent_rest n bytes = take_all (length bytes - n) (drop n bytes) (rw (length-drop) (omega arith))
+
 -- ---- a chunk
+
+abbrev block_bytes : ℕ
+block_bytes = 512
 
 -- other words in level 1, and no node
 abbrev first_now : List ℕ → List ℕ → Made
@@ -75,25 +88,26 @@ first-left : {area area' ws : List ℕ} (log : List ℕ) (at : ℕ) → Long are
     → Left (first_now ws area) area log at area' log at
 first-left {area} {ws = ws} log at long size e = record { levels = e ∙ sym (with_first area ws long size); logged = refl; next = omega arith }
 
-module _ {area bytes : List ℕ} {source : Source} (part : Part area bytes source) (below : Below (2 ^ 64) area) (keyed : Keyed) (T : ℕ) where
-  pub chunk_free : {area' : List ℕ} {free : ℕ} (log : List ℕ) (at : ℕ) → free ≡ free_of keyed.params.limit T → source.count ≤ free
-      → area' ≡ with_level area 1 (filled (level_words area 1) (block_bits - free) bytes (first_bit source) source.count)
-      → Left (fed_part keyed T bytes source area) area log at area' log at
+module _ {area : List ℕ} {piece : Piece} (part : Part area piece) (below : Below (2 ^ 64) area) (keyed : Keyed) (T : ℕ) where
+  pub chunk_free : {area' : List ℕ} {free : ℕ} (log : List ℕ) (at : ℕ) → free ≡ free_of keyed.params.limit T → piece.count ≤ free
+      → area' ≡ with_level area 1 (filled (level_words area 1) (block_bits - free) piece.bytes piece.start piece.count)
+      → Left (fed_whole keyed T piece area) area log at area' log at
   chunk_free log at f g ea =
       let P : Params = tree_params keyed in
       let limit : ℕ = keyed.params.limit in
       let same : P.limit ≡ limit = limit_of keyed in
-      let from : ℕ = first_bit source in
-      let count : ℕ = source.count in
+      let bytes : List ℕ = piece.bytes in
+      let from : ℕ = piece.start in
+      let count : ℕ = piece.count in
       let ws : List ℕ = level_words area 1 in
       let place : ℕ = base_of limit + held_bits (size_of limit) T in
       let size : length ws ≡ block_words = length-level_words area 1 part.long (omega arith) in
       let fits : held_bits (size_of P.limit) T + count ≤ size_of P.limit = rw same (omega (arith, held_le limit T)) in
       let e = ap (λ (x : ℕ). with_level area 1 (filled ws (block_bits - x) bytes from count)) f
       ∙ ap (λ (x : ℕ). with_level area 1 (filled ws x bytes from count)) (free_place limit T) in
-      let c : fed_part keyed T bytes source area ≡ first_now (filled ws place bytes from count) area =
+      let c : fed_whole keyed T piece area ≡ first_now (filled ws place bytes from count) area =
       ap (feed_bits P T (part_bits bytes from count)) (levels_split area)
-      ∙ chunk P count T from ws bytes (levels_up area 2) (below-take block_words (below-drop head_words below)) size fits part.inside
+      ∙ chunk P count T from ws bytes (levels_up area 2) (below-take block_words (below-drop head_words below)) size fits part.bits.inside
       ∙ rw same in
       rw c (first-left log at part.long (length-filled ws place bytes from count ∙ size) (ea ∙ e))
 
@@ -120,16 +134,19 @@ after_filled {F} {area = area} {log} {at} {area₁} bytes place from count long 
       next = omega (arith, l.next, ap (λ (x : Made). at + 2 * length x.nodes) is);
     }
 
-module _ {keyed : Keyed} {constants : List ℕ} {T : ℕ} {area bytes : List ℕ} {source : Source} {log : List ℕ} {at : ℕ}
-    (c : Chunk keyed constants T area bytes source log at) (full : free_of keyed.params.limit T ≤ 0) where
+module _ {keyed : Keyed} {T : ℕ} {area : List ℕ} {piece : Piece} {log : List ℕ} {at : ℕ}
+    (c : Chunk keyed T area piece log at) (full : free_of keyed.params.limit T ≤ 0) where
   abbrev Q : Params
   Q = tree_params keyed
 
+  abbrev bytes : List ℕ
+  bytes = piece.bytes
+
   abbrev from : ℕ
-  from = first_bit source
+  from = piece.start
 
   abbrev count : ℕ
-  count = source.count
+  count = piece.count
 
   same : Q.limit ≡ keyed.params.limit
   same = limit_of keyed
@@ -145,12 +162,12 @@ module _ {keyed : Keyed} {constants : List ℕ} {T : ℕ} {area bytes : List ℕ
 
   -- one node is made
   module _ (less : count ≤ block_bits) where
-    full_is : fed_part keyed T bytes source area
+    full_is : fed_whole keyed T piece area
         ≡ (let F : Made = flushed_now keyed T area in made (filled (first_of F.levels) (base_of keyed.params.limit) bytes from count ∷ rest_of F.levels) F.nodes)
     full_is =
         ap (feed_bits Q T (part_bits bytes from count)) (levels_split area)
         ∙ full-chunk Q count T from (level_words area 1) bytes (levels_up area 2) (rw same held) c.some
-        (rw same (next_one keyed.params.limit fits less)) c.part.inside
+        (rw same (next_one keyed.params.limit fits less)) c.part.bits.inside
         ∙ rw (same, levels_split area)
 
     pub chunk-room : at + 2 * length (flushed_now keyed T area).nodes ≤ length log
@@ -165,7 +182,7 @@ module _ {keyed : Keyed} {constants : List ℕ} {T : ℕ} {area bytes : List ℕ
 
       pub chunk-full : {area' : List ℕ} {place : ℕ} → place ≡ base_of keyed.params.limit
           → area' ≡ with_level area₁ 1 (filled (level_words area₁ 1) place bytes from count)
-          → Left (fed_part keyed T bytes source area) area log at area' log₁ at₁
+          → Left (fed_whole keyed T piece area) area log at area' log₁ at₁
       chunk-full ep ef =
           after_filled bytes (base_of keyed.params.limit) from count c.part.long wide-one l full_is
           (ef ∙ ap (λ (x : ℕ). with_level area₁ 1 (filled (level_words area₁ 1) x bytes from count)) ep)
@@ -198,13 +215,13 @@ module _ {keyed : Keyed} {constants : List ℕ} {T : ℕ} {area bytes : List ℕ
     abbrev both : Made
     both = flushed_two Q keyed.params.limit T first (second ∷ levels_up area 2)
 
-    two_is : fed_part keyed T bytes source area
+    two_is : fed_whole keyed T piece area
         ≡ made (filled (first_of both.levels) 0 bytes (from + block_bits) (count - block_bits) ∷ rest_of both.levels) both.nodes
     two_is =
         let e : count ≡ block_bits + (count - block_bits) = omega arith in
         ap (λ (n : ℕ). feed_bits Q T (part_bits bytes from n) (levels_of area)) e
         ∙ ap (feed_bits Q T (part_bits bytes from (block_bits + (count - block_bits)))) (levels_split area)
-        ∙ full-two Q (count - block_bits) T from first bytes (levels_up area 2) first-size (rw same parallel.0) held_two (omega arith) two-most (omega (arith, c.part.inside))
+        ∙ full-two Q (count - block_bits) T from first bytes (levels_up area 2) first-size (rw same parallel.0) held_two (omega arith) two-most (omega (arith, c.part.bits.inside))
         ∙ rw same refl
 
     -- the first is copied, and the second fills level 1
@@ -221,9 +238,9 @@ module _ {keyed : Keyed} {constants : List ℕ} {T : ℕ} {area bytes : List ℕ
       both_now : flushed_two Q keyed.params.limit T copy (levels_of area₁) ≡ both
       both_now = rw (h, left-levels c.part.long wide-stood stood) refl
 
-      pub two_flushing : FlushingTwo keyed constants T copy area₁ log at
+      pub two_flushing : FlushingTwo keyed T copy area₁ log at
       two_flushing = record {
-        parallel = record { ready = c.ready; long = stood-long; own = rw (left-params c.part.long wide-stood stood) c.own; some = parallel.0 };
+        parallel = record { long = stood-long; own = rw (left-params c.part.long wide-stood stood) c.own; some = parallel.0 };
         full = held_two;
         words = ap length h ∙ first-size;
         room = rw both_now (omega (arith, c.room, ap (λ (x : Made). at + 2 * length x.nodes) two_is));
@@ -240,28 +257,34 @@ module _ {keyed : Keyed} {constants : List ℕ} {T : ℕ} {area bytes : List ℕ
         pub both_long : Long area₂
         both_long = left-long c.part.long wide_both left_both
 
-        pub chunk-two : {area' : List ℕ} {next : ℕ} → next ≡ from + block_bits
-            → area' ≡ with_level area₂ 1 (filled (level_words area₂ 1) 0 bytes next (count - block_bits))
-            → Left (fed_part keyed T bytes source area) area log at area' log₂ at₂
-        chunk-two ep ef =
+        -- the bits after the first block stand in the bytes after its bytes
+        pub chunk-two : {area' rest : List ℕ} → rest ≡ drop block_bytes bytes
+            → area' ≡ with_level area₂ 1 (filled (level_words area₂ 1) 0 rest from (count - block_bits))
+            → Left (fed_whole keyed T piece area) area log at area' log₂ at₂
+        chunk-two er ef =
             after_filled bytes 0 (from + block_bits) (count - block_bits) c.part.long wide_both left_both two_is
-            (ef ∙ ap (λ (x : ℕ). with_level area₂ 1 (filled (level_words area₂ 1) 0 bytes x (count - block_bits))) ep)
+            (ef ∙ ap (with_level area₂ 1) (ap (λ (x : List ℕ). filled (level_words area₂ 1) 0 x from (count - block_bits)) er ∙ filled_drop (level_words area₂ 1) 0 block_bytes bytes from (count - block_bits)))
 
 -- ---- one chunk after the other
 
--- c bits of a piece after so many of its bits, without the sum of start and count, which may pass 2^64
-abbrev pub source_after : Piece → ℕ → ℕ → Source
-source_after piece done c = record { byte = done / 8 + (piece.start + done % 8) / 8; bit = (piece.start + done % 8) % 8; count = c }
+-- c bits of a piece after so many of its bits: its bytes from one on and a bit of that byte, without the sum of start and count, which
+-- may pass 2^64
+abbrev pub byte_after : Piece → ℕ → ℕ
+byte_after piece done = done / 8 + (piece.start + done % 8) / 8
 
-place_after : (piece : Piece) (done c : ℕ) → first_bit (source_after piece done c) ≡ piece.start + done
-place_after piece done c = omega arith
+abbrev pub bit_after : Piece → ℕ → ℕ
+bit_after piece done = (piece.start + done % 8) % 8
 
--- the next bits of a piece, by byte and bit
-next-bits : (piece : Piece) (done c : ℕ) → done + c ≤ piece.count
-    → part_bits piece.bytes (first_bit (source_after piece done c)) c ≡ take c (drop done (piece_bits piece))
+abbrev pub piece_after : Piece → ℕ → ℕ → Piece
+piece_after piece done c = piece_of (drop (byte_after piece done) piece.bytes) (bit_after piece done) c
+
+place_after : (piece : Piece) (done : ℕ) → bit_after piece done + 8 * byte_after piece done ≡ piece.start + done
+place_after piece done = omega arith
+
+next-bits : (piece : Piece) (done c : ℕ) → done + c ≤ piece.count → piece_bits (piece_after piece done c) ≡ take c (drop done (piece_bits piece))
 next-bits piece done c h =
     let B : List Bool = bits_of 8 piece.bytes in
-    ap (λ (x : ℕ). take c (drop x B)) (place_after piece done c)
+    ap (take c) (bits_drop (byte_after piece done) (bit_after piece done) piece.bytes ∙ ap (λ (x : ℕ). drop x B) (place_after piece done))
     ∙ ap (take c) (sym (drop-drop done piece.start B))
     ∙ sym (take-drop-take piece.count done c (drop piece.start B) h)
 
@@ -270,6 +293,7 @@ pub record Feeding (P : Params) (T : ℕ) (Y : List Bool) (area₀ log₀ area l
   pub within : done ≤ length Y
   pub area-length : length area ≡ length area₀
   pub log-length : length log ≡ length log₀
+  pub log-within : at ≤ length log
   pub left : Left (feed_bits P T (take done Y) (levels_of area₀)) area₀ log₀ 0 area log at
 
 pub feeding_none : (P : Params) (T : ℕ) (Y : List Bool) (area log : List ℕ) → Feeding P T Y area log area log 0 0
@@ -279,6 +303,7 @@ feeding_none P T Y area log =
       within = omega arith;
       area-length = refl;
       log-length = refl;
+      log-within = omega arith;
       left = record {
         levels = sym (ap (λ (x : Made). with_levels area x.levels) e ∙ with_levels-same area);
         logged = sym (ap (λ (x : Made). sets log 0 (node_log x.nodes)) e);
@@ -286,8 +311,8 @@ feeding_none P T Y area log =
       };
     }
 
-module _ {keyed : Keyed} {constants : List ℕ} {T : ℕ} {piece : Piece} {area₀ log₀ area log : List ℕ} {at done : ℕ}
-    (w : Whole keyed constants T area₀ piece log₀) (f : Feeding (tree_params keyed) T (piece_bits piece) area₀ log₀ area log at done) where
+module _ {keyed : Keyed} {T : ℕ} {piece : Piece} {area₀ log₀ area log : List ℕ} {at done : ℕ}
+    (w : Whole keyed T area₀ piece log₀) (f : Feeding (tree_params keyed) T (piece_bits piece) area₀ log₀ area log at done) where
   abbrev P : Params
   P = tree_params keyed
 
@@ -311,7 +336,7 @@ module _ {keyed : Keyed} {constants : List ℕ} {T : ℕ} {piece : Piece} {area�
 
   -- the next c bits
   abbrev coming : ℕ → Made
-  coming c = fed_part keyed (T + done) piece.bytes (source_after piece done c) area
+  coming c = fed_whole keyed (T + done) (piece_after piece done c) area
 
   next_is : (c : ℕ) → done + c ≤ piece.count → feed_bits P T (take (done + c) Y) (levels_of area₀) ≡ made (coming c).levels (before.nodes ++ (coming c).nodes)
   next_is c h =
@@ -320,33 +345,38 @@ module _ {keyed : Keyed} {constants : List ℕ} {T : ℕ} {piece : Piece} {area�
       ∙ feed_bits-append P T (take done Y) (take c (drop done Y)) (levels_of area₀)
       ∙ rw (length-take-le done Y f.within, back, next-bits piece done c h)
 
-  pub next-chunk : {c : ℕ} → done + c ≤ piece.count → 1 ≤ c → c ≤ room_of keyed.params.limit (T + done)
-      → Chunk keyed constants (T + done) area piece.bytes (source_after piece done c) log at
-  next-chunk {c} h some most =
+  -- the log has room for their nodes
+  pub next_room : (c : ℕ) → done + c ≤ piece.count → at + 2 * length (coming c).nodes ≤ length log
+  next_room c h =
       let A : Made = feed_bits P T (take (done + c) Y) (levels_of area₀) in
       let whole = ap (λ (x : List Bool). length (feed_bits P T x (levels_of area₀)).nodes) (sym (take-append-drop (done + c) Y))
       ∙ ap (λ (x : Made). length x.nodes) (feed_bits-append P T (take (done + c) Y) (drop (done + c) Y) (levels_of area₀))
       ∙ length-append A.nodes (feed_bits P (T + length (take (done + c) Y)) (drop (done + c) Y) A.levels).nodes in
       let some-nodes = ap (λ (x : Made). length x.nodes) (next_is c h) ∙ length-append before.nodes (coming c).nodes in
+      omega (arith, w.room, whole, some-nodes, f.left.next, f.log-length)
+
+  pub next-chunk : {c : ℕ} → done + c ≤ piece.count → 1 ≤ c → c ≤ room_of keyed.params.limit (T + done)
+      → Chunk keyed (T + done) area (piece_after piece done c) log at
+  next-chunk {c} h some most =
       record {
-        ready = w.ready;
-        part = record { long = longer; low = omega arith; inside = omega (arith, w.bits.inside, place_after piece done c) };
+        part = record { long = longer; bits = record { low = omega arith; inside = rw length-drop (omega (arith, w.bits.inside, place_after piece done, some)) } };
         own = rw kept w.own;
         some = some;
         most = most;
-        room = omega (arith, w.room, whole, some-nodes, f.left.next, f.log-length);
+        room = next_room c h;
       }
 
   pub feeding_more : (c : ℕ) {area' log' : List ℕ} {at' : ℕ} → done + c ≤ piece.count → Left (coming c) area log at area' log' at'
       → Feeding P T Y area₀ log₀ area' log' at' (done + c)
   feeding_more c h F =
       let C : Made = coming c in
-      let s = wide-bits P (params_of area).limit (T + done) (part_bits piece.bytes (first_bit (source_after piece done c)) c) (levels_of area) (wide-levels area longer) in
+      let s = wide-bits P (params_of area).limit (T + done) (piece_bits (piece_after piece done c)) (levels_of area) (wide-levels area longer) in
       let ll = ap length F.logged ∙ length-sets log at (node_log C.nodes) in
       record {
         within = omega (arith, size);
         area-length = left-length longer s F ∙ f.area-length;
         log-length = ll ∙ f.log-length;
+        log-within = omega (arith, next_room c h, F.next, ll);
         left = rw (next_is c h) (left_then w.long wide f.left F);
       }
 

@@ -33,10 +33,6 @@ pub size_pos : (limit : ℕ) → (0 < size_of limit) × (size_of limit ≤ block
 size_pos zero = (omega arith, omega arith)
 size_pos (suc n) = (omega arith, omega arith)
 
-pub size_none : (limit : ℕ) → limit < 1 → size_of limit ≡ sequential_bits
-size_none zero h = refl
-size_none (suc n) h = absurd (omega arith)
-
 pub size_some : (limit : ℕ) → 1 ≤ limit → size_of limit ≡ block_bits
 size_some zero h = absurd (omega arith)
 size_some (suc n) h = refl
@@ -221,10 +217,6 @@ room_by limit T false e = rw (room-full limit T (ltb-false 0 (free_of limit T) e
 pub room_some : (limit T : ℕ) → 1 ≤ room_of limit T
 room_some limit T = room_by limit T (ltb 0 (free_of limit T)) refl
 
-pub next_none : (limit : ℕ) → limit < 1 → next_of limit ≡ sequential_bits
-next_none zero h = refl
-next_none (suc n) h = absurd (omega arith)
-
 pub next_some : (limit : ℕ) → 1 ≤ limit → next_of limit ≡ 2 * block_bits
 next_some zero h = absurd (omega arith)
 next_some (suc n) h = refl
@@ -242,11 +234,7 @@ next-two (suc n) h g = (omega arith, refl)
 pub base_place : {size count : ℕ} → size ≤ block_bits → count ≤ size → (block_bits - size) + count ≤ block_bits
 base_place h g = omega arith
 
--- bits of a piece: done of them are fed, count come next, all in all
-pub below_left : {done all count : ℕ} → done < all → count ≤ all - done → done + count ≤ all
-below_left h g = omega arith
-
-pub some_less : {room all done count : ℕ} → min room (all - done) ≤ count → 1 ≤ room → done < all → 1 ≤ count
+pub some_less : {room all done count : ℕ} → count ≡ min room (all - done) → 1 ≤ room → done < all → 1 ≤ count
 some_less h g f = omega arith
 
 pub less_left : {done all count : ℕ} → done < all → 1 ≤ count → all - (done + count) < all - done

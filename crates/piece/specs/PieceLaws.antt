@@ -4,9 +4,9 @@ use Rattle.std.proofs.Common.{ap, ◌∙◌, arith, length-set}
 use Rattle.bits.specs.Piece.{Piece, piece_bits}
 use Rattle.bits.specs.PieceLaws.{length-piece_bits}
 use Rattle.tree.specs.Tree.{block_bits, logged}
-use Rattle.calls.specs.Area.{Long, total_of, compressions_of, params_of, levels_of, with_levels, done_blocks, open_count}
+use Rattle.calls.specs.Area.{Long, total_of, compressions_of, params_of, with_levels, done_blocks, open_count}
 use Rattle.calls.proofs.AreaLaws.{limit-word}
-use Rattle.calls.specs.Calls.{Made, feed_bits, fed_bits, fed_area}
+use Rattle.calls.specs.Calls.{Made, fed_bits, fed_area}
 use Rattle.calls.proofs.CallLaws.{FeedPassed}
 use Rattle.calls.proofs.WriteLaws.{set-with_levels}
 use Rattle.area.specs.CountLaws.{open_above_le}
@@ -15,9 +15,7 @@ use Rattle.climb.specs.ReceiveLaws.{log-written}
 use Rattle.climb.specs.Left.{Left}
 use Rattle.climb.specs.OpenArea.{OpenArea, keyed_of, open_done}
 use Rattle.calls.proofs.Accepts.{fed-count}
-use Rattle.piece.specs.declared.Source.{Source}
-use Rattle.piece.specs.FeedSteps.{part_bits}
-use Rattle.piece.specs.ChunkLaws.{Part, fed_part, fed_whole}
+use Rattle.piece.specs.ChunkLaws.{Part, fed_whole}
 
 -- the nodes that n bits make, and those made before
 pub made-count : {area : List ℕ} → OpenArea area → (n : ℕ) (Y : List Bool) → length Y ≡ n → total_of area + n < 2 ^ 64
@@ -34,20 +32,9 @@ pub fed-read : (area : List ℕ) (piece : Piece)
 unfolding fed_bits tree_params params_of
 fed-read area piece = refl
 
--- and so are its bits from byte 0 and its start bit on
-abbrev pub whole_source : Piece → Source
-whole_source piece = record { byte = 0; bit = piece.start; count = piece.count }
-
-pub fed-start : (area : List ℕ) (piece : Piece)
-    → fed_part (keyed_of area) (total_of area) piece.bytes (whole_source piece) area ≡ fed_bits area (piece_bits piece)
-fed-start area piece =
-    let e : 8 * 0 + piece.start ≡ piece.start = omega arith in
-    ap (λ (x : ℕ). feed_bits (tree_params (keyed_of area)) (total_of area) (part_bits piece.bytes x piece.count) (levels_of area)) e
-    ∙ fed-read area piece
-
--- the whole piece, from its start bit on
-pub whole_part : {area log : List ℕ} {piece : Piece} → FeedPassed area piece log → Part area piece.bytes (whole_source piece)
-whole_part p = record { long = p.opened.long; low = omega (arith, p.bits.low); inside = omega (arith, p.bits.inside) }
+-- its bits are there
+pub whole_part : {area log : List ℕ} {piece : Piece} → FeedPassed area piece log → Part area piece
+whole_part p = record { long = p.opened.long; bits = p.bits }
 
 -- ---- what it leaves
 

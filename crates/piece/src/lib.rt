@@ -10,17 +10,9 @@ ghost use Rattle.piece.specs.PieceLaws.{FedPiece};
 
 use area::Area;
 use bits::Span;
-use node::Block;
+use node::{Block, Compressor};
 
 mod chunk; // chunk.rt: the bits of a piece, as many at a time as level 1 takes
-
-// Which bits of a piece come next: so many, from a bit of a byte on.
-#[derive(Clone, Copy)]
-pub struct Source {
-    pub byte: usize,
-    pub bit: usize,
-    pub count: u64,
-}
 
 // Feeds a piece that nodes are made of, and answers how many words of the log were written. K and the round constants are
 // copied once.
@@ -29,10 +21,10 @@ fn feed_nodes(area: &mut [u64], piece: &[u8], span: Span, log: &mut [u64]) -> us
     ensures { Left (fed_bits area.old (piece_bits (spanned piece.now span)))
         area.old log.old 0 area.new log.new result }
 {
-    let keyed = climb::keyed_of(area);
     let total = area[Area::TOTAL];
     let first = constants::first_part();
-    chunk::feed_bits(area, keyed, &first, total, piece, span, log)
+    let with = Compressor::new(climb::keyed_of(area), &first);
+    chunk::feed_bits(area, &with, total, piece, span, log)
 }
 
 // Feeds a piece to the levels, and answers how many words of the log were written. Bits that level 1 takes before a node is made
@@ -46,12 +38,7 @@ fn feed_levels(area: &mut [u64], piece: &[u8], span: Span, log: &mut [u64]) -> u
     if free < span.bits {
         return feed_nodes(area, piece, span, log);
     }
-    let source = Source {
-        byte: 0,
-        bit: span.start as usize,
-        count: span.bits,
-    };
-    chunk::fill_level(area, Block::BITS - free, piece, source);
+    chunk::fill_level(area, Block::BITS - free, piece, span);
     0
 }
 

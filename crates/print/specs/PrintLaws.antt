@@ -1,12 +1,13 @@
 -- Laws: what the stores of each line leave in a text.
-use Rattle.std.specs.Prelude.{◌≡◌, refl, ℕ, zero, suc, ◌+◌, ◌*◌, ◌≤◌, ◌<◌, length, take, drop, get_or, set}
-use Rattle.std.proofs.Common.{sym, ap, ◌∙◌, add-one, arith, length-append, length-take, length-take-le, take-suc, get_or-drop}
+use Rattle.std.specs.Prelude.{◌≡◌, refl, ℕ, zero, suc, ◌+◌, ◌-◌, ◌*◌, ◌/◌, ◌≤◌, length, take, drop, get_or, set}
+use Rattle.std.proofs.Common.{sym, ap, ◌∙◌, add-one, arith, length-append, length-take, length-take-le, get_or-drop, drop-cons}
 use mathlib.Core.List.{List, [], ◌∷◌, ◌++◌, append_assoc, append-nil}
-use Rattle.lists.specs.Flatten.{flatten-append, map-append}
-use Rattle.lists.specs.Part.{put}
-use Rattle.lists.specs.PartLaws.{next-part, put-length, put-put, put_one}
+use borrow.Rule.Slice.PartMut.{mid_of, put_mid}
+use Rattle.std.proofs.lemmas.List.{set_at}
+use Rattle.std.proofs.Math.Seq.{append_snoc, drop-length}
 use Rattle.digits.specs.Digits.{hex_digits}
-use Rattle.digits.proofs.DigitLaws.{length_digits}
+use Rattle.digits.proofs.DigitLaws.{length_digits, length-digits_each}
+use Rattle.digits.proofs.Loops.{lent-next, lent_digits}
 use Rattle.print.specs.Print.{node_line, line_bytes, node_lines, byte_digits, digest_line}
 
 -- ---- the line of a node
@@ -15,22 +16,24 @@ length-node_line : (u v : ℕ) → length (node_line u v) ≡ line_bytes
 unfolding node_line
 length-node_line u v = simp (length-append, length_digits) (omega arith)
 
-pub node-stored : (at u v : ℕ) (text : List ℕ) → at + line_bytes ≤ length text
-    → set (put (at + 17) 16 (set (put at 16 text (hex_digits 16 u)) (at + 16) 32) (hex_digits 16 v)) (at + 33) 10 ≡ put at line_bytes text (node_line u v)
+-- in a part of the line's length
+pub node-stored : (u v : ℕ) (p du dv : List ℕ) → length p ≡ line_bytes → du ≡ hex_digits (length (take 16 p)) u
+    → dv ≡ hex_digits (length (mid_of 17 16 (set (du ++ drop 16 p) 16 32))) v
+    → set (put_mid 17 16 (set (du ++ drop 16 p) 16 32) dv) 33 10 ≡ node_line u v
 unfolding node_line
-node-stored at u v text h =
-    let du : List ℕ = hex_digits 16 u in
-    let dv : List ℕ = hex_digits 16 v in
-    let n0 : length du ≡ 16 = length_digits 16 u in
-    let n1 : length (du ++ (32 ∷ [])) ≡ 17 = simp (length-append, length_digits) in
-    let n2 : length ((du ++ (32 ∷ [])) ++ dv) ≡ 33 = simp (length-append, length_digits) in
-    let s1 : set (put at 16 text du) (at + 16) 32 ≡ put at 17 text (du ++ (32 ∷ [])) =
-    put_one (at + 16) 32 (put at 16 text du) (rw (put-length at 16 text du (omega arith) n0) (omega arith)) ∙ put-put at 16 1 text du (32 ∷ []) (omega arith) n0 in
-    let s2 = put-put at 17 16 text (du ++ (32 ∷ [])) dv (omega arith) n1 in
-    let t : List ℕ = put at 33 text ((du ++ (32 ∷ [])) ++ dv) in
-    let s3 = put_one (at + 33) 10 t (rw (put-length at 33 text ((du ++ (32 ∷ [])) ++ dv) (omega arith) n2) (omega arith))
-    ∙ put-put at 33 1 text ((du ++ (32 ∷ [])) ++ dv) (10 ∷ []) (omega arith) n2 in
-    rw (s1, s2) (s3 ∙ simp append_assoc)
+node-stored u v p du dv h d e =
+    let n0 : length du ≡ 16 = ap length d ∙ length_digits (length (take 16 p)) u ∙ length-take-le 16 p (omega arith) in
+    let n1 : length (du ++ (32 ∷ [])) ≡ 17 = simp length-append (omega arith) in
+    let s1 : set (du ++ drop 16 p) 16 32 ≡ (du ++ (32 ∷ [])) ++ drop 17 p =
+    ap (λ (l : List ℕ). set (du ++ l) 16 32) (drop-cons p 16 0 (omega arith)) ∙ set_at du (get_or p 16 0) (drop 17 p) 32 16 n0
+    ∙ sym (append_snoc du 32 (drop 17 p)) in
+    let s2 = lent_digits 17 33 (du ++ (32 ∷ [])) (set (du ++ drop 16 p) 16 32) p dv n1 s1 (omega arith) (omega arith) 16 v refl e in
+    let f : du ≡ hex_digits 16 u = d ∙ ap (λ (k : ℕ). hex_digits k u) (length-take-le 16 p (omega arith)) in
+    let P : List ℕ = (du ++ (32 ∷ [])) ++ hex_digits 16 v in
+    let n2 : length P ≡ 33 = simp (length-append, length_digits) (omega arith) in
+    let s3 : drop 33 p ≡ get_or p 33 0 ∷ [] = drop-cons p 33 0 (omega arith) ∙ ap (λ (l : List ℕ). get_or p 33 0 ∷ l) (ap (λ (k : ℕ). drop k p) (sym h) ∙ drop-length p) in
+    ap (λ (l : List ℕ). set l 33 10) (s2 ∙ ap (λ (l : List ℕ). P ++ l) s3) ∙ set_at P (get_or p 33 0) [] 10 33 n2
+    ∙ ap (λ (l : List ℕ). l ++ (10 ∷ [])) (append_snoc du 32 (hex_digits 16 v) ∙ ap (λ (l : List ℕ). l ++ (32 ∷ hex_digits 16 v)) f)
 
 -- ---- the lines of nodes
 
@@ -50,52 +53,45 @@ unfolding node_lines
 length-node_lines zero log = refl
 length-node_lines (suc n) log = rw (length-append, length-node_line, length-node_lines n (drop 2 log)) (omega arith)
 
-pub nodes_none : (text log : List ℕ) → text ≡ put 0 (line_bytes * 0) text (node_lines 0 log)
-unfolding node_lines
-nodes_none text log = refl
-
-pub nodes-step : (i : ℕ) (text log : List ℕ) {t t' : List ℕ} → t ≡ put 0 (line_bytes * i) text (node_lines i log)
-    → t' ≡ put (line_bytes * i) line_bytes t (node_line (get_or log (2 * i) 0) (get_or log (2 * i + 1) 0))
-    → t' ≡ put 0 (line_bytes * (i + 1)) text (node_lines (i + 1) log)
-nodes-step i text log e e' =
+pub nodes-step : (i : ℕ) (log text l ys : List ℕ) → line_bytes * (i + 1) ≤ length text → l ≡ node_lines i log ++ drop (line_bytes * i) text
+    → ys ≡ node_line (get_or log (2 * i) 0) (get_or log (2 * i + 1) 0)
+    → put_mid (line_bytes * i) (line_bytes * i + line_bytes - line_bytes * i) l ys ≡ node_lines (i + 1) log ++ drop (line_bytes * (i + 1)) text
+nodes-step i log text l ys h is e =
     let a : line_bytes * i + line_bytes ≡ line_bytes * (i + 1) = omega arith in
     let b : i + 1 ≡ suc i = add-one i in
-    let m : List ℕ = node_line (get_or log (2 * i) 0) (get_or log (2 * i + 1) 0) in
-    e' ∙ ap (λ (l : List ℕ). put (line_bytes * i) line_bytes l m) e ∙ next-part (line_bytes * i) line_bytes (node_lines i log) text m (length-node_lines i log)
-    ∙ rw (a, b, node_lines-more i log)
+    let n : length ys ≡ line_bytes * i + line_bytes - line_bytes * i = rw (e, length-node_line) (omega arith) in
+    lent-next (line_bytes * i) (line_bytes * i + line_bytes) (node_lines i log) l text ys (length-node_lines i log) is (omega arith) (omega arith) n
+    ∙ rw (a, e, b, node_lines-more i log)
+
+-- of the front of a log, which ends behind its nodes
+pub nodes-front : (n : ℕ) (log : List ℕ) → 2 * n ≤ length log → node_lines (length (take (2 * n) log) / 2) (take (2 * n) log) ≡ node_lines n log
+unfolding node_lines
+nodes-front n log h =
+    let e : length (take (2 * n) log) / 2 ≡ n = rw (length-take-le (2 * n) log h) (omega arith) in
+    rw e (front n log h)
+  where
+    front : (n : ℕ) (log : List ℕ) → 2 * n ≤ length log → node_lines n (take (2 * n) log) ≡ node_lines n log
+    front zero log h = refl
+    front (suc n) [] h = absurd (omega arith)
+    front (suc n) (u ∷ []) h = absurd (omega arith)
+    front (suc n) (u ∷ v ∷ log) h =
+        let e : 2 * suc n ≡ suc (suc (2 * n)) = omega arith in
+        rw e (ap (λ (l : List ℕ). node_line u v ++ l) (front n log (omega arith)))
 
 -- ---- the line of a digest
 
-length-byte_digits : (bytes : List ℕ) → length (byte_digits bytes) ≡ 2 * length bytes
-unfolding mathlib.Core.List.flatten
-length-byte_digits [] = refl
-length-byte_digits (b ∷ bytes) = rw (length-append, length_digits 2 b, length-byte_digits bytes) (omega arith)
-
-byte_digits-more : (bytes : List ℕ) (i : ℕ) → i < length bytes → byte_digits (take (i + 1) bytes) ≡ byte_digits (take i bytes) ++ hex_digits 2 (get_or bytes i 0)
-unfolding mathlib.Core.List.flatten
-byte_digits-more bytes i h = rw (add-one, take-suc bytes i 0 h, map-append, flatten-append, append-nil)
-
-pub bytes-step : (i : ℕ) (text bytes : List ℕ) {x : ℕ} {t t' : List ℕ} → i < length bytes → x ≡ get_or bytes i 0
-    → t ≡ put 0 (2 * i) text (byte_digits (take i bytes)) → t' ≡ put (2 * i) 2 t (hex_digits 2 x)
-    → t' ≡ put 0 (2 * (i + 1)) text (byte_digits (take (i + 1) bytes))
-bytes-step i text bytes {t = t} h d e e' =
-    let a : 2 * i + 2 ≡ 2 * (i + 1) = omega arith in
-    let n : length (byte_digits (take i bytes)) ≡ 2 * i = rw (length-byte_digits (take i bytes), length-take-le i bytes (omega arith)) in
-    e' ∙ ap (λ (y : ℕ). put (2 * i) 2 t (hex_digits 2 y)) d ∙ ap (λ (l : List ℕ). put (2 * i) 2 l (hex_digits 2 (get_or bytes i 0))) e
-    ∙ next-part (2 * i) 2 (byte_digits (take i bytes)) text (hex_digits 2 (get_or bytes i 0)) n ∙ rw (a, byte_digits-more bytes i h)
-
-pub length-digest_line : (n : ℕ) (bytes : List ℕ) → n ≤ length bytes → length (digest_line (take n bytes)) ≡ 2 * n + 1
+pub length-digest_line : (digest : List ℕ) → length (digest_line digest) ≡ 2 * length digest + 1
 unfolding digest_line
-length-digest_line n bytes h = rw (length-append, length-byte_digits (take n bytes), length-take-le n bytes h)
+length-digest_line digest = rw (length-append, length-digits_each 2 digest)
 
 pub digest_line-most : (n : ℕ) (bytes : List ℕ) → length (digest_line (take n bytes)) ≤ 2 * n + 1
-unfolding digest_line
-digest_line-most n bytes = rw (length-append, length-byte_digits (take n bytes), length-take) (omega arith)
+digest_line-most n bytes = rw (length-digest_line (take n bytes), length-take) (omega arith)
 
-pub digest-stored : (n : ℕ) (text bytes : List ℕ) → n ≤ length bytes → 2 * n < length text
-    → set (put 0 (2 * n) text (byte_digits (take n bytes))) (2 * n) 10 ≡ put 0 (2 * n + 1) text (digest_line (take n bytes))
+pub digest-stored : (text digest l : List ℕ) → 2 * length digest + 1 ≤ length text → l ≡ byte_digits digest ++ drop (2 * length digest) text
+    → set l (2 * length digest) 10 ≡ digest_line digest ++ drop (2 * length digest + 1) text
 unfolding digest_line
-digest-stored n text bytes h g =
-    let D : List ℕ = byte_digits (take n bytes) in
-    let m : length D ≡ 2 * n = rw (length-byte_digits (take n bytes), length-take-le n bytes h) in
-    put_one (2 * n) 10 (put 0 (2 * n) text D) (rw (put-length 0 (2 * n) text D (omega arith) m) g) ∙ next-part (2 * n) 1 D text (10 ∷ []) m
+digest-stored text digest l h is =
+    let n : ℕ = 2 * length digest in
+    rw (is, drop-cons text n 0 (omega arith), add-one)
+    (set_at (byte_digits digest) (get_or text n 0) (drop (suc n) text) 10 n (length-digits_each 2 digest)
+    ∙ sym (append_snoc (byte_digits digest) 10 (drop (suc n) text)))

@@ -1,22 +1,19 @@
 -- Laws: what a call puts fits into what was lent for it: no text is longer than `text_bytes`.
-use Rattle.std.specs.Prelude.{◌≡◌, refl, Bool, true, false, List, ℕ, zero, suc, ◌≤◌, ltb, length, take, get_or}
+use Rattle.std.specs.Prelude.{Option, Some, None, ◌≡◌, refl, Bool, true, false, List, ℕ, zero, suc, ◌≤◌, ltb, length, take, get_or}
 use Rattle.std.proofs.Common.{sym, ap, arith, length-append, length-drop}
-use Rattle.std.proofs.Math.Option.{Option, none, some}
 use Rattle.tree.specs.Tree.{Params, digest_bytes}
 use Rattle.refusals.specs.Refusals.{answer_of}
 use Rattle.calls.specs.Area.{params_of}
 use Rattle.calls.specs.Calls.{Opened, AreaLog, Finished, open_of, feed_of, end_of}
 use Rattle.line.specs.Fold.{fold_of, reading_of}
-use Rattle.line.specs.declared.Reading.{Reading}
-use Rattle.line.specs.declared.Reading.TheVariants.{Unreadable, Readable}
+use Rattle.line.specs.declared.FirstLine.{FirstLine}
 use Rattle.line.specs.declared.State.{State}
 use Rattle.print.specs.PrintLaws.{length-node_lines, digest_line-most}
 use Rattle.program.specs.Printed.{Cut, first_line, refused_line, refused_number, rounds_for}
-use Rattle.program.specs.Steps.{all_bits, empty_log, empty_digest, Step, fed_step, opened_step, line_step, scanned, step_in, take_of, Last, ended_step, last_in, last_of}
+use Rattle.program.specs.Steps.{all_bits, empty_log, empty_digest, Step, fed_step, opened_step, line_step, scanned, take_of, Last, ended_step, last_of}
 use Rattle.program.specs.StepLaws.{zero-log, feed-room, end-room, end-size}
 use Rattle.program.specs.Taken.{text_bytes, Put, put_of, Took, took_of, TookLast, took_last_of}
-use Rattle.program.specs.declared.Phase.{Phase}
-use Rattle.program.specs.declared.Phase.TheVariants.{Line as InLine, Message as InMessage, Refused as IsRefused}
+use Rattle.program.specs.declared.Program.TheVariants.{Line as InLine, Message as InMessage, Refused as IsRefused}
 use Rattle.program.specs.declared.Program.{Program}
 
 abbrev Fits : List ℕ → Type 0
@@ -39,38 +36,35 @@ number_fits n = by (ltb n 10) refl
     by true e = rw e (omega arith)
     by false e = rw e (omega arith)
 
-fed-fits : (line : State) (area bytes : List ℕ) → Fits (fed_step line area bytes).text
+fed-fits : (area bytes : List ℕ) → Fits (fed_step area bytes).text
 unfolding fed_step
-fed-fits line area bytes =
+fed-fits area bytes =
     let f : AreaLog = feed_of area (all_bits bytes) empty_log in
     let e = ap (feed_of area (all_bits bytes)) (sym zero-log) in
     answer_all (λ (s : Step). Fits s.text) f.number _ _
-    (λ z. let r = feed-room line area bytes e z in rw (length-node_lines f.count f.log) (omega arith))
+    (λ z. let r = feed-room area bytes e z in rw (length-node_lines f.count f.log) (omega arith))
     (λ k. number_fits k)
 
-opened-fits : (line : State) (area : List ℕ) (P : Params) (rest : List ℕ) → Fits (opened_step line area P rest).text
+opened-fits : (area : List ℕ) (P : Params) (rest : List ℕ) → Fits (opened_step area P rest).text
 unfolding opened_step
-opened-fits line area P rest =
+opened-fits area P rest =
     let o : Opened = open_of area P in
-    answer_all (λ (s : Step). Fits s.text) o.number _ _ (λ z. fed-fits line o.area rest) (λ k. number_fits k)
+    answer_all (λ (s : Step). Fits s.text) o.number _ _ (λ z. fed-fits o.area rest) (λ k. number_fits k)
 
-read_fits : (r : Reading) (line : State) (area rest : List ℕ) → Fits (line_step r line area rest).text
-read_fits Unreadable line area rest = line-fits
-read_fits (Readable d limit rounds n) line area rest =
-    opened-fits line area (record { key = take n line.key.bytes; d = d; limit = limit; rounds = rounds_for rounds d n }) rest
+read_fits : (o : Option FirstLine) (line : State) (area rest : List ℕ) → Fits (line_step o line area rest).text
+read_fits None line area rest = line-fits
+read_fits (Some l) line area rest =
+    opened-fits area (record { key = take l.key_bytes line.key.bytes; d = l.d; limit = l.limit; rounds = rounds_for l.rounds l.d l.key_bytes }) rest
 
 scanned-fits : (o : Option Cut) (line : State) (area bytes : List ℕ) → Fits (scanned o line area bytes).text
-scanned-fits none line area bytes = omega arith
-scanned-fits (some c) line area bytes = read_fits (reading_of (fold_of line c.line)) (fold_of line c.line) area c.rest
+scanned-fits None line area bytes = omega arith
+scanned-fits (Some c) line area bytes = read_fits (reading_of (fold_of line c.line)) (fold_of line c.line) area c.rest
 
 take-fits : (p : Program) (area bytes : List ℕ) → length (take_of p area bytes).text ≤ text_bytes
 unfolding take_of
-take-fits p area bytes = by p.phase
-  where
-    by : (phase : Phase) → Fits (step_in phase p.line area bytes).text
-    by InLine = scanned-fits (first_line bytes) p.line area bytes
-    by InMessage = fed-fits p.line area bytes
-    by IsRefused = omega arith
+take-fits (InLine line) area bytes = scanned-fits (first_line bytes) line area bytes
+take-fits InMessage area bytes = fed-fits area bytes
+take-fits IsRefused area bytes = omega arith
 
 ended-fits : (area : List ℕ) → Fits (ended_step area).text
 unfolding ended_step params_of
@@ -86,12 +80,9 @@ ended-fits area =
 
 last_fits : (p : Program) (area : List ℕ) → length (last_of p area).text ≤ text_bytes
 unfolding last_of
-last_fits p area = by p.phase
-  where
-    by : (phase : Phase) → Fits (last_in phase area).text
-    by InLine = line-fits
-    by InMessage = ended-fits area
-    by IsRefused = omega arith
+last_fits (InLine line) area = line-fits
+last_fits InMessage area = ended-fits area
+last_fits IsRefused area = omega arith
 
 -- so the bytes that were lent keep their length
 pub take-length : {program : Program} {count : ℕ} {area' out' : List ℕ} (p : Program) (area bytes out : List ℕ)

@@ -1,8 +1,7 @@
 -- Examples: inputs and what is printed for them, computed from the definition; the rounds that first lines have; and what is printed by
 -- the calls, with an input cut in two ways.
-use Rattle.std.specs.Prelude.{◌≡◌, refl, ℕ, replicate}
+use Rattle.std.specs.Prelude.{Option, Some, None, ◌≡◌, refl, ℕ, replicate}
 use mathlib.Core.List.{List, [], ◌∷◌, ◌++◌, map}
-use Rattle.std.proofs.Math.Option.{Option, none, some}
 use Prim.Native.Char.{code}
 use Prim.Native.String as string
 use Prim.Native.String.{String}
@@ -99,10 +98,10 @@ lines =
     ∷ []
 
 abbrev rounds_said : Option Line → Option ℕ
-rounds_said none = none
-rounds_said (some l) = some (params_for l).rounds
+rounds_said None = None
+rounds_said (Some l) = Some (params_for l).rounds
 
-pub line-rounds : map (λ (t : String × ℕ). rounds_said (line_of (bytes t.0))) lines ≡ map (λ (t : String × ℕ). some t.1) lines
+pub line-rounds : map (λ (t : String × ℕ). rounds_said (line_of (bytes t.0))) lines ≡ map (λ (t : String × ℕ). Some t.1) lines
 unfolding line_of
 line-rounds = refl
 

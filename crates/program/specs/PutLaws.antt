@@ -55,12 +55,13 @@ module _ {out' : List ℕ} (number : ℕ) (out : List ℕ) (h : text_bytes ≤ l
 
 -- ---- the lines of nodes, and of a digest behind them
 
-pub nodes-put : {out' : List ℕ} (n : ℕ) (log out : List ℕ) → out' ≡ node_lines n log ++ drop (line_bytes * n) out
-    → record { count = line_bytes * n; out = out' } ≡ put_of (node_lines n log) out
-nodes-put n log out e = put_is (node_lines n log) out (sym (length-node_lines n log)) e
+pub nodes-put : {out' : List ℕ} (log out : List ℕ) → (let n : ℕ = length log / 2 in out' ≡ node_lines n log ++ drop (line_bytes * n) out
+    → record { count = line_bytes * n; out = out' } ≡ put_of (node_lines n log) out)
+nodes-put log out e = put_is (node_lines (length log / 2) log) out (sym (length-node_lines (length log / 2) log)) e
 
-pub nodes-count : {count : ℕ} {out' : List ℕ} (n : ℕ) (log out : List ℕ) → record { count = count; out = out' } ≡ put_of (node_lines n log) out → count ≡ line_bytes * n
-nodes-count n log out e = put_count (node_lines n log) out e ∙ length-node_lines n log
+pub nodes-count : {count : ℕ} {out' : List ℕ} (log out : List ℕ) → record { count = count; out = out' } ≡ put_of (node_lines (length log / 2) log) out
+    → count ≡ line_bytes * (length log / 2)
+nodes-count log out e = put_count (node_lines (length log / 2) log) out e ∙ length-node_lines (length log / 2) log
 
 -- a text behind another
 behind : (L D ys out : List ℕ) (m k : ℕ) → k + length L ≡ length out → ys ≡ D ++ drop m (take k (drop (length L) (L ++ drop (length L) out)))
@@ -73,16 +74,17 @@ behind L D ys out m k h e =
     let y : ys ≡ D ++ drop (length L + m) out = e ∙ ap (λ (l : List ℕ). D ++ drop m l) t ∙ rw (drop-drop m (length L) out) in
     next-part (length L) k L out ys refl ∙ rw (z, y, append-nil, append_assoc)
 
-pub digest-put : {at : ℕ} {out₁ ys : List ℕ} (count n : ℕ) (log digest out : List ℕ) → record { count = at; out = out₁ } ≡ put_of (node_lines count log) out
-    → n ≤ length digest → line_bytes * count + (2 * n + 1) ≤ length out → ys ≡ digest_line (take n digest) ++ drop (2 * n + 1) (mid_of at (length out₁ - at) out₁)
-    → record { count = at + 2 * n + 1; out = put_mid at (length out₁ - at) out₁ ys } ≡ put_of (node_lines count log ++ digest_line (take n digest)) out
-digest-put {at} {out₁} {ys} count n log digest out e h g y =
-    let L : List ℕ = node_lines count log in
-    let D : List ℕ = digest_line (take n digest) in
-    let d : length D ≡ 2 * n + 1 = length-digest_line n digest h in
+pub digest-put : {at : ℕ} {out₁ ys : List ℕ} (log digest out : List ℕ) → record { count = at; out = out₁ } ≡ put_of (node_lines (length log / 2) log) out
+    → line_bytes * (length log / 2) + (2 * length digest + 1) ≤ length out → ys ≡ digest_line digest ++ drop (2 * length digest + 1) (mid_of at (length out₁ - at) out₁)
+    → record { count = at + 2 * length digest + 1; out = put_mid at (length out₁ - at) out₁ ys } ≡ put_of (node_lines (length log / 2) log ++ digest_line digest) out
+digest-put {at} {out₁} {ys} log digest out e g y =
+    let n : ℕ = length digest in
+    let L : List ℕ = node_lines (length log / 2) log in
+    let D : List ℕ = digest_line digest in
+    let d : length D ≡ 2 * n + 1 = length-digest_line digest in
     let a : at ≡ length L = put_count L out e in
     let o : out₁ ≡ L ++ drop (length L) out = put-out L out e in
-    let l : length L ≡ line_bytes * count = length-node_lines count log in
+    let l : length L ≡ line_bytes * (length log / 2) = length-node_lines (length log / 2) log in
     let s : length (L ++ drop (length L) out) ≡ length out = simp (length-append, length-drop) (omega arith) in
     let k : ℕ = length out - length L in
     let f : put_mid at (length out₁ - at) out₁ ys ≡ put (length L) k (L ++ drop (length L) out) ys = rw (a, o, s) in

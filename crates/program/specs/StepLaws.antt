@@ -1,13 +1,12 @@
 -- Laws: each branch of a step, by what the stream's call answers: the numbers that refuse it are below 100, the log has room for its nodes,
 -- and what is put into the text makes up what the step gives.
-use Rattle.std.specs.Prelude.{◌≡◌, Bool, true, false, ◌&&◌, ℕ, ◌*◌, ◌≤◌, ◌<◌, ltb, length, take, get_or, replicate}
+use Rattle.std.specs.Prelude.{Some, None, ◌≡◌, Bool, true, false, ◌&&◌, ℕ, ◌*◌, ◌/◌, ◌≤◌, ◌<◌, ltb, length, take, get_or, replicate}
 use Rattle.std.proofs.Math.Path.{refl, sym, ap}
 use Rattle.std.proofs.Common.{◌∙◌, arith, ltb-true}
 use mathlib.Core.List.{List, [], ◌∷◌, ◌++◌}
 use Rattle.lists.specs.And.{and_parts}
 use Rattle.tree.specs.Tree.{Params, digest_bytes}
 use Rattle.bits.specs.Piece.{piece_bits}
-use Rattle.refusals.specs.declared.Params as declared
 use Rattle.refusals.specs.Refusals.{first_refusal, param_tests}
 use Rattle.refusals.specs.RefusalLaws.{answer_refused}
 use Rattle.calls.specs.Area.{total_of, params_of}
@@ -15,19 +14,15 @@ use Rattle.calls.specs.Calls.{Opened, AreaLog, Finished, open_number, open_of, f
 use Rattle.calls.specs.Vocabulary.{enough_words}
 use Rattle.calls.proofs.CallLaws.{open_number_lem, open_refused, feed-number, feed-accepted, feed-refused, feed-passed, end-number, end-accepted, end_refused, end-passed}
 use Rattle.line.specs.Fold.{reading_of}
-use Rattle.line.specs.declared.Reading.TheVariants.{Unreadable, Readable}
-use Rattle.line.specs.declared.Rounds.{Rounds}
+use Rattle.line.specs.declared.FirstLine.{FirstLine}
 use Rattle.line.specs.declared.State.{State}
 use Rattle.print.specs.Print.{node_lines, digest_line}
+use Rattle.print.specs.PrintLaws.{nodes-front}
 use Rattle.program.specs.Printed.{first_line, refused_line, refused_number, rounds_for}
 use Rattle.program.specs.Steps.{all_bits, empty_log, empty_digest, Step, refuse, fed_step, opened_step, line_step, scanned, take_of, Last, ended_step, last_of}
 use Rattle.program.specs.Taken.{Put, put_of, took_by, took_of, took_last_by, took_last_of}
-use Rattle.program.specs.declared.Phase.TheVariants.{Line as InLine, Message as InMessage, Refused as IsRefused}
+use Rattle.program.specs.declared.Program.TheVariants.{Line as InLine, Message as InMessage, Refused as IsRefused}
 use Rattle.program.specs.declared.Program.{Program}
-
--- the parameters that the code opens a stream with: the key is the first of the bytes that a line keeps
-abbrev pub named : List ℕ → declared.Params → Params
-named kept params = record { key = take params.keylen kept; d = params.d; limit = params.limit; rounds = params.rounds }
 
 -- ---- refusals
 
@@ -47,14 +42,14 @@ unfolding enough_words
 zero-log = refl
 
 -- what was refused leaves the area, and the text is the refusal's
-refused-took : {area' : List ℕ} {t : Put} (line : State) (area out text : List ℕ) → area' ≡ area → t ≡ put_of text out →
-    took_by (record { phase = IsRefused; line = line }) area' t ≡ took_of (refuse line area text) out
+refused-took : {area' : List ℕ} {t : Put} (area out text : List ℕ) → area' ≡ area → t ≡ put_of text out →
+    took_by IsRefused area' t ≡ took_of (refuse area text) out
 unfolding took_of
-refused-took line area out text a p = λ i. took_by (record { phase = IsRefused; line = line }) (a i) (p i)
+refused-took area out text a p = λ i. took_by IsRefused (a i) (p i)
 
 -- ---- feed
 
-module _ {number count : ℕ} {area' log' : List ℕ} (line : State) (area bytes : List ℕ)
+module _ {number count : ℕ} {area' log' : List ℕ} (area bytes : List ℕ)
     (e : record { number = number; count = count; area = area'; log = log' } ≡ feed_of area (all_bits bytes) (replicate 566 0)) where
   feed_is : number ≡ feed_number area (all_bits bytes) (replicate 566 0)
   feed_is = ap (λ (o : AreaLog). o.number) e ∙ feed-number area (all_bits bytes) (replicate 566 0)
@@ -72,28 +67,30 @@ module _ {number count : ℕ} {area' log' : List ℕ} (line : State) (area bytes
   is_fed : record { number = number; count = count; area = area'; log = log' } ≡ feed_of area (all_bits bytes) empty_log
   is_fed = e ∙ ap (feed_of area (all_bits bytes)) zero-log
 
-  feed-step-refused : (number ≡ 0 → ⊥) → refuse line area (refused_number number) ≡ fed_step line area bytes
+  feed-step-refused : (number ≡ 0 → ⊥) → refuse area (refused_number number) ≡ fed_step area bytes
   unfolding fed_step
-  feed-step-refused h = rw (← is_fed) (answer_refused number number _ (λ k. refuse line area (refused_number k)) refl h)
+  feed-step-refused h = rw (← is_fed) (answer_refused number number _ (λ k. refuse area (refused_number k)) refl h)
 
   pub feed_refuses : {t : Put} (out : List ℕ) → (number ≡ 0 → ⊥) → t ≡ put_of (refused_number number) out →
-      took_by (record { phase = IsRefused; line = line }) area' t ≡ took_of (fed_step line area bytes) out
+      took_by IsRefused area' t ≡ took_of (fed_step area bytes) out
   feed_refuses out h p =
       let a = ap (λ (o : AreaLog). o.area) (e ∙ sym (feed-refused area (all_bits bytes) (replicate 566 0) number feed_is h)) in
-      refused-took line area out (refused_number number) a p ∙ ap (λ (s : Step). took_of s out) (feed-step-refused h)
+      refused-took area out (refused_number number) a p ∙ ap (λ (s : Step). took_of s out) (feed-step-refused h)
 
-  feed-step : number ≡ 0 → record { program = record { phase = InMessage; line = line }; area = area'; text = node_lines count log' } ≡ fed_step line area bytes
+  feed-step : number ≡ 0 → record { program = InMessage; area = area'; text = node_lines count log' } ≡ fed_step area bytes
   unfolding fed_step
   feed-step z = rw (← is_fed, z)
 
-  pub feed-gives : {t : Put} (out : List ℕ) → number ≡ 0 → t ≡ put_of (node_lines count log') out →
-      took_by (record { phase = InMessage; line = line }) area' t ≡ took_of (fed_step line area bytes) out
+  pub feed-gives : {t : Put} (out : List ℕ) → number ≡ 0 → length log' ≡ 566 → t ≡ put_of (node_lines (length (take (2 * count) log') / 2) (take (2 * count) log')) out →
+      took_by InMessage area' t ≡ took_of (fed_step area bytes) out
   unfolding took_of
-  feed-gives out z p = ap (took_by (record { phase = InMessage; line = line }) area') p ∙ ap (λ (s : Step). took_of s out) (feed-step z)
+  feed-gives out z n p =
+      let r = feed-room z in
+      ap (took_by InMessage area') (p ∙ ap (λ (l : List ℕ). put_of l out) (nodes-front count log' (omega arith))) ∙ ap (λ (s : Step). took_of s out) (feed-step z)
 
 -- ---- open
 
-module _ {number count : ℕ} {area' : List ℕ} (line : State) (area : List ℕ) (P : Params) (rest : List ℕ)
+module _ {number count : ℕ} {area' : List ℕ} (area : List ℕ) (P : Params) (rest : List ℕ)
     (e : record { number = number; count = count; area = area' } ≡ open_of area P) where
   open_is : number ≡ open_number area P
   open_is = ap (λ (o : Opened). o.number) e ∙ open_number_lem area P
@@ -102,17 +99,17 @@ module _ {number count : ℕ} {area' : List ℕ} (line : State) (area : List ℕ
   unfolding open_number
   open_small = rw open_is (small_refusal (param_tests P ++ (short_test area P.limit ∷ [])) refl)
 
-  open_step-refused : (number ≡ 0 → ⊥) → refuse line area (refused_number number) ≡ opened_step line area P rest
+  open_step-refused : (number ≡ 0 → ⊥) → refuse area (refused_number number) ≡ opened_step area P rest
   unfolding opened_step
-  open_step-refused h = rw (← e) (answer_refused number number _ (λ k. refuse line area (refused_number k)) refl h)
+  open_step-refused h = rw (← e) (answer_refused number number _ (λ k. refuse area (refused_number k)) refl h)
 
   pub open_refuses : {t : Put} (out : List ℕ) → (number ≡ 0 → ⊥) → t ≡ put_of (refused_number number) out →
-      took_by (record { phase = IsRefused; line = line }) area' t ≡ took_of (opened_step line area P rest) out
+      took_by IsRefused area' t ≡ took_of (opened_step area P rest) out
   open_refuses out h p =
       let a = ap (λ (o : Opened). o.area) (e ∙ sym (open_refused area P number open_is h)) in
-      refused-took line area out (refused_number number) a p ∙ ap (λ (s : Step). took_of s out) (open_step-refused h)
+      refused-took area out (refused_number number) a p ∙ ap (λ (s : Step). took_of s out) (open_step-refused h)
 
-  pub open_gives : number ≡ 0 → fed_step line area' rest ≡ opened_step line area P rest
+  pub open_gives : number ≡ 0 → fed_step area' rest ≡ opened_step area P rest
   unfolding opened_step
   open_gives z = rw (← e, z)
 
@@ -155,56 +152,56 @@ module _ {number count : ℕ} {area' digest' log' : List ℕ} (area : List ℕ)
   unfolding ended_step params_of
   end_step z = rw (← is_ended, z)
 
-  pub end-gives : {t : Put} {n : ℕ} (out : List ℕ) → number ≡ 0 → n ≡ digest_bytes (get_or area 3 0) →
-      t ≡ put_of (node_lines count log' ++ digest_line (take n digest')) out → took_last_by area' t ≡ took_last_of (ended_step area) out
+  pub end-gives : {t : Put} {n : ℕ} (out : List ℕ) → number ≡ 0 → length log' ≡ 566 → n ≡ digest_bytes (get_or area 3 0) →
+      t ≡ put_of (node_lines (length (take (2 * count) log') / 2) (take (2 * count) log') ++ digest_line (take n digest')) out → took_last_by area' t ≡ took_last_of (ended_step area) out
   unfolding took_last_of
-  end-gives out z e p =
-      ap (took_last_by area') (p ∙ ap (λ (n : ℕ). put_of (node_lines count log' ++ digest_line (take n digest')) out) e)
+  end-gives {n = n} out z h e p =
+      let r = end-room z in
+      let f = nodes-front count log' (omega arith) in
+      ap (took_last_by area') (p ∙ ap (λ (l : List ℕ). put_of (l ++ digest_line (take n digest')) out) f ∙ ap (λ (n : ℕ). put_of (node_lines count log' ++ digest_line (take n digest')) out) e)
       ∙ ap (λ (l : Last). took_last_of l out) (end_step z)
 
--- ---- by the phase
+-- ---- by where the program has come to
 
-module _ (p : Program) (area bytes : List ℕ) where
-  pub take_in_line : p.phase ≡ InLine → scanned (first_line bytes) p.line area bytes ≡ take_of p area bytes
+module _ (area bytes : List ℕ) where
+  pub take_in_line : (line : State) → scanned (first_line bytes) line area bytes ≡ take_of (InLine line) area bytes
   unfolding take_of
-  take_in_line h = rw h
+  take_in_line line = refl
 
-  pub take_in_message : p.phase ≡ InMessage → fed_step p.line area bytes ≡ take_of p area bytes
+  pub take_in_message : fed_step area bytes ≡ take_of InMessage area bytes
   unfolding take_of
-  take_in_message h = rw h
+  take_in_message = refl
 
-  pub take-refused : (out : List ℕ) → p.phase ≡ IsRefused → record { program = p; count = 0; area = area; out = out } ≡ took_of (take_of p area bytes) out
+  pub take-refused : (out : List ℕ) → record { program = IsRefused; count = 0; area = area; out = out } ≡ took_of (take_of IsRefused area bytes) out
   unfolding take_of took_of put_of
-  take-refused out h =
-      let s : refuse p.line area [] ≡ take_of p area bytes = rw h in
-      let t : record { program = p; count = 0; area = area; out = out } ≡ took_of (refuse p.line area []) out =
-      (λ i. record { program = record { phase = h i; line = p.line }; count = 0; area = area; out = out }) in
-      t ∙ ap (λ (x : Step). took_of x out) s
+  take-refused out = refl
 
-module _ (p : Program) (area out : List ℕ) where
-  pub last_in_line : {t : Put} → p.phase ≡ InLine → t ≡ put_of refused_line out → took_last_by area t ≡ took_last_of (last_of p area) out
+module _ (area out : List ℕ) where
+  pub last_in_line : {t : Put} (line : State) → t ≡ put_of refused_line out → took_last_by area t ≡ took_last_of (last_of (InLine line) area) out
   unfolding last_of took_last_of
-  last_in_line h e = rw h (ap (took_last_by area) e)
+  last_in_line line e = ap (took_last_by area) e
 
-  pub last_in_message : p.phase ≡ InMessage → took_last_of (ended_step area) out ≡ took_last_of (last_of p area) out
+  pub last_in_message : took_last_of (ended_step area) out ≡ took_last_of (last_of InMessage area) out
   unfolding last_of
-  last_in_message h = rw h
+  last_in_message = refl
 
-  pub last-refused : p.phase ≡ IsRefused → record { count = 0; area = area; out = out } ≡ took_last_of (last_of p area) out
+  pub last-refused : record { count = 0; area = area; out = out } ≡ took_last_of (last_of IsRefused area) out
   unfolding last_of took_last_of put_of
-  last-refused h = rw h
+  last-refused = refl
 
 -- a line that cannot be read
-pub line_refuses : {t : Put} (line : State) (area rest out : List ℕ) → reading_of line ≡ Unreadable → t ≡ put_of refused_line out →
-    took_by (record { phase = IsRefused; line = line }) area t ≡ took_of (line_step (reading_of line) line area rest) out
+pub line_refuses : {t : Put} (line : State) (area rest out : List ℕ) → reading_of line ≡ None → t ≡ put_of refused_line out →
+    took_by IsRefused area t ≡ took_of (line_step (reading_of line) line area rest) out
 unfolding took_of
-line_refuses line area rest out h e = rw h (ap (took_by (record { phase = IsRefused; line = line }) area) e)
+line_refuses line area rest out h e = rw h (ap (took_by IsRefused area) e)
 
--- one that is readable
-pub line-opens : {r : ℕ} (line : State) (area rest out : List ℕ) (d limit : ℕ) (rounds : Rounds) (n : ℕ) → reading_of line ≡ Readable d limit rounds n → r ≡ rounds_for rounds d n →
-    took_of (opened_step line area (record { key = take n line.key.bytes; d = d; limit = limit; rounds = r }) rest) out ≡ took_of (line_step (reading_of line) line area rest) out
-line-opens line area rest out d limit rounds n h e =
-    rw (h, e)
+-- what a line that can be read opens a stream with, with these rounds
+abbrev pub said_params : FirstLine → List ℕ → ℕ → Params
+said_params l kept rounds = record { key = take l.key_bytes kept; d = l.d; limit = l.limit; rounds = rounds }
+
+pub line-opens : {r : ℕ} (line : State) (area rest out : List ℕ) (l : FirstLine) → Some l ≡ reading_of line → r ≡ rounds_for l.rounds l.d l.key_bytes →
+    took_of (opened_step area (said_params l line.key.bytes r) rest) out ≡ took_of (line_step (reading_of line) line area rest) out
+line-opens line area rest out l h e = rw (← h, e)
 
 -- one that goes on
 pub no_text : (p : Program) (area out : List ℕ) → record { program = p; count = 0; area = area; out = out } ≡ took_of (record { program = p; area = area; text = [] }) out

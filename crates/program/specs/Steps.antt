@@ -1,7 +1,6 @@
 -- Definitions: what each call of the program gives: the state that the next call gets, the area, and the bytes to write. That the bytes of
 -- all calls, joined, are `printed` of the input is the theorem of `Whole`.
-use Rattle.std.specs.Prelude.{List, [], ◌∷◌, ◌++◌, ℕ, ◌*◌, length, take, replicate}
-use Rattle.std.proofs.Math.Option.{Option, none, some}
+use Rattle.std.specs.Prelude.{Option, Some, None, List, [], ◌∷◌, ◌++◌, ℕ, ◌*◌, length, take, replicate}
 use Rattle.bits.specs.Piece.{Piece, piece_of}
 use Rattle.tree.specs.Tree.{Params, digest_bytes}
 use Rattle.refusals.specs.Refusals.{answer_of}
@@ -9,13 +8,11 @@ use Rattle.calls.specs.Area.{params_of}
 use Rattle.calls.specs.Calls.{Opened, AreaLog, Finished, open_of, feed_of, end_of}
 use Rattle.calls.specs.Vocabulary.{enough_words}
 use Rattle.line.specs.Fold.{start, fold_of, reading_of}
+use Rattle.line.specs.declared.FirstLine.{FirstLine}
 use Rattle.line.specs.declared.State.{State}
-use Rattle.line.specs.declared.Reading.{Reading}
-use Rattle.line.specs.declared.Reading.TheVariants.{Unreadable, Readable}
 use Rattle.print.specs.Print.{node_lines, digest_line}
 use Rattle.program.specs.Printed.{Cut, first_line, refused_line, refused_number, rounds_for}
-use Rattle.program.specs.declared.Phase.{Phase}
-use Rattle.program.specs.declared.Phase.TheVariants.{Line as InLine, Message as InMessage, Refused as IsRefused}
+use Rattle.program.specs.declared.Program.TheVariants.{Line as InLine, Message as InMessage, Refused as IsRefused}
 use Rattle.program.specs.declared.Program.{Program}
 
 -- the most bytes of a read
@@ -37,46 +34,43 @@ pub record Step : Type 0 where
   pub text : List ℕ
 
 -- a refusal is printed, and nothing more
-abbrev pub refuse : State → List ℕ → List ℕ → Step
-refuse line area text = record { program = record { phase = IsRefused; line = line }; area = area; text = text }
+abbrev pub refuse : List ℕ → List ℕ → Step
+refuse area text = record { program = IsRefused; area = area; text = text }
 
 -- "the message in whole bytes": all bits of bytes that were read
 abbrev pub all_bits : List ℕ → Piece
 all_bits bytes = piece_of bytes 0 (8 * length bytes)
 
 -- bytes of the message: fed, and a line for each node made
-unfoldable pub fed_step : State → List ℕ → List ℕ → Step
-fed_step line area bytes =
+unfoldable pub fed_step : List ℕ → List ℕ → Step
+fed_step area bytes =
     let f : AreaLog = feed_of area (all_bits bytes) empty_log in
     answer_of f.number
-    record { program = record { phase = InMessage; line = line }; area = f.area; text = node_lines f.count f.log }
-    (λ k. refuse line area (refused_number k))
+    record { program = InMessage; area = f.area; text = node_lines f.count f.log }
+    (λ k. refuse area (refused_number k))
 
 -- the stream that a line opens takes what was read behind the line
-unfoldable pub opened_step : State → List ℕ → Params → List ℕ → Step
-opened_step line area P rest =
+unfoldable pub opened_step : List ℕ → Params → List ℕ → Step
+opened_step area P rest =
     let o : Opened = open_of area P in
-    answer_of o.number (fed_step line o.area rest) (λ k. refuse line area (refused_number k))
+    answer_of o.number (fed_step o.area rest) (λ k. refuse area (refused_number k))
 
 -- a line that has ended, by what it says; the key is the first n bytes that its state keeps
-abbrev pub line_step : Reading → State → List ℕ → List ℕ → Step
-line_step Unreadable line area rest = refuse line area refused_line
-line_step (Readable d limit rounds n) line area rest =
-    opened_step line area (record { key = take n line.key.bytes; d = d; limit = limit; rounds = rounds_for rounds d n }) rest
+abbrev pub line_step : Option FirstLine → State → List ℕ → List ℕ → Step
+line_step None line area rest = refuse area refused_line
+line_step (Some l) line area rest =
+    opened_step area (record { key = take l.key_bytes line.key.bytes; d = l.d; limit = l.limit; rounds = rounds_for l.rounds l.d l.key_bytes }) rest
 
 -- bytes of the first line, to their end or to byte 10
 abbrev pub scanned : Option Cut → State → List ℕ → List ℕ → Step
-scanned none line area bytes = record { program = record { phase = InLine; line = fold_of line bytes }; area = area; text = [] }
-scanned (some c) line area bytes = let ended : State = fold_of line c.line in line_step (reading_of ended) ended area c.rest
+scanned None line area bytes = record { program = InLine (fold_of line bytes); area = area; text = [] }
+scanned (Some c) line area bytes = let ended : State = fold_of line c.line in line_step (reading_of ended) ended area c.rest
 
 -- the next bytes that were read
-abbrev pub step_in : Phase → State → List ℕ → List ℕ → Step
-step_in InLine line area bytes = scanned (first_line bytes) line area bytes
-step_in InMessage line area bytes = fed_step line area bytes
-step_in IsRefused line area bytes = refuse line area []
-
 unfoldable pub take_of : Program → List ℕ → List ℕ → Step
-take_of p area bytes = step_in p.phase p.line area bytes
+take_of (InLine line) area bytes = scanned (first_line bytes) line area bytes
+take_of InMessage area bytes = fed_step area bytes
+take_of IsRefused area bytes = refuse area []
 
 -- what the end of the input gives
 pub record Last : Type 0 where
@@ -92,17 +86,14 @@ ended_step area =
     (λ k. record { area = area; text = refused_number k })
 
 -- without byte 10 there was no first line
-abbrev pub last_in : Phase → List ℕ → Last
-last_in InLine area = record { area = area; text = refused_line }
-last_in InMessage area = ended_step area
-last_in IsRefused area = record { area = area; text = [] }
-
 unfoldable pub last_of : Program → List ℕ → Last
-last_of p area = last_in p.phase area
+last_of (InLine line) area = record { area = area; text = refused_line }
+last_of InMessage area = ended_step area
+last_of IsRefused area = record { area = area; text = [] }
 
 -- where the program begins
 abbrev pub start_of : Program
-start_of = record { phase = InLine; line = start }
+start_of = InLine start
 
 -- all that is written for a list of reads, from a state and an area on: the text of each read, then that of the end of the input
 unfoldable pub written : Program → List ℕ → List (List ℕ) → List ℕ

@@ -1,13 +1,8 @@
 -- Definitions: what a call of the program leaves in what it was lent: the text of its step at the front of the bytes to write.
-use Rattle.std.specs.Prelude.{List, ◌++◌, true, false, ℕ, ◌+◌, ◌*◌, length, drop}
-use Rattle.std.proofs.Math.Option.{Option, none, some}
-use Rattle.line.specs.Fold.{fold_of}
-use Rattle.line.specs.declared.State.{State}
+use Rattle.std.specs.Prelude.{List, ◌++◌, ℕ, ◌+◌, ◌*◌, length, drop}
 use Rattle.print.specs.Print.{line_bytes}
-use Rattle.program.specs.Printed.{Cut, first_line}
 use Rattle.program.specs.Steps.{Step, Last}
 use Rattle.program.specs.declared.Program.{Program}
-use Rattle.program.specs.declared.first.Scanned.{Scanned}
 
 -- room for every text: the lines of as many nodes as a log of 566 words has, and the line of a digest of 64 bytes
 abbrev pub text_bytes : ℕ
@@ -45,13 +40,3 @@ took_last_by area t = record { count = t.count; area = area; out = t.out }
 
 unfoldable pub took_last_of : Last → List ℕ → TookLast
 took_last_of l out = took_last_by l.area (put_of l.text out)
-
--- ---- the first line
-
--- the line up to byte 10, if that comes, and the place behind it
-abbrev pub scanned_by : Option Cut → State → List ℕ → Scanned
-scanned_by none line bytes = record { ended = false; line = fold_of line bytes; next = length bytes }
-scanned_by (some c) line bytes = record { ended = true; line = fold_of line c.line; next = length c.line + 1 }
-
-unfoldable pub scan_of : State → List ℕ → Scanned
-scan_of line bytes = scanned_by (first_line bytes) line bytes

@@ -1,7 +1,6 @@
 -- Definitions: the reads and the area for which the theorem of `Whole` holds.
 use mathlib.Core.List.{List, [], map, flatten}
-use Rattle.std.proofs.Math.Option.{Option, none, some}
-use Rattle.std.specs.Prelude.{ℕ, suc, ◌*◌, ◌^◌, ◌≤◌, ◌<◌, length}
+use Rattle.std.specs.Prelude.{Option, Some, None, ℕ, suc, ◌*◌, ◌^◌, ◌≤◌, ◌<◌, length}
 use Rattle.lists.specs.Below.{Below}
 use Rattle.tree.specs.Tree.{most_limit}
 use Rattle.calls.specs.Area.{area_words}
@@ -10,8 +9,8 @@ use Rattle.program.specs.Steps.{buffer_bytes}
 
 -- the message of an input: the bytes behind its first line, and none if it has no such line
 abbrev pub message_in : Option Cut → List ℕ
-message_in none = []
-message_in (some c) = c.rest
+message_in None = []
+message_in (Some c) = c.rest
 
 -- Nothing is asked of the bytes: what they are is decided by `printed`. A read may be empty, and an area may hold anything.
 pub record Input (area : List ℕ) (reads : List (List ℕ)) : Type 0 where

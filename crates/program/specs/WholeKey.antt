@@ -1,7 +1,6 @@
 -- Laws: a first line's key is bytes, and what is kept of it has the same default rounds and is refused as it is itself.
-use Rattle.std.specs.Prelude.{◌≡◌, refl, Bool, true, false, cond, List, [], ◌∷◌, ℕ, ◌≤◌, min, leb, ltb, length, take}
+use Rattle.std.specs.Prelude.{Option, Some, None, ◌≡◌, refl, Bool, true, false, cond, List, [], ◌∷◌, ℕ, ◌≤◌, min, leb, ltb, length, take}
 use Rattle.std.proofs.Common.{sym, ◌∙◌, arith, ltb-true, ltb-false, lt-ltb, le-ltb, length-take, take_all}
-use Rattle.std.proofs.Math.Option.{Option, none, some}
 use Rattle.std.proofs.Math.Nat.{min_comm}
 use Rattle.lists.specs.Below.{Below, none as no_words, more}
 use Rattle.digits.specs.Digits.{spelt, with_word, bytes_of}
@@ -13,19 +12,17 @@ use Rattle.calls.specs.Area.{area_words}
 use Rattle.calls.specs.Calls.{open_number}
 use Rattle.line.specs.Line.{Line, fields, is_dash, number_of, rounds_of, key_of, together, four_of, line_of}
 use Rattle.line.specs.Fold.{kept_bytes}
-use Rattle.line.specs.declared.Rounds.{Rounds}
-use Rattle.line.specs.declared.Rounds.TheVariants.{Default, Given}
 use Rattle.program.specs.Printed.{rounds_for}
 
 -- ---- the key is bytes
 
 abbrev Bytes : Option (List ℕ) → Type 0
-Bytes none = Unit {0}
-Bytes (some key) = Below 256 key
+Bytes None = Unit {0}
+Bytes (Some key) = Below 256 key
 
 abbrev pub KeyBytes : Option Line → Type 0
-KeyBytes none = Unit {0}
-KeyBytes (some l) = Below 256 l.key
+KeyBytes None = Unit {0}
+KeyBytes (Some l) = Below 256 l.key
 
 pairs_bytes : (f : List ℕ) → Bytes (bytes_of f)
 pairs_bytes [] = no_words
@@ -33,24 +30,24 @@ pairs_bytes (a ∷ []) = tt
 pairs_bytes (a ∷ b ∷ bs) = by (spelt 0 (a ∷ b ∷ [])) (bytes_of bs) refl (pairs_bytes bs)
   where
     by : (p : Option ℕ) (o : Option (List ℕ)) → spelt 0 (a ∷ b ∷ []) ≡ p → Bytes o → Bytes (with_word p o)
-    by none o e h = tt
-    by (some x) none e h = tt
-    by (some x) (some key) e h = more (spelt_lt 2 x (a ∷ b ∷ []) (omega arith) e) h
+    by None o e h = tt
+    by (Some x) None e h = tt
+    by (Some x) (Some key) e h = more (spelt_lt 2 x (a ∷ b ∷ []) (omega arith) e) h
 
 field-bytes : (f : List ℕ) → Bytes (key_of f)
 field-bytes f = by (is_dash f) (leb 1 (length f))
   where
-    by : (s t : Bool) → Bytes (cond s (some []) (cond t (bytes_of f) none))
+    by : (s t : Bool) → Bytes (cond s (Some []) (cond t (bytes_of f) None))
     by true t = no_words
     by false true = pairs_bytes f
     by false false = tt
 
-together-bytes : (d l : Option ℕ) (r : Option Rounds) (k : Option (List ℕ)) → Bytes k → KeyBytes (together d l r k)
-together-bytes none l r k h = tt
-together-bytes (some d) none r k h = tt
-together-bytes (some d) (some l) none k h = tt
-together-bytes (some d) (some l) (some r) none h = tt
-together-bytes (some d) (some l) (some r) (some k) h = h
+together-bytes : (d l : Option ℕ) (r : Option (Option ℕ)) (k : Option (List ℕ)) → Bytes k → KeyBytes (together d l r k)
+together-bytes None l r k h = tt
+together-bytes (Some d) None r k h = tt
+together-bytes (Some d) (Some l) None k h = tt
+together-bytes (Some d) (Some l) (Some r) None h = tt
+together-bytes (Some d) (Some l) (Some r) (Some k) h = h
 
 four_bytes : (fs : List (List ℕ)) → KeyBytes (four_of fs)
 four_bytes [] = tt
@@ -79,9 +76,9 @@ over-kept b n h = by (ltb b n) refl
     by false e = le-ltb b (min n kept_bytes) (omega (arith, ltb-false b n e)) ∙ sym e
 
 -- so the rounds by default, which go by whether the key has any byte, are the same
-pub kept-rounds : (rounds : Rounds) (d n : ℕ) → rounds_for rounds d (min n kept_bytes) ≡ rounds_for rounds d n
-kept-rounds Default d n = rw (over-kept 0 n (omega arith))
-kept-rounds (Given r) d n = refl
+pub kept-rounds : (rounds : Option ℕ) (d n : ℕ) → rounds_for rounds d (min n kept_bytes) ≡ rounds_for rounds d n
+kept-rounds None d n = rw (over-kept 0 n (omega arith))
+kept-rounds (Some r) d n = refl
 
 -- an open with them is refused by the same number
 pub kept-number : (area : List ℕ) (P : Params) → area_words most_limit ≤ length area → open_number area (kept_params P) ≡ first_refusal (param_tests P)

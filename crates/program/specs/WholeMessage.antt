@@ -18,11 +18,10 @@ use Rattle.calls.proofs.Stands.{Stands, FeedDone, feed-stands, end-done}
 use Rattle.calls.specs.Vocabulary.{enough_words}
 use Rattle.calls.proofs.Accepts.{feed-tests, end-tests, end-nodes}
 use Rattle.calls.proofs.LogWords.{log-enough, end-enough}
-use Rattle.line.specs.declared.State.{State}
 use Rattle.print.specs.Print.{node_line, node_lines, digest_line}
 use Rattle.program.specs.Printed.{lines_of, hashed}
 use Rattle.program.specs.Steps.{all_bits, buffer_bytes, empty_log, empty_digest, Step, fed_step, ended_step, take_of, last_of, written}
-use Rattle.program.specs.declared.Phase.TheVariants.{Message as InMessage}
+use Rattle.program.specs.declared.Program.TheVariants.{Message as InMessage}
 
 -- ---- the log of a call
 
@@ -52,8 +51,8 @@ read-bits : (bytes : List ℕ) → piece_bits (all_bits bytes) ≡ bits_of 8 byt
 read-bits bytes = take_all (8 * length bytes) (bits_of 8 bytes) (omega (arith, length-bits_of 8 bytes))
 
 -- what a read of the message gives: the area then stands for a longer message, and the lines are those of the nodes that it made
-record ReadDone (P : Params) (M : List Bool) (bytes : List ℕ) (line : State) (step : Step) : Type 0 where
-  program : step.program ≡ record { phase = InMessage; line = line }
+record ReadDone (P : Params) (M : List Bool) (bytes : List ℕ) (step : Step) : Type 0 where
+  program : step.program ≡ InMessage
   stands : Stands P (M ++ bits_of 8 bytes) step.area
   text : lines_of (settled (order P M)) ++ step.text ≡ lines_of (settled (order P (M ++ bits_of 8 bytes)))
 
@@ -99,9 +98,9 @@ module _ {P : Params} {M : List Bool} {area : List ℕ} (s : Stands P M area) wh
             feed-tests s (all_bits bytes) empty_log
             ∙ rw (le-ltb (8 * length bytes) (0 + 8 * length bytes) (omega arith), le-ltb (2 ^ 64 - 1) (length M + 8 * length bytes) (omega arith))
 
-    read_step : (line : State) → ReadDone P M bytes line (fed_step line area bytes)
+    read_step : ReadDone P M bytes (fed_step area bytes)
     unfolding fed_step
-    read_step line = rw (feed-accepted area (all_bits bytes) empty_log feed-number, read-bits bytes) record {
+    read_step = rw (feed-accepted area (all_bits bytes) empty_log feed-number, read-bits bytes) record {
       program = refl;
       stands = done.stands;
       text =
@@ -116,29 +115,29 @@ module _ {P : Params} {M : List Bool} {area : List ℕ} (s : Stands P M area) wh
         done = rw read-bits at (feed-stands P M area (all_bits bytes) empty_log s feed-number)
 
 -- what is written from a read on, by what is written from the next on
-after_read : {P : Params} {M : List Bool} {bytes : List ℕ} {line : State} {step : Step} (reads : List (List ℕ)) → ReadDone P M bytes line step
-    → (lines_of (settled (order P (M ++ bits_of 8 bytes))) ++ written (record { phase = InMessage; line = line }) step.area reads
+after_read : {P : Params} {M : List Bool} {bytes : List ℕ} {step : Step} (reads : List (List ℕ)) → ReadDone P M bytes step
+    → (lines_of (settled (order P (M ++ bits_of 8 bytes))) ++ written InMessage step.area reads
     ≡ hashed P ((M ++ bits_of 8 bytes) ++ bits_of 8 (flatten reads)))
     → lines_of (settled (order P M)) ++ (step.text ++ written step.program step.area reads)
     ≡ hashed P (M ++ bits_of 8 (flatten (bytes ∷ reads)))
 unfolding flatten
-after_read {P} {M} {bytes} {line} {step} reads d e =
-    let w : List ℕ = written (record { phase = InMessage; line = line }) step.area reads in
+after_read {P} {M} {bytes} {step} reads d e =
+    let w : List ℕ = written InMessage step.area reads in
     rw (d.program, bits_of-append 8 bytes (flatten reads), ← append_assoc M (bits_of 8 bytes) (bits_of 8 (flatten reads)))
     (sym (append_assoc (lines_of (settled (order P M))) step.text w) ∙ ap (λ (l : List ℕ). l ++ w) d.text ∙ e)
 
 -- all reads and the end: what was printed of the message's first part, and what is written then, is all that is printed of the message
-pub message : {P : Params} {M : List Bool} {area : List ℕ} (line : State) (reads : List (List ℕ)) → Stands P M area
+pub message : {P : Params} {M : List Bool} {area : List ℕ} (reads : List (List ℕ)) → Stands P M area
     → Below (suc buffer_bytes) (map length reads) → length M + 8 * length (flatten reads) < 2 ^ 64
-    → lines_of (settled (order P M)) ++ written (record { phase = InMessage; line = line }) area reads ≡ hashed P (M ++ bits_of 8 (flatten reads))
+    → lines_of (settled (order P M)) ++ written InMessage area reads ≡ hashed P (M ++ bits_of 8 (flatten reads))
 unfolding written take_of flatten last_of hashed
-message {P} {M} {area} line [] s b few =
+message {P} {M} {area} [] s b few =
     let l : List ℕ = lines_of (last_nodes_of area) in
     rw (end-text s, append-nil M, end-nodes s, lines-append (settled (order P M)) (last_nodes_of area))
     (sym (append_assoc (lines_of (settled (order P M))) l (digest_line (digest P M))))
-message {P} {M} {area} line (bytes ∷ reads) s (more h hs) few =
+message {P} {M} {area} (bytes ∷ reads) s (more h hs) few =
     let l = length-append bytes (flatten reads) in
     let m = length-append M (bits_of 8 bytes) in
     let k = length-bits_of 8 bytes in
-    let d = read_step s bytes (omega arith) (omega arith) line in
-    after_read reads d (message {P = P} {M = M ++ bits_of 8 bytes} {area = (fed_step line area bytes).area} line reads d.stands hs (omega arith))
+    let d = read_step s bytes (omega arith) (omega arith) in
+    after_read reads d (message {P = P} {M = M ++ bits_of 8 bytes} {area = (fed_step area bytes).area} reads d.stands hs (omega arith))

@@ -28,20 +28,13 @@ const DIGEST: usize = 64;
 // The bytes of the longest text, 9,751: a line for two words of a full log, and the line of a digest, two digits a byte.
 pub const OUT: usize = print::NODE_LINE * (LOG / 2) + 2 * DIGEST + 1;
 
-// Where the program has come to: it reads the first line; the rest is the message; or it has refused the input and prints
-// nothing more.
+// What is kept between two reads beside the stream's area, by where the program has come to: it reads the first line, of which
+// this has come so far; the rest is the message; or it has refused the input and prints nothing more.
 #[derive(Clone, Copy)]
-pub enum Phase {
-    Line,
+pub enum Program {
+    Line(State),
     Message,
     Refused,
-}
-
-// What is kept between two reads beside the stream's area: where the program has come to, and the first line so far.
-#[derive(Clone, Copy)]
-pub struct Program {
-    pub phase: Phase,
-    pub line: State,
 }
 
 // What a read gives: the state for the next one, and how many bytes are to be written.
@@ -56,30 +49,26 @@ impl Program {
     pub fn new() -> Program
         ensures { result ≡ start_of }
     {
-        let line = State::new();
-        Program {
-            phase: Phase::Line,
-            line,
-        }
+        Program::Line(State::new())
     }
 }
 
 // Takes the bytes that were read, whatever the program has come to.
+#[tactic(auto, unfolding(crate::specs::Steps::take_of, crate::specs::Taken::took_of, crate::specs::Taken::put_of))]
 fn take_bytes(program: Program, bytes: &[u8], area: &mut [u64], out: &mut [u8]) -> Taken
     requires { (length bytes.now ≤ buffer_bytes) × (text_bytes ≤ length out.old) }
     ensures { record { program = result.program; count = result.count; area = area.new; out = out.new }
         ≡ took_of (take_of program area.old bytes.now) out.old }
 {
-    let phase = program.phase;
-    let line = program.line;
-    match phase {
-        Phase::Line => first::take_line(line, bytes, area, out),
-        Phase::Message => message::feed(line, bytes, area, out),
-        Phase::Refused => Taken { program, count: 0 },
+    match program {
+        Program::Line(line) => first::take_line(line, bytes, area, out),
+        Program::Message => message::feed(bytes, area, out),
+        Program::Refused => Taken { program, count: 0 },
     }
 }
 
-// Takes the first n bytes of a buffer, those of a read, and puts the bytes to write at the front of out.
+// Takes the first n bytes of a buffer, those of a read, and puts the bytes to write at the front of out. The buffer's type bounds
+// them: of a slice a clause would have to ask that eight times its length fits 64 bits.
 pub fn take(
     program: Program,
     buf: &[u8; BUFFER],
@@ -90,22 +79,18 @@ pub fn take(
     ensures { record { program = result.program; count = result.count; area = area.new; out = out.new }
         ≡ took_of (take_of program area.old (take n buf.now)) out.old }
 {
-    let bytes: &[u8] = buf;
-    if n < BUFFER {
-        return take_bytes(program, &bytes[..n], area, out);
-    }
-    take_bytes(program, bytes, area, out)
+    take_bytes(program, &buf[..n.min(BUFFER)], area, out)
 }
 
 // Ends the input, puts the last bytes to write at the front of out, and answers how many they are.
+#[tactic(auto, unfolding(crate::specs::Steps::last_of, crate::specs::Taken::took_last_of, crate::specs::Taken::put_of))]
 pub fn finish(program: Program, area: &mut [u64; Area::WORDS], out: &mut [u8; OUT]) -> usize
     ensures { record { count = result; area = area.new; out = out.new }
         ≡ took_last_of (last_of program area.old) out.old }
 {
-    let phase = program.phase;
-    match phase {
-        Phase::Line => put::refused_line(out),
-        Phase::Message => message::end(area, out),
-        Phase::Refused => 0,
+    match program {
+        Program::Line(_) => put::refused_line(out),
+        Program::Message => message::end(area, out),
+        Program::Refused => 0,
     }
 }

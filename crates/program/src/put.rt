@@ -1,5 +1,5 @@
 // What is printed, put at the front of a text. Each function answers how many bytes it put.
-ghost use Rattle.std.specs.Prelude.{◌≡◌, ◌++◌, ◌*◌, ◌<◌, ◌≤◌, length, take, drop};
+ghost use Rattle.std.specs.Prelude.{◌≡◌, ◌++◌, ◌/◌, ◌<◌, ◌≤◌, length, drop};
 ghost use Rattle.print.specs.Print.{node_lines, digest_line};
 ghost use Rattle.program.specs.Printed.{refused_line, refused_number};
 ghost use Rattle.program.specs.Taken.{text_bytes, put_of};
@@ -23,7 +23,7 @@ pub fn refused_line(out: &mut [u8]) -> usize
     copy(b"refused line\n", out)
 }
 
-// A refusal by number.
+// A refusal by number. Its digits are put by hand: of what `write!` puts into a slice, std promises nothing.
 pub fn refused_number(out: &mut [u8], number: u64) -> usize
     requires { (text_bytes ≤ length out.old) × (number < 100) }
     ensures { record { count = result; out = out.new } ≡ put_of (refused_number number) out.old }
@@ -41,23 +41,22 @@ pub fn refused_number(out: &mut [u8], number: u64) -> usize
     11
 }
 
-// The lines of so many nodes of a log.
-pub fn nodes(out: &mut [u8], log: &[u64], count: usize) -> usize
-    requires { (text_bytes ≤ length out.old) × (2 * count ≤ length log.now) × (length log.now ≤ 566) }
-    ensures { record { count = result; out = out.new } ≡ put_of (node_lines count log.now) out.old }
+// The lines of a log's nodes.
+pub fn nodes(out: &mut [u8], log: &[u64]) -> usize
+    requires { (text_bytes ≤ length out.old) × (length log.now ≤ 566) }
+    ensures { record { count = result; out = out.new } ≡ put_of (node_lines (length log.now / 2) log.now) out.old }
 {
-    print::put_nodes(out, log, count);
-    print::NODE_LINE * count
+    print::put_nodes(out, log);
+    print::NODE_LINE * (log.len() / 2)
 }
 
-// The lines of so many nodes of a log, and the line of the first n bytes of a digest.
-pub fn last(out: &mut [u8], log: &[u64], count: usize, digest: &[u8], n: usize) -> usize
-    requires { (text_bytes ≤ length out.old) × (2 * count ≤ length log.now) × (length log.now ≤ 566)
-        × (n ≤ length digest.now) × (n ≤ 64) }
+// The lines of a log's nodes, and the line of a digest.
+pub fn last(out: &mut [u8], log: &[u64], digest: &[u8]) -> usize
+    requires { (text_bytes ≤ length out.old) × (length log.now ≤ 566) × (length digest.now ≤ 64) }
     ensures { record { count = result; out = out.new }
-        ≡ put_of (node_lines count log.now ++ digest_line (take n digest.now)) out.old }
+        ≡ put_of (node_lines (length log.now / 2) log.now ++ digest_line digest.now) out.old }
 {
-    let at = nodes(out, log, count);
-    print::put_digest(&mut out[at..], digest, n);
-    at + 2 * n + 1
+    let at = nodes(out, log);
+    print::put_digest(&mut out[at..], digest);
+    at + 2 * digest.len() + 1
 }

@@ -1,11 +1,13 @@
 -- Laws: of Refusals: orders of refusals, answers, and what parameters that are not refused say.
-use Rattle.std.specs.Prelude.{◌≡◌, refl, Bool, true, false, not, ◌&&◌, List, [], ◌∷◌, ◌++◌, ℕ, zero, suc, ◌≤◌, eqb, length}
-use Rattle.std.proofs.Common.{ap, ◌∙◌, subst, append-nil, ltb-false, le-ltb}
+use Rattle.std.specs.Prelude.{◌≡◌, refl, Bool, true, false, cond, not, ◌&&◌, List, [], ◌∷◌, ◌++◌, ℕ, zero, suc, ◌≤◌, eqb, length, Result, Ok, Err}
+use Rattle.std.proofs.Common.{arith, ap, sym, ◌∙◌, subst, append-nil, ltb-false, le-ltb}
 use Rattle.std.proofs.lemmas.Bool.{eqb-false, not-true}
 use Rattle.lists.specs.Below.{Below}
 use Rattle.lists.specs.And.{and_parts}
 use Rattle.tree.specs.Tree.{Params, Valid, most_key_bytes, most_digest_bits, most_limit, most_rounds}
-use Rattle.refusals.specs.Refusals.{first_refusal, answer_of, range_tests, param_tests}
+use Rattle.refusals.specs.declared.Refusal.{Refusal}
+use Rattle.refusals.specs.declared.Refusal.TheVariants as refusal
+use Rattle.refusals.specs.Refusals.{first_refusal, answer_of, range_tests, param_tests, refusal_number, told_number}
 
 -- ---- the order of refusals
 
@@ -42,6 +44,38 @@ first_part ((false, n) ∷ xs) ys h = first_part xs ys h
 pub second-part : (xs ys : List (Bool × ℕ)) → ((k : ℕ) → test_at xs k ≡ false) → first_refusal (xs ++ ys) ≡ first_refusal ys
 second-part [] ys p = refl
 second-part (t ∷ xs) ys p = rw (p 0) (second-part xs ys (λ k. p (suc k)))
+
+-- ---- refusals and their numbers
+
+-- 0 is no refusal's number
+pub number_not0 : (r : Refusal) → refusal_number r ≡ 0 → ⊥
+number_not0 refusal.DigestSize = λ e. omega (arith, e)
+number_not0 refusal.KeyLength = λ e. omega (arith, e)
+number_not0 refusal.Limit = λ e. omega (arith, e)
+number_not0 refusal.Rounds = λ e. omega (arith, e)
+number_not0 refusal.Bits = λ e. omega (arith, e)
+number_not0 refusal.Total = λ e. omega (arith, e)
+number_not0 refusal.Area = λ e. omega (arith, e)
+number_not0 refusal.Log = λ e. omega (arith, e)
+number_not0 refusal.Output = λ e. omega (arith, e)
+number_not0 refusal.Ended = λ e. omega (arith, e)
+number_not0 refusal.Text = λ e. omega (arith, e)
+number_not0 refusal.Figure = λ e. omega (arith, e)
+
+-- what is told of an error is not 0, and of a value 0
+pub told_err : {A : Type 0} (t : Result A Refusal) {r : Refusal} → t ≡ Err r → told_number t ≡ 0 → ⊥
+told_err t {r} e z = number_not0 r (sym (ap told_number e) ∙ z)
+
+pub told_ok : {A : Type 0} {t : Result A Refusal} {a : A} {n : ℕ} → t ≡ Ok a → told_number t ≡ n → n ≡ 0
+told_ok w e = sym e ∙ ap told_number w
+
+-- the number of the first of two tests that holds
+pub told-first_of_two : {A : Type 0} (first second : Bool) (one other : Refusal) (a : A) (t : Result A Refusal)
+    → t ≡ cond first (Err one) (cond second (Err other) (Ok a))
+    → told_number t ≡ first_refusal ((first, refusal_number one) ∷ (second, refusal_number other) ∷ [])
+told-first_of_two true second one other a t e = ap told_number e
+told-first_of_two false true one other a t e = ap told_number e
+told-first_of_two false false one other a t e = ap told_number e
 
 -- ---- the answer
 

@@ -1,6 +1,8 @@
 -- Definitions: the order of refusals, what a call answers, and the tests that several calls share. Document 01, the table of numbers:
 -- each test stands beside its number; number 5 has its test in bits/Piece.
-use Rattle.std.specs.Prelude.{Bool, cond, List, [], ◌∷◌, ◌++◌, ℕ, zero, suc, ◌*◌, ltb, length}
+use Rattle.std.specs.Prelude.{Bool, cond, List, [], ◌∷◌, ◌++◌, ℕ, zero, suc, ◌*◌, ltb, length, Result, Ok, Err}
+use Rattle.refusals.specs.declared.Refusal.{Refusal}
+use Rattle.refusals.specs.declared.Refusal.TheVariants as refusal
 use Rattle.tree.specs.Tree.{Params, most_key_bytes, most_digest_bits, most_limit, most_rounds}
 
 -- ---- the order of refusals, and the answer
@@ -9,6 +11,30 @@ use Rattle.tree.specs.Tree.{Params, most_key_bytes, most_digest_bits, most_limit
 abbrev pub first_refusal : List (Bool × ℕ) → ℕ
 first_refusal [] = 0
 first_refusal (test ∷ later) = cond test.0 test.1 (first_refusal later)
+
+-- the number of each refusal
+abbrev pub refusal_number : Refusal → ℕ
+refusal_number refusal.DigestSize = 1
+refusal_number refusal.KeyLength = 2
+refusal_number refusal.Limit = 3
+refusal_number refusal.Rounds = 4
+refusal_number refusal.Bits = 5
+refusal_number refusal.Total = 6
+refusal_number refusal.Area = 7
+refusal_number refusal.Log = 8
+refusal_number refusal.Output = 9
+refusal_number refusal.Ended = 10
+refusal_number refusal.Text = 11
+refusal_number refusal.Figure = 14
+
+-- what is told of a result: 0 and the count, or the refusal's number and 0
+abbrev pub told_number : {A : Type 0} → Result A Refusal → ℕ
+told_number (Ok a) = 0
+told_number (Err r) = refusal_number r
+
+abbrev pub told_count : Result ℕ Refusal → ℕ
+told_count (Ok count) = count
+told_count (Err r) = 0
 
 -- what a call with that number answers: what it gives if it is accepted, and otherwise what it gives for the number that refuses
 -- it; at each call the second says "count 0" and "all unchanged"

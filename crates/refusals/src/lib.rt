@@ -1,10 +1,10 @@
-// The parameters of a tree with their ranges, what a call answers, and the numbers that refuse parameters and bits.
+// The parameters of a tree with their ranges, why calls are refused, what C is answered, and the tests of parameters and bits.
 #![tactic(auto)]
 
-ghost use Rattle.std.specs.Prelude.{◌≡◌, [], ◌∷◌};
+ghost use Rattle.std.specs.Prelude.{◌≡◌, cond, Ok, Err};
 ghost use Rattle.bits.specs.Piece.{refused_bits};
 ghost use Rattle.bits.specs.PieceLaws.{spanned};
-ghost use Rattle.refusals.specs.Refusals.{first_refusal, size_tests, range_tests};
+ghost use Rattle.refusals.specs.Refusals.{first_refusal, size_tests, range_tests, refusal_number, told_number, told_count};
 
 use bits::Span;
 
@@ -42,7 +42,46 @@ impl Params {
     }
 }
 
-// What a call answers: 0 and a count, or the number that refuses it and 0.
+// Why a call is refused, in the order of the numbers that C is told.
+#[derive(Clone, Copy, PartialEq, Eq)]
+pub enum Refusal {
+    DigestSize, // not 1 to 512 bits
+    KeyLength, // a key of over 64 bytes
+    Limit, // a height limit over 64
+    Rounds, // over 4,095 rounds
+    Bits, // a start bit above 7, or bits past the bytes that are lent
+    Total, // a total that would pass 2^64 - 1
+    Area, // an area, or the words lent for one or for layers, too short; or an unsound area
+    Log, // a log too short
+    Output, // an output too short
+    Ended, // a stream that has ended
+    Text, // a text that no area writes
+    Figure, // a digest that is not the one asked for
+}
+
+impl Refusal {
+    // The number that C is told; 12 and 13 are no number of these calls.
+    pub fn number(self) -> u64
+        ensures { result ≡ refusal_number self }
+    {
+        match self {
+            Refusal::DigestSize => 1,
+            Refusal::KeyLength => 2,
+            Refusal::Limit => 3,
+            Refusal::Rounds => 4,
+            Refusal::Bits => 5,
+            Refusal::Total => 6,
+            Refusal::Area => 7,
+            Refusal::Log => 8,
+            Refusal::Output => 9,
+            Refusal::Ended => 10,
+            Refusal::Text => 11,
+            Refusal::Figure => 14,
+        }
+    }
+}
+
+// What a call answers in C: 0 and a count, or the number that refuses it and 0.
 #[repr(C)]
 #[derive(Clone, Copy)]
 pub struct Answer {
@@ -64,17 +103,28 @@ impl Answer {
     }
 }
 
-// The number of the first of two tests that holds, in their order, and 0 if none does.
-pub fn first_of_two(first: bool, number: u64, second: bool, other: u64) -> u64
-    ensures { result ≡ first_refusal ((first, number) ∷ (second, other) ∷ []) }
+impl From<Result<u64, Refusal>> for Answer {
+    ghost from_gives = { λ told answer. (answer.number ≡ told_number told) × (answer.count ≡ told_count told) };
+
+    fn from(told: Result<u64, Refusal>) -> Answer {
+        match told {
+            Ok(count) => Answer::accepted(count),
+            Err(refusal) => Answer::refused(refusal.number()),
+        }
+    }
+}
+
+// The first of two tests that holds, in their order, refuses.
+pub fn first_of_two<E: Copy>(first: bool, one: E, second: bool, other: E) -> Result<(), E>
+    ensures { result ≡ cond first (Err one) (cond second (Err other) (Ok tt)) }
 {
     if first {
-        return number;
+        return Err(one);
     }
     if second {
-        return other;
+        return Err(other);
     }
-    0
+    Ok(())
 }
 
 // Whether number 5 refuses a piece: its start bit is above 7, or start and count together pass the bytes' bits. By division: their
@@ -88,36 +138,32 @@ pub fn refused_bits(bytes: &[u8], span: Span) -> bool
     (bytes.len() as u64) < span.bits / 8 + (span.start + span.bits % 8 + 7) / 8
 }
 
-// The number that refuses the sizes of digest and key, and otherwise 0: 1 for a digest size that is not 1 to 512, then 2 for a
-// key of over 64 bytes.
-pub fn size_number(d: u64, keylen: u64) -> u64
-    ensures { result ≡ first_refusal (size_tests d keylen) }
+// Tests the sizes of digest and key: first a digest size that is not 1 to 512, then a key of over 64 bytes.
+pub fn check_sizes(d: u64, keylen: u64) -> Result<(), Refusal>
+    ensures { told_number result ≡ first_refusal (size_tests d keylen) }
 {
     if d < 1 {
-        return 1; // no digest
+        return Err(Refusal::DigestSize); // no digest
     }
     if Params::MOST_DIGEST_BITS < d {
-        return 1; // too long a digest
+        return Err(Refusal::DigestSize); // too long a digest
     }
     if Params::MOST_KEY_BYTES < keylen {
-        return 2; // too long a key
+        return Err(Refusal::KeyLength); // too long a key
     }
-    0
+    Ok(())
 }
 
-// The number that refuses parameters, and otherwise 0: by the digest size, the key's bytes, the height limit, the rounds.
-pub fn params_number(params: Params) -> u64
-    ensures { result ≡ first_refusal (range_tests params.keylen params.d params.limit params.rounds) }
+// Tests parameters: the digest size, the key's bytes, the height limit, the rounds.
+pub fn check_params(params: Params) -> Result<(), Refusal>
+    ensures { told_number result ≡ first_refusal (range_tests params.keylen params.d params.limit params.rounds) }
 {
-    let size = size_number(params.d, params.keylen);
-    if size != 0 {
-        return size;
-    }
+    check_sizes(params.d, params.keylen)?;
     if Params::MOST_LIMIT < params.limit {
-        return 3;
+        return Err(Refusal::Limit);
     }
     if Params::MOST_ROUNDS < params.rounds {
-        return 4;
+        return Err(Refusal::Rounds);
     }
-    0
+    Ok(())
 }

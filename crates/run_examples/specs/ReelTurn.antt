@@ -1,8 +1,7 @@
 -- Examples: previews and a close, document 02, M-106, by computing: a run at reel turn, and a preview before and after every piece of the
 -- reels of `calls/StreamExamples`. "r = 0 gives C = the last 16 words of B."
-use Rattle.std.specs.Prelude.{◌≡◌, refl, true, ℕ, ◌+◌, take, replicate}
+use Rattle.std.specs.Prelude.{◌≡◌, refl, true, Some, ℕ, ◌+◌, take, replicate}
 use Rattle.std.proofs.Common.{sym, ◌∙◌, arith}
-use Rattle.std.proofs.Math.Option.{some}
 use mathlib.Core.List.{List, [], ◌∷◌, ◌++◌, map}
 use Rattle.bits.specs.Bits.{bits_of, numbers}
 use Rattle.bits.specs.Piece.{Piece, piece_of}
@@ -42,7 +41,7 @@ reel_share = record {
   bits = bits_of 8 (block1 ++ block2);
   log = 0x0100000000000000 ∷ 0x000000000000000c ∷ 0x0100000000000001 ∷ 0x000000100000000c ∷ [];
   count = 2;
-  output = some figure2;
+  output = Some figure2;
 }
 
 abbrev pub reel_counts : List ℕ

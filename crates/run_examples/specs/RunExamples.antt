@@ -2,8 +2,7 @@
 -- log, both refused, the read of the second text into an area just long enough, 144 words, and a node of level 2 in its log. The
 -- other goes on after its end: a suspension of the ended stream into another area, and refused calls there. "r = 0 gives C = the
 -- last 16 words of B."
-use Rattle.std.specs.Prelude.{◌≡◌, refl, true, ℕ, ◌-◌, take, replicate}
-use Rattle.std.proofs.Math.Option.{none, some}
+use Rattle.std.specs.Prelude.{◌≡◌, refl, true, Some, None, ℕ, ◌-◌, take, replicate}
 use mathlib.Core.List.{List, [], ◌∷◌, ◌++◌}
 use Rattle.std.proofs.Common.{arith}
 use Rattle.bits.specs.Bits.{numbers}
@@ -54,7 +53,7 @@ open_share = record {
       0x0100000000000000 ∷ 0x0000010000000008 ∷ 0x0100000000000001 ∷ 0x0000010000000008
       ∷ 0x0100000000000002 ∷ 0x0000010000000008 ∷ 0x0200000000000000 ∷ 0x0000010000000008 ∷ [];
   count = 4;
-  output = none;
+  output = None;
 }
 
 -- both writes give lines 1 and 2 and those of levels 1 and 2
@@ -105,7 +104,7 @@ ended_share = record {
       0x0100000000000000 ∷ 0x000001000000100c ∷ 0x0100000000000001 ∷ 0x000001000000100c
       ∷ 0x0100000000000002 ∷ 0x000001000000100c ∷ 0x0200000000000000 ∷ 0x000001100000100c ∷ [];
   count = 4;
-  output = some (0x5c ∷ 0x30 ∷ 9 ∷ []);
+  output = Some (0x5c ∷ 0x30 ∷ 9 ∷ []);
 }
 
 abbrev pub ended_counts : List ℕ

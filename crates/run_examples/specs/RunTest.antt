@@ -1,9 +1,7 @@
 -- Laws: being a run, and lent numbers being bytes or words, shown by computing a test; and all that an example of a run is to show, to be
 -- computed at once.
-use Rattle.std.specs.Prelude.{◌≡◌, refl, Bool, true, false, ◌&&◌, List, [], ◌∷◌, map, ℕ, ◌+◌, eqb, ltb, replicate}
+use Rattle.std.specs.Prelude.{◌≡◌, refl, Bool, true, false, ◌&&◌, Option, Some, None, option_map, List, [], ◌∷◌, map, ℕ, ◌+◌, eqb, ltb, replicate}
 use Rattle.std.proofs.Common.{ap, arith, eqb-true, ltb-true}
-use Rattle.std.proofs.Math.Option
-use Rattle.std.proofs.Math.Option.{Option, none, some}
 use Rattle.lists.specs.Append.{cons_eq}
 use Rattle.lists.specs.Below.{Below, more, none as nil}
 use Rattle.lists.specs.And.{and_parts}
@@ -33,8 +31,8 @@ lent {b} (x ∷ xs) e = go (ltb x b) refl e (λ f. lent xs f)
 abbrev allowed_if : Option (List ℕ) → Role → Bool
 allowed_if before between = true
 allowed_if before (writes text) = true
-allowed_if none (reads text) = false
-allowed_if (some before) (reads text) = same before text
+allowed_if None (reads text) = false
+allowed_if (Some before) (reads text) = same before text
 allowed_if before outside = true
 allowed_if before opens = false
 
@@ -55,8 +53,8 @@ goes_if area text (x ∷ list) =
 allowed_is : (text : Option (List ℕ)) (r : Role) → allowed_if text r ≡ true → Allowed text r
 allowed_is before between e = tt
 allowed_is before (writes text) e = tt
-allowed_is none (reads text) e = let z : ◌≡◌ {A = ℕ} 0 1 = cc in absurd (omega arith)
-allowed_is (some before) (reads text) e = ap some (same_eq before text e)
+allowed_is None (reads text) e = let z : ◌≡◌ {A = ℕ} 0 1 = cc in absurd (omega arith)
+allowed_is (Some before) (reads text) e = ap Some (same_eq before text e)
 allowed_is before outside e = tt
 allowed_is before opens e = let z : ◌≡◌ {A = ℕ} 0 1 = cc in absurd (omega arith)
 
@@ -116,12 +114,12 @@ computed x =
     let answers : List Answered = answered (opened x) (calls_of x.list) in
     record {
       opens = (open_of used x.params).number;
-      goes = goes_if (opened x) none x.list;
+      goes = goes_if (opened x) None x.list;
       counts = counts_in answers;
       pieces = pieces_in answers;
       share = shares answers;
       nodes = node_log (nodes_for x.share.output (order x.params x.share.bits));
-      digest = Option.map (λ (out : List ℕ). digest x.params x.share.bits) x.share.output;
+      digest = option_map (λ (out : List ℕ). digest x.params x.share.bits) x.share.output;
     }
 
 abbrev pub expected : Example → Checked
@@ -132,7 +130,7 @@ expected x = record {
   pieces = x.pieces;
   share = x.share;
   nodes = x.share.log;
-  digest = Option.map (digest_in x.params) x.share.output;
+  digest = option_map (digest_in x.params) x.share.output;
 }
 
 -- ---- the run
@@ -145,7 +143,7 @@ run_of x b e = record {
   words = lent used refl;
   bytes = b;
   opened = ap (λ (c : Checked). c.opens) e;
-  goes = (goes_is (opened x) none x.list (ap (λ (c : Checked). c.goes) e)).0;
+  goes = (goes_is (opened x) None x.list (ap (λ (c : Checked). c.goes) e)).0;
 }
 
 -- the numbers and counts of a run's calls, the pieces fed, and what the calls add up to; by the definition of the tree the log and the
@@ -156,13 +154,13 @@ pub record Gives (r : Run) (ns cs : List ℕ) (ps : List Piece) (s : Share) : Ty
   pub pieces : pieces_of r ≡ ps
   pub share : shares (answers_of r) ≡ s
   pub log : node_log (nodes_for s.output (order r.params s.bits)) ≡ s.log
-  pub digest : Option.map (λ (out : List ℕ). digest r.params s.bits) s.output ≡ Option.map (digest_in r.params) s.output
+  pub digest : option_map (λ (out : List ℕ). digest r.params s.bits) s.output ≡ option_map (digest_in r.params) s.output
 
 pub gives : (x : Example) (b : Bytes x.params.key) (e : computed x ≡ expected x)
     → Gives (run_of x b e) (map (λ (n : Numbered). n.1) x.list) x.counts x.pieces x.share
 unfolding run_of
 gives x b e = record {
-  numbers = (goes_is (opened x) none x.list (ap (λ (c : Checked). c.goes) e)).1;
+  numbers = (goes_is (opened x) None x.list (ap (λ (c : Checked). c.goes) e)).1;
   counts = ap (λ (c : Checked). c.counts) e;
   pieces = ap (λ (c : Checked). c.pieces) e;
   share = ap (λ (c : Checked). c.share) e;

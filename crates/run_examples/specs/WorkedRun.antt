@@ -1,8 +1,7 @@
 -- Examples: a run worked out by computing: an open of an area with something in it, feeds cut inside bytes, refused calls among them, a
 -- suspension into another area, log words told, an end, and calls after it. "r = 0 gives C = the last 16 words of B."
-use Rattle.std.specs.Prelude.{◌≡◌, refl, ℕ, ◌+◌, ◌-◌, ◌*◌, ◌^◌, replicate}
+use Rattle.std.specs.Prelude.{◌≡◌, refl, Some, ℕ, ◌+◌, ◌-◌, ◌*◌, ◌^◌, replicate}
 use Rattle.std.proofs.Common.{sym, subst, arith}
-use Rattle.std.proofs.Math.Option.{some}
 use mathlib.Core.List.{List, [], ◌∷◌, ◌++◌}
 use Rattle.bits.specs.Bits.{bits_of, numbers}
 use Rattle.bits.specs.Piece.{Piece, piece_of}
@@ -52,7 +51,7 @@ worked_share = record {
   bits = bits_of 8 whole;
   log = 0x0100000000000000 ∷ 0x000000000000100c ∷ 0x0100000000000001 ∷ 0x000000100000100c ∷ [];
   count = 2;
-  output = some (0xc3 ∷ 0xc0 ∷ 3 ∷ []);
+  output = Some (0xc3 ∷ 0xc0 ∷ 3 ∷ []);
 }
 
 -- of the writes the counts are the text's bytes; two words are told for the 6,131 bits, which then make one node

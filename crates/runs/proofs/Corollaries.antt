@@ -1,7 +1,6 @@
 -- Laws: what follows from demand 3 for two runs that both ended.
-use Rattle.std.specs.Prelude.{◌≡◌, refl, Bool, ◌⊎◌, List, [], ◌∷◌, ◌++◌, ℕ, zero, suc, length}
+use Rattle.std.specs.Prelude.{◌≡◌, refl, Bool, ◌⊎◌, Option, List, [], ◌∷◌, ◌++◌, ℕ, zero, suc, length}
 use Rattle.std.proofs.Common.{sym, ap, ◌∙◌, append_assoc, append-nil}
-use Rattle.std.proofs.Math.Option.{Option}
 use Rattle.bits.specs.Piece.{Piece, piece_bits, first_part, second_part}
 use Rattle.bits.specs.PieceLaws.{cut-bits}
 use Rattle.tree.specs.Tree.{Params, Node, order, digest, node_log}

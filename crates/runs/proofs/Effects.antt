@@ -1,9 +1,8 @@
 -- Laws: the effect of each call of a run on an area that stands for a message: none, bits fed, ended, or moved to another area.
 -- A call of a later request costs one constructor of `Call`, its line in each definition of `Runs`, and one lemma here.
-use Rattle.std.specs.Prelude.{◌≡◌, Bool, true, false, List, [], ◌++◌, ℕ, zero, suc, ◌+◌, ◌^◌, ◌<◌, length, take, drop}
+use Rattle.std.specs.Prelude.{◌≡◌, Bool, true, false, Option, Some, None, List, [], ◌++◌, ℕ, zero, suc, ◌+◌, ◌^◌, ◌<◌, length, take, drop}
 use Rattle.std.proofs.Math.Path.{refl, ap}
 use Rattle.std.proofs.Common.{sym, ◌∙◌, subst, arith, take_all, take_at}
-use Rattle.std.proofs.Math.Option.{Option, none, some}
 use Rattle.bits.specs.BitsLaws.{length-numbers}
 use Rattle.bits.specs.Piece.{Piece}
 use Rattle.tree.specs.Tree.{Params, order, digest, digest_bytes, node_log}
@@ -28,7 +27,7 @@ pub record Feeds (P : Params) (M : List Bool) (add : Share) (to : List ℕ) : Ty
   pub stands : Stands P (M ++ add.bits) to
   pub log : node_log (settled (order P (M ++ add.bits))) ≡ node_log (settled (order P M)) ++ add.log
   pub count : length (settled (order P (M ++ add.bits))) ≡ length (settled (order P M)) + add.count
-  pub output : add.output ≡ none
+  pub output : add.output ≡ None
 
 -- an accepted end: the area has ended, the log goes on to all nodes, and the digest is the tree's
 pub record Ends (P : Params) (M : List Bool) (add : Share) (to : List ℕ) : Type 0 where
@@ -37,7 +36,7 @@ pub record Ends (P : Params) (M : List Bool) (add : Share) (to : List ℕ) : Typ
   pub log : node_log (all_nodes (order P M)) ≡ node_log (settled (order P M)) ++ add.log
   pub count : length (order P M) ≡ length (settled (order P M)) + add.count
   pub out : List ℕ
-  pub output : add.output ≡ some out
+  pub output : add.output ≡ Some out
   pub digest : digest_in P out ≡ digest P M
 
 -- what a call makes of an area that stands for M: what it adds to the run, where the stream then is, and whether it had and has
@@ -50,8 +49,8 @@ pub data Effect (P : Params) (M : List Bool) (area : List ℕ) (add : Share) (to
 
 -- the text that may be read is the area's own
 abbrev pub Held : Option (List ℕ) → List ℕ → Type 0
-Held none area = Unit {0}
-Held (some text) area = text ≡ text_of area
+Held None area = Unit {0}
+Held (Some text) area = text ≡ text_of area
 
 -- a call with its effect, after which the text that may be read is still the area's own
 pub record Step (P : Params) (M : List Bool) (area : List ℕ) (e : Bool) (text : Option (List ℕ)) (c : Call) : Type 0 where
@@ -104,7 +103,7 @@ module _ (P : Params) (M : List Bool) (area : List ℕ) (text : Option (List ℕ
   -- a call that ends the stream if it is accepted
   ending : {e : Bool} (c : Call) (k : ℕ) → (outcome_of area c).number ≡ k → ((j : ℕ) → k ≡ suc j → (outcome_of area c).area ≡ area)
       → (k ≡ 0 → OpenArea area) → (k ≡ 0 → Stands P M area → Ends P M (accepted_share c (outcome_of area c)) (outcome_of area c).area)
-      → suspended text (accepted_role c (outcome_of area c)) ≡ none → At P M area e → Step P M area e text c
+      → suspended text (accepted_role c (outcome_of area c)) ≡ None → At P M area e → Step P M area e text c
   ending c (suc k) n a o f r at = refused c k n (a k refl)
   ending c zero n a o f r (is_open s) = record { after = true; effect = ended (rw (share_of_lem c n) (f refl s)); held = rw (role_of_lem c n, r) tt }
   ending c zero n a o f r (has_ended s) = absurd ((o refl).phase s.phase)
@@ -172,7 +171,7 @@ module _ (P : Params) (M : List Bool) (area : List ℕ) (text : Option (List ℕ
   write_step out b = quiet (write out b) (write_number area out) (write-number area out) refl refl (written-text area out)
 
   -- the text of an accepted read is the area's own
-  read-text : (x : List ℕ) → text ≡ some x → x ≡ text_of area
+  read-text : (x : List ℕ) → text ≡ Some x → x ≡ text_of area
   read-text x t = subst (λ (o : Option (List ℕ)). Held o area) t h
 
   read_step : {e : Bool} (x : List ℕ) (b : Bytes x) → At P M area e → Allowed text (role_of (read x b) (outcome_of area (read x b)))
@@ -189,7 +188,7 @@ module _ (P : Params) (M : List Bool) (area : List ℕ) (text : Option (List ℕ
       by : (k : ℕ) → read_number area x ≡ k → Step P M area e text c
       by (suc k) q = refused c k (number ∙ q) (ap (λ (t : Taken). t.area) (sym (read-refused area x (suc k) (sym q) (omega arith))))
       by zero q =
-          let t : text ≡ some x = rw (role_of_lem c (number ∙ q)) at a in
+          let t : text ≡ Some x = rw (role_of_lem c (number ∙ q)) at a in
           record {
             after = e;
             effect = moved (share_of_lem c (number ∙ q)) (at_resumed area area x at (read-text x t) q);
@@ -210,7 +209,7 @@ module _ (P : Params) (M : List Bool) (area : List ℕ) (text : Option (List ℕ
       by : (k : ℕ) → read_number other x ≡ k → Step P M area e text c
       by (suc k) q = refused c k (number ∙ q) (ap (λ (j : ℕ). unless j area (read_of other x).area) (number ∙ q))
       by zero q =
-          let t : text ≡ some x = rw (role_of_lem c (number ∙ q)) at a in
+          let t : text ≡ Some x = rw (role_of_lem c (number ∙ q)) at a in
           let z : (read_of other x).number ≡ 0 = number ∙ q in
           let to : (outcome_of area c).area ≡ (read_of other x).area = cc in
           record {

@@ -1,7 +1,6 @@
 -- Laws: the proof of demand 3 over the list of calls, by their effects.
-use Rattle.std.specs.Prelude.{◌≡◌, refl, Bool, true, false, ℕ, length, drop}
+use Rattle.std.specs.Prelude.{◌≡◌, refl, Bool, true, false, Option, Some, None, ℕ, length, drop}
 use Rattle.std.proofs.Common.{sym, ap, ◌∙◌, subst, zero-add, add-zero, add_assoc, arith, length-append}
-use Rattle.std.proofs.Math.Option.{Option, none, some}
 use mathlib.Core.List.{List, [], ◌∷◌, ◌++◌, append_assoc, append-nil, head-eq_of_cons-eq, tail-eq_of_cons-eq}
 use Rattle.tree.specs.Tree.{Params, order, digest, digest_bytes, node_log}
 use Rattle.calls.specs.Calls.{open_of, preview_of, close_of}
@@ -20,9 +19,9 @@ joined_none : (s : Share) → joined_shares s nothing ≡ s
 unfolding joined_shares
 joined_none s = rw (append-nil s.bits, append-nil s.log, add-zero s.count, last s.output) refl
   where
-    last : (o : Option (List ℕ)) → first_of o none ≡ o
-    last none = refl
-    last (some out) = refl
+    last : (o : Option (List ℕ)) → first_of o None ≡ o
+    last None = refl
+    last (Some out) = refl
 
 none_joined : (s : Share) → joined_shares nothing s ≡ s
 unfolding joined_shares
@@ -34,8 +33,8 @@ joined_assoc a b c =
     rw (append_assoc a.bits b.bits c.bits, append_assoc a.log b.log c.log, add_assoc a.count b.count c.count, first a.output) refl
   where
     first : (o : Option (List ℕ)) → first_of (first_of o b.output) c.output ≡ first_of o (first_of b.output c.output)
-    first none = refl
-    first (some out) = refl
+    first None = refl
+    first (Some out) = refl
 
 -- ---- what the calls so far added, and the area as the last of them left it
 
@@ -43,14 +42,14 @@ pub record Going (P : Params) (s : Share) (area : List ℕ) : Type 0 where
   pub stands : Stands P s.bits area
   pub log : s.log ≡ node_log (settled (order P s.bits))
   pub count : s.count ≡ length (settled (order P s.bits))
-  pub output : s.output ≡ none
+  pub output : s.output ≡ None
 
 pub record Over (P : Params) (s : Share) (area : List ℕ) : Type 0 where
   pub ended : HasEnded P s.bits area
   pub log : s.log ≡ node_log (all_nodes (order P s.bits))
   pub count : s.count ≡ length (order P s.bits)
   pub out : List ℕ
-  pub output : s.output ≡ some out
+  pub output : s.output ≡ Some out
   pub digest : digest_in P out ≡ digest P s.bits
 
 pub data Fits (P : Params) (s : Share) (area : List ℕ) : Bool → Type 0 where
@@ -155,14 +154,14 @@ opened r = record {
 
 pub run_fits : (r : Run) → (e : Bool) × Fits r.params (shares (answers_of r)) (area_of r) e
 run_fits r =
-    let f = list-fits r.params nothing (open_of r.area r.params).area none r.calls (going (opened r)) tt r.goes in
+    let f = list-fits r.params nothing (open_of r.area r.params).area None r.calls (going (opened r)) tt r.goes in
     (f.0, rw (none_joined (shares (answers_of r))) at f.1)
 
 run_reached : (r : Run) (before : List Answered) (a : Answered) (after : List Answered) → answers_of r ≡ before ++ (a ∷ after)
     → Reached r.params (shares before) a
 run_reached r before a after q =
     rw (none_joined (shares before)) at
-    (list_reached r.params nothing (open_of r.area r.params).area none r.calls (going (opened r)) tt r.goes before a after q)
+    (list_reached r.params nothing (open_of r.area r.params).area None r.calls (going (opened r)) tt r.goes before a after q)
 
 pub run-previews : (r : Run) (before : List Answered) (out : List ℕ) (b : Bytes out) (o : Outcome) (after : List Answered)
     → answers_of r ≡ before ++ (record { call = preview out b; outcome = o } ∷ after) → o.number ≡ 0

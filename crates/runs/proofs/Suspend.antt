@@ -1,7 +1,6 @@
 -- Laws: an area that stands for a message, open or ended: when its text is read into any area, that area stands for the same message.
-use Rattle.std.specs.Prelude.{◌≡◌, Bool, true, false, List, [], ◌∷◌, ◌++◌, ℕ, ◌^◌, ◌≤◌, length, take, drop}
+use Rattle.std.specs.Prelude.{◌≡◌, Bool, true, false, Some, List, [], ◌∷◌, ◌++◌, ℕ, ◌^◌, ◌≤◌, length, take, drop}
 use Rattle.std.proofs.Common.{sym, ap, ◌∙◌, arith, take_at, take-take, length-take-le}
-use Rattle.std.proofs.Math.Option.{some}
 use Rattle.lists.specs.Below.{Below}
 use Rattle.tree.specs.Tree.{Params}
 use Rattle.calls.specs.Area.{own_words, params_of, sound}
@@ -69,7 +68,7 @@ at_resumed area into text s t e =
     let long = (at_head s).long in
     let n = own-front area long in
     let new : List ℕ = take (own_words area) area in
-    let spelt : read_area text ≡ some new = ap read_area t ∙ (at_read area s).area in
+    let spelt : read_area text ≡ Some new = ap read_area t ∙ (at_read area s).area in
     let fits : own_words new ≤ length into = rw spelt at p.1 in
     let front : take (own_words area) (new ++ drop (own_words area) into) ≡ new = take_at new (drop (own_words area) into) (own_words area) (length-take-le (own_words area) area long) in
     rw (read-accepted into text new fits spelt p.0, n) (at_moved (new ++ drop (own_words area) into) (sym front) s)

@@ -1,7 +1,6 @@
 -- Definitions: runs. Document 01, "Runs", and document 02, M-103, M-104 and M-106: a list of calls on one stream, from an accepted open
 -- on, and its message, log, count and digest. Each call answers by the definition that the contract of its function is an equation with.
-use Rattle.std.specs.Prelude.{◌≡◌, Bool, List, [], ◌∷◌, ◌++◌, ℕ, zero, suc, ◌+◌, ◌*◌, ◌^◌, ◌<◌, take}
-use Rattle.std.proofs.Math.Option.{Option, none, some}
+use Rattle.std.specs.Prelude.{◌≡◌, Bool, Option, Some, None, List, [], ◌∷◌, ◌++◌, ℕ, zero, suc, ◌+◌, ◌*◌, ◌^◌, ◌<◌, take}
 use Rattle.lists.specs.Below.{Below}
 use Rattle.bits.specs.Piece.{Piece, piece_bits}
 use Rattle.tree.specs.Tree.{Params, digest_bytes}
@@ -111,16 +110,16 @@ role_of c o = unless o.number between (accepted_role c o)
 -- stand between; the read of it is such a call too
 abbrev pub suspended : Option (List ℕ) → Role → Option (List ℕ)
 suspended before between = before
-suspended before (writes text) = some text
-suspended before (reads text) = none
-suspended before outside = none
-suspended before opens = none
+suspended before (writes text) = Some text
+suspended before (reads text) = None
+suspended before outside = None
+suspended before opens = None
 
 -- "The accepted reads in it are those of suspensions"; "open where it is refused"
 abbrev pub Allowed : Option (List ℕ) → Role → Type 0
 Allowed before between = Unit {0}
 Allowed before (writes text) = Unit {0}
-Allowed before (reads text) = before ≡ some text
+Allowed before (reads text) = before ≡ Some text
 Allowed before outside = Unit {0}
 Allowed before opens = ⊥
 
@@ -141,7 +140,7 @@ pub record Run : Type 0 where
   pub words : Words area
   pub bytes : Bytes params.key
   pub opened : (open_of area params).number ≡ 0
-  pub goes : Goes (open_of area params).area none calls
+  pub goes : Goes (open_of area params).area None calls
 
 -- the calls with their outcomes, and the area as the last of them left it
 pub record Answered : Type 0 where
@@ -167,7 +166,7 @@ pub record Share : Type 0 where
   pub output : Option (List ℕ)
 
 abbrev pub nothing : Share
-nothing = record { bits = []; log = []; count = 0; output = none }
+nothing = record { bits = []; log = []; count = 0; output = None }
 
 -- an accepted call: "The message of a run is the bits of its accepted feeds"; "Its log joins, in order, the logs of its accepted
 -- feeds and end: of each the first 2c words as the call left them, c being the count it returned."; told words are no part of the
@@ -175,12 +174,12 @@ nothing = record { bits = []; log = []; count = 0; output = none }
 -- the run's digest"
 abbrev pub accepted_share : Call → Outcome → Share
 accepted_share (feed piece log _ _ _ _) o =
-    record { bits = piece_bits piece; log = take (2 * o.count) o.log; count = o.count; output = none }
+    record { bits = piece_bits piece; log = take (2 * o.count) o.log; count = o.count; output = None }
 accepted_share (end digest log _ _) o =
-    record { bits = []; log = take (2 * o.count) o.log; count = o.count; output = some o.output }
+    record { bits = []; log = take (2 * o.count) o.log; count = o.count; output = Some o.output }
 accepted_share (preview digest _) o = nothing
 accepted_share (close figure log _ _) o =
-    record { bits = []; log = take (2 * o.count) o.log; count = o.count; output = some figure }
+    record { bits = []; log = take (2 * o.count) o.log; count = o.count; output = Some figure }
 accepted_share (show level) o = nothing
 accepted_share (log_words bits _) o = nothing
 accepted_share (write text _) o = nothing
@@ -193,8 +192,8 @@ unfoldable pub share_of : Call → Outcome → Share
 share_of c o = unless o.number nothing (accepted_share c o)
 
 abbrev pub first_of : Option (List ℕ) → Option (List ℕ) → Option (List ℕ)
-first_of none later = later
-first_of (some out) later = some out
+first_of None later = later
+first_of (Some out) later = Some out
 
 -- bits and logs "joined in order"; "Its count is the sum of these counts"
 unfoldable pub joined_shares : Share → Share → Share

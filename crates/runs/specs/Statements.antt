@@ -1,7 +1,6 @@
 -- Definitions: what is said of every run (`Demand3`, `Table`) and of two runs that both ended (`Same`), and the functions that
 -- these statements use. Their theorems are `demand3`, `table`, `same_runs`, `same-cuts` and `run-collision`.
-use Rattle.std.specs.Prelude.{◌≡◌, Bool, true, false, not, ◌⊎◌, List, [], ◌∷◌, ◌++◌, ℕ, ◌-◌, ◌*◌, ◌^◌, ◌≤◌, ◌<◌, length, drop}
-use Rattle.std.proofs.Math.Option.{Option, none, some}
+use Rattle.std.specs.Prelude.{◌≡◌, Bool, true, false, not, ◌⊎◌, Option, Some, None, List, [], ◌∷◌, ◌++◌, ℕ, ◌-◌, ◌*◌, ◌^◌, ◌≤◌, ◌<◌, length, drop}
 use Rattle.bits.specs.Piece.{Piece, piece_bits, first_part, second_part}
 use Rattle.tree.specs.Tree.{Params, Valid, Node, Mark, order, digest_bytes, digest, node_log}
 use Rattle.refusals.specs.Refusals.{first_refusal, param_tests, output_test}
@@ -16,16 +15,16 @@ use Rattle.runs.specs.Runs.{Bytes, Words, Call, feed, end, preview, close, show,
 -- "U and V, in the order of nodes, of the nodes of its tree: all of them if an end was accepted, otherwise those that do not
 -- reach the last bit": an end was accepted, or a close, which M-106 has for "the accepted end of its run", if there is an output of it
 abbrev pub nodes_for : Option (List ℕ) → List Mark → List Node
-nodes_for none marks = settled marks
-nodes_for (some out) marks = all_nodes marks
+nodes_for None marks = settled marks
+nodes_for (Some out) marks = all_nodes marks
 
 abbrev pub nodes_of : Run → List Node
 nodes_of r = nodes_for (output_of r) (order r.params (message_of r))
 
 -- "Word 0: 1 open, 2 ended"
 abbrev pub phase_for : Option (List ℕ) → ℕ
-phase_for none = 1
-phase_for (some out) = 2
+phase_for None = 1
+phase_for (Some out) = 2
 
 pub record Demand3 (r : Run) : Type 0 where
   -- "After every run, ended or not, the log is U and V, in the order of nodes, of the nodes of its tree"
@@ -42,7 +41,7 @@ pub record Demand3 (r : Run) : Type 0 where
       → answers_of r ≡ before ++ (record { call = close figure log b w; outcome = o } ∷ after) → o.number ≡ 0
       → figure ≡ digest r.params (shares before).bits
   -- "After an accepted end the digest is the tree's."
-  pub digest : (out : List ℕ) → output_of r ≡ some out → digest_in r.params out ≡ digest r.params (message_of r)
+  pub digest : (out : List ℕ) → output_of r ≡ Some out → digest_in r.params out ≡ digest r.params (message_of r)
   -- "Which calls are accepted follows from the table: after the open the area is sound, it has ended once an end was accepted, the
   -- total is the message's length": the area as the last call left it
   pub long : area_words r.params.limit ≤ length (area_of r)
@@ -58,8 +57,8 @@ pub record Demand3 (r : Run) : Type 0 where
 
 -- "10, 0: area has ended": an end was accepted, or a close
 abbrev pub ended_test : Option (List ℕ) → Bool × ℕ
-ended_test none = (false, 10)
-ended_test (some out) = (true, 10)
+ended_test None = (false, 10)
+ended_test (Some out) = (true, 10)
 
 -- the nodes that a feed of the bits Y makes after M, and those that the end makes: "a call makes the nodes that it adds to the log"
 abbrev pub feed_makes : Params → List Bool → List Bool → ℕ
@@ -113,7 +112,7 @@ pub record Table (r : Run) : Type 0 where
 -- an end was accepted, or a close: its output, or its figure
 pub record EndedRun (r : Run) : Type 0 where
   pub out : List ℕ
-  pub is : output_of r ≡ some out
+  pub is : output_of r ≡ Some out
 
 -- the run's digest
 abbrev pub digest_of : (r : Run) → EndedRun r → List ℕ

@@ -4,8 +4,16 @@ use Rattle.std.proofs.Common.{sym, ◌∙◌, arith, eq-eqb, ne_eqb, eqb-true}
 use Rattle.std.proofs.Math.Nat.{pow-succ'}
 use Rattle.std.proofs.lemmas.Bool.{eqb-false}
 use Rattle.tree.specs.Tree.{blocks, block_bits, sequential_bits, output_bits, most_levels}
+use Rattle.tree.specs.Sizes.{nodes_from}
 use Rattle.shape.specs.Shape.{taken, block_padding, sequential_nodes, sequential_padding, top_from, top_level}
 use Rattle.tree.proofs.Count.{level_nodes, fourth, level_nodes-one, level_nodes-suc, level_nodes_some}
+
+-- the nodes from a level of several up: they, and those from the level above them up
+pub nodes-more : (n c : ℕ) → 0 < n → (c ≡ 1 → ⊥) → nodes_from n c ≡ c + nodes_from (n - 1) (blocks 4 c)
+nodes-more zero c h g = absurd (omega arith)
+nodes-more (suc n) c h g =
+    let e : suc n - 1 ≡ n = omega arith in
+    rw (ne_eqb c 1 g, e)
 
 pub level_nodes-more : (m level : ℕ) → 0 < level → level_nodes m (level + 1) ≡ blocks 4 (level_nodes m level)
 level_nodes-more m zero h = absurd (omega arith)
@@ -102,29 +110,29 @@ top_some m (suc n) level = go (eqb (level_nodes m level) 1) (top_some m n (suc l
     go true h = omega arith
     go false h = omega arith
 
-pub top_start : (limit m : ℕ) → top_from m (limit - (1 - 1)) 1 ≡ top_level limit m
+pub top_start : (limit m : ℕ) → top_from m (limit + 1 - 1) 1 ≡ top_level limit m
 top_start limit m =
-    let e : limit - (1 - 1) ≡ limit = omega arith in
+    let e : limit + 1 - 1 ≡ limit = omega arith in
     rw e
 
-pub top-more : (limit m level : ℕ) → 0 < level → level ≤ limit → (level_nodes m level ≡ 1 → ⊥)
-    → top_from m (limit - (level - 1)) level ≡ top_from m (limit - (level + 1 - 1)) (level + 1)
+pub top-more : (limit m level : ℕ) → level ≤ limit → (level_nodes m level ≡ 1 → ⊥)
+    → top_from m (limit + 1 - level) level ≡ top_from m (limit + 1 - (level + 1)) (level + 1)
 unfolding top_from
-top-more limit m level h g n =
-    let e : limit - (level - 1) ≡ suc (limit - (level + 1 - 1)) = omega arith in
+top-more limit m level g n =
+    let e : limit + 1 - level ≡ suc (limit + 1 - (level + 1)) = omega arith in
     let s : level + 1 ≡ suc level = omega arith in
     rw (e, ne_eqb (level_nodes m level) 1 n, s)
 
-pub top-past : (limit m level : ℕ) → limit < level → top_from m (limit - (level - 1)) level ≡ level
+pub top-past : (limit m level : ℕ) → limit < level → top_from m (limit + 1 - level) level ≡ level
 unfolding top_from
 top-past limit m level h =
-    let e : limit - (level - 1) ≡ 0 = omega arith in
+    let e : limit + 1 - level ≡ 0 = omega arith in
     rw e
 
-pub top_one : (limit m level : ℕ) → 0 < level → level ≤ limit → level_nodes m level ≡ 1 → top_from m (limit - (level - 1)) level ≡ level
+pub top_one : (limit m level : ℕ) → level ≤ limit → level_nodes m level ≡ 1 → top_from m (limit + 1 - level) level ≡ level
 unfolding top_from
-top_one limit m level h g e =
-    let k : limit - (level - 1) ≡ suc (limit - (level + 1 - 1)) = omega arith in
+top_one limit m level g e =
+    let k : limit + 1 - level ≡ suc (limit + 1 - (level + 1)) = omega arith in
     rw (k, eq-eqb (level_nodes m level) 1 e)
 
 -- ---- at most 27 levels

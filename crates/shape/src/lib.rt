@@ -17,10 +17,7 @@ pub fn blocks_of(size: u64, m: u64) -> u64
     requires { 0 < size }
     ensures { result ≡ blocks size m }
 {
-    if m == 0 {
-        return 1;
-    }
-    (m - 1) / size + 1
+    m.div_ceil(size).max(1)
 }
 
 // How many of m things the node at an index takes, of so many that it has room for.
@@ -28,11 +25,7 @@ pub fn taken(size: u64, m: u64, index: u64) -> u64
     requires { size * index ≤ m }
     ensures { result ≡ taken size m index }
 {
-    let rest = m - size * index;
-    if rest < size {
-        return rest;
-    }
-    size
+    size.min(m - size * index)
 }
 
 // The nodes of a tree, level by level.
@@ -45,17 +38,15 @@ pub fn tree_nodes(limit: u64, bits: u64) -> u64
     }
     let mut sum: u64 = 0;
     let mut nodes = blocks_of(Block::BITS, bits);
-    let mut left = limit - 1;
-    while 0 < left {
+    for level in 1..limit {
         if nodes == 1 {
-            return sum + nodes;
+            return sum + 1;
         }
         sum += nodes;
         nodes = blocks_of(4, nodes);
-        left -= 1;
     }
     if nodes == 1 {
-        return sum + nodes;
+        return sum + 1;
     }
     sum + nodes + blocks_of(3, nodes)
 }
@@ -66,10 +57,8 @@ pub fn nodes_at(bits: u64, level: u64) -> u64
     ensures { result ≡ level_nodes bits level }
 {
     let mut nodes = blocks_of(Block::BITS, bits);
-    let mut at: u64 = 1;
-    while at < level {
+    for at in 1..level {
         nodes = blocks_of(4, nodes);
-        at += 1;
     }
     nodes
 }
@@ -89,16 +78,14 @@ pub fn top_level(limit: u64, bits: u64) -> u64
     requires { limit ≤ most_limit }
     ensures { (result ≡ top_level limit bits) × (result ≤ Params.LEVELS) }
 {
-    let mut level: u64 = 1;
     let mut nodes = blocks_of(Block::BITS, bits);
-    while level <= limit {
+    for level in 1..=limit {
         if nodes == 1 {
             return level;
         }
         nodes = blocks_of(4, nodes);
-        level += 1;
     }
-    level
+    limit + 1
 }
 
 // The padding bits in the block of the node at a parallel level and an index.
@@ -128,8 +115,5 @@ pub fn last_flag(index: u64, nodes: u64) -> u64
     requires { index < nodes }
     ensures { (result ≡ digit (eqb (suc index) nodes)) × (result ≤ 1) }
 {
-    if index + 1 == nodes {
-        return 1;
-    }
-    0
+    u64::from(index + 1 == nodes)
 }

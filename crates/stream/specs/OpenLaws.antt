@@ -1,18 +1,16 @@
--- Laws: of `open_of` in Calls: the area as the code writes it, and its number.
-use Rattle.std.specs.Prelude.{◌≡◌, refl, Bool, List, [], ◌∷◌, ◌++◌, ℕ, ◌+◌, ◌-◌, ◌*◌, ◌≤◌, ltb, length, take, drop, replicate}
+-- Laws: of `open_of` in Calls: the area as the code writes it.
+use Rattle.std.specs.Prelude.{◌≡◌, refl, List, [], ◌∷◌, ◌++◌, ℕ, ◌+◌, ◌-◌, ◌*◌, ◌≤◌, length, take, drop, replicate}
 use Rattle.std.proofs.Common.{ap, ◌∙◌, arith}
 use Rattle.std.proofs.lemmas.List.{replicate-append-replicate}
 use Rattle.std.proofs.lemmas.List.Edits.{sets}
 use Rattle.lists.specs.Part.{put}
 use Rattle.lists.specs.PartLaws.{next-part, first_stores}
 use Rattle.bits.specs.Bits.{filled}
-use Rattle.tree.specs.Tree.{Params, key_words}
-use Rattle.refusals.specs.Refusals.{first_refusal, param_tests}
+use Rattle.tree.specs.Tree.{key_words}
 use Rattle.node.specs.DigestLaws.{key-filled}
 use Rattle.calls.specs.Area.{block_words, area_levels, area_words}
 use Rattle.calls.proofs.AreaLaws.{flatten-empty}
-use Rattle.calls.specs.Calls.{short_test, open_number, opened_area}
-use Rattle.numbers.specs.NumberLaws.{part-number}
+use Rattle.calls.specs.Calls.{opened_area}
 
 -- the area after the first six words were stored, the rest cleared, and K written
 pub open_written : (area key : List ℕ) (d limit rounds e : ℕ) → e ≡ area_words limit → e ≤ length area → length key ≤ 64
@@ -35,9 +33,3 @@ open_written area key d limit rounds e q h g =
     ap (λ (Z : List ℕ). put 6 8 Z (filled (take 8 (drop 6 Z)) 0 key 0 (8 * length key))) z
     ∙ ap (λ (K : List ℕ). vs ++ (K ++ (0 ∷ 0 ∷ (replicate m 0 ++ tail)))) f
     ∙ rw (flatten-empty (area_levels limit)) refl
-
--- its number, by that of the parameters and whether the area has too few words
-pub open_numbers : {n range : ℕ} {few : Bool} (area : List ℕ) (P : Params) → range ≡ first_refusal (param_tests P) → few ≡ (short_test area P.limit).0
-    → n ≡ first_refusal ((ltb 0 range, range) ∷ (few, 7) ∷ []) → n ≡ open_number area P
-unfolding open_number
-open_numbers area P r f e = e ∙ rw (r, f) (part-number (param_tests P) (short_test area P.limit ∷ []) refl)

@@ -4,16 +4,14 @@
 
 ghost use Rattle.std.specs.Prelude.{◌≤◌, ◌<◌};
 
+use refusals::Refusal;
 use std::io;
 
 // The words of an area for a height limit, by document 02, M-109: 16, and 64 times the smaller of L + 1 and 27.
 pub fn area_words(limit: u64) -> usize
     ensures { (80 ≤ result) × (result ≤ 1744) }
 {
-    if limit < 26 {
-        return 16 + 64 * (limit as usize + 1);
-    }
-    1744
+    16 + 64 * (limit.min(26) + 1) as usize
 }
 
 // Writes bytes in hexadecimal.
@@ -24,49 +22,39 @@ pub fn bytes(rt: &impl Print, bytes: &[u8]) -> io::Result<()> {
     Ok(())
 }
 
-// Writes the number and the count of an answer.
-pub fn answer(rt: &impl Print, number: u64, count: u64) -> io::Result<()> {
-    print!(rt; "{number} {count}")
-}
-
-// Whether words are those of a copy, from a place on.
-fn is_same(words: &[u64], before: &[u64], from: usize) -> bool {
-    for i in from..words.len() {
-        if before.len() <= i {
-            return false;
-        }
-        if words[i] != before[i] {
-            return false;
-        }
+// Writes what a call answered, as C is told: 0 and the count, or the number that refuses it and 0.
+pub fn answer(rt: &impl Print, told: Result<u64, Refusal>) -> io::Result<()> {
+    match told {
+        Ok(count) => print!(rt; "0 {count}"),
+        Err(refusal) => print!(rt; "{} 0", refusal.number()),
     }
-    true
 }
 
 // Writes whether words are those of a copy, from a place on.
 pub fn same(rt: &impl Print, words: &[u64], before: &[u64], from: usize) -> io::Result<()> {
-    if is_same(words, before, from) {
+    if words.get(from..) == before.get(from..words.len()) {
         return print!(rt; " same");
     }
     print!(rt; " changed")
 }
 
-// What follows a word: the last of a row ends the line.
-fn between(rt: &impl Print, i: usize, width: usize) -> io::Result<()>
-    requires { 0 < width }
-{
-    if i % width == width - 1 {
-        return println!(rt; "");
+// Writes words as a line.
+fn row(rt: &impl Print, words: &[u64]) -> io::Result<()> {
+    for (i, word) in words.iter().enumerate() {
+        if 0 < i {
+            print!(rt; " ")?;
+        }
+        print!(rt; "{word:016x}")?;
     }
-    print!(rt; " ")
+    println!(rt; "")
 }
 
-// Writes the first words, in rows of so many: a log in rows of two, a node a line.
-pub fn rows(rt: &impl Print, words: &[u64], count: usize, width: usize) -> io::Result<()>
+// Writes words in rows of so many: a log in rows of two, a node a line.
+pub fn rows(rt: &impl Print, words: &[u64], width: usize) -> io::Result<()>
     requires { 0 < width }
 {
-    for (i, word) in words.iter().take(count).enumerate() {
-        print!(rt; "{word:016x}")?;
-        between(rt, i, width)?;
+    for words in words.chunks(width) {
+        row(rt, words)?;
     }
     Ok(())
 }

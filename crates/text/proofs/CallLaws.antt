@@ -1,15 +1,14 @@
 -- What write and read answer, by what the code makes.
 use mathlib.Core.Path.{◌≡◌, refl, sym, ap, ◌∙◌}
-use mathlib.Core.Bool.{Bool, true, false, not, cond}
+use mathlib.Core.Bool.{true, false}
 use mathlib.Core.List.{List, [], ◌∷◌, ◌++◌}
-use mathlib.Core.Option.{some}
-use Prim.Native.Nat.{ℕ, ◌+◌, ◌-◌, ◌≤◌, ◌<◌}
+use Rattle.std.proofs.Common.{Option, Some, None, Ok, Err, subst}
+use Rattle.std.specs.Prelude.{MatchOption, ok_or}
+use Prim.Native.Nat.{ℕ, ◌≤◌, ◌<◌}
 use native.Mathlib.Omega.{arith}
 use borrow.Author.Tests.{lt-ltb, le-ltb}
-use borrow.Rule.Slice.PartMut.{put_mid}
-use lib.Dec.{ltb}
 use lib.ListN.{length, take, drop, get_or}
-use lib.Seq.{paste, take_all, length-take-le}
+use Rattle.refusals.specs.declared.Refusal.{Refusal}
 use Rattle.refusals.specs.Refusals.{first_refusal, output_test}
 use Rattle.refusals.specs.RefusalLaws.{first_part}
 use Rattle.calls.specs.Area.{area_words, own_words}
@@ -18,7 +17,7 @@ use Rattle.area.specs.SoundLaws.{LongSound}
 use Rattle.calls.proofs.AreaLaws.{limit-word}
 use Rattle.texts.specs.Text.{text_of, read_area, readable, area_in, Written, write_number, write_of, Taken, read_number, read_of}
 use Rattle.texts.proofs.LayoutLaws.{own-front}
-use Rattle.texts.proofs.ReadLaws.{number_by, read-passed, read-accepted, write-accepted}
+use Rattle.texts.proofs.ReadLaws.{number_by, read-accepted, write-accepted}
 
 abbrev written : ℕ → ℕ → List ℕ → Written
 written number count text = record { number = number; count = count; text = text }
@@ -37,62 +36,44 @@ write-output area out s h =
     rw (le-ltb (length area) (own_words area) s.long, s.is_sound, lt-ltb (length out) (length (text_of area)) h)
 
 pub write_done : (area out : List ℕ) (n : ℕ) (ys : List ℕ) → LongSound area → n ≡ length (text_of area)
-    → n ≤ length out → ys ≡ text_of area → record { number = 0; count = n; text = put_mid 0 (n - 0) out ys } ≡ write_of area out
+    → n ≤ length out → ys ≡ text_of area → written 0 n (ys ++ drop n out) ≡ write_of area out
 write_done area out n ys s size l y =
-    let k : n - 0 ≡ n = omega arith in
-    ap (λ (m : ℕ). written 0 n (put_mid 0 m out ys)) k
-    ∙ ap (λ (x : List ℕ). written 0 n (x ++ drop n out)) y
+    ap (λ (x : List ℕ). written 0 n (x ++ drop n out)) y
     ∙ ap (λ (m : ℕ). written 0 m (text_of area ++ drop m out)) size
     ∙ sym (write-accepted area out s.long s.is_sound (omega (arith, size)))
 
--- r says whether a text is read; if it is, the words s begin with the area that it spells, as many as n
-pub record Tried (text s : List ℕ) (n : ℕ) (r : Bool) : Type 0 where
-  pub size : n ≡ area_words (get_or s 4 0)
-  pub room : n ≤ length s
-  pub is : r ≡ readable text
-  pub spells : r ≡ true → read_area text ≡ some (take (own_words s) s)
+-- what spells a text answers none or some: then the read is refused or goes on
+pub told-none : {A : Type 0} (P : Type 0) (Q : A → Type 0) (o : Option A) (e r : Refusal) → ok_or o e ≡ Err r → MatchOption o P Q → (r ≡ e) × P
+told-none P Q None e r q m = (cc, m)
+told-none P Q (Some a) e r q m = cc
 
-module _ (area text s : List ℕ) (n : ℕ) (r : Bool) (t : Tried text s n r) where
+pub told-some : {A : Type 0} (P : Type 0) (Q : A → Type 0) (o : Option A) (e : Refusal) (a : A) → ok_or o e ≡ Ok a → MatchOption o P Q → Q a
+told-some P Q None e a q m = cc
+told-some P Q (Some b) e a q m = subst Q (let k : b ≡ a = cc in k) m
+
+-- a text that is not read
+pub read-text : (area text : List ℕ) → readable text ≡ false → 11 ≡ read_number area text
+read-text area text e = sym (number_by area text false _ e refl)
+
+-- a text that is read: the words s begin with the area that it spells, as many as n
+module _ (area text s : List ℕ) (n : ℕ) (size : n ≡ area_words (get_or s 4 0)) (room : n ≤ length s)
+    (told : (readable text ≡ true) × (read_area text ≡ Some (take (own_words s) s))) where
   abbrev new : List ℕ
   new = take (own_words s) s
 
   own-size : own_words s ≡ n
-  own-size = omega (arith, limit-word s, t.size)
+  own-size = omega (arith, limit-word s, size)
 
   new-size : own_words new ≡ n
-  new-size = own-front s (omega (arith, own-size, t.room)) ∙ own-size
+  new-size = own-front s (omega (arith, own-size, room)) ∙ own-size
 
-  -- the number, which goes by n only if the text is read
-  pub read-decided : first_refusal ((not r, 11) ∷ (ltb (length area) n, 7) ∷ []) ≡ read_number area text
-  read-decided = by r refl
-    where
-      by : (b : Bool) → r ≡ b → first_refusal ((not b, 11) ∷ (ltb (length area) n, 7) ∷ []) ≡ read_number area text
-      by true e =
-          let a : own_words (area_in text) ≡ n = rw (t.spells e) new-size in
-          by-short (ltb (length area) n) ∙ sym (number_by area text true (ltb (length area) n) (sym t.is ∙ e) (ap (ltb (length area)) a))
-        where
-          by-short : (b : Bool) → first_refusal ((false, 11) ∷ (b, 7) ∷ []) ≡ cond b 7 0
-          by-short true = refl
-          by-short false = refl
-      by false e = sym (number_by area text false _ (sym t.is ∙ e) refl)
+  -- the area is short for it
+  pub read-area : length area < n → 7 ≡ read_number area text
+  read-area h =
+      let a : own_words (area_in text) ≡ n = rw told.1 new-size in
+      sym (number_by area text true true told.0 (lt-ltb (length area) (own_words (area_in text)) (omega (arith, a))))
 
-  module _ (e : 0 ≡ read_number area text) where
-    yes : readable text ≡ true
-    yes = (read-passed area text (sym e)).0
-
-    spelt : read_area text ≡ some new
-    spelt = t.spells (t.is ∙ yes)
-
-    pub read-room : n ≤ length area
-    read-room = let p = rw spelt at (read-passed area text (sym e)).1 in omega (arith, p, new-size)
-
-    pub read_done : (last : List ℕ) → last ≡ paste area 0 (take (n - 0) s) (length (take (n - 0) s))
-        → record { number = 0; count = 0; area = last } ≡ read_of area text
-    read_done last p =
-        let i : n - 0 ≡ own_words s = omega (arith, own-size) in
-        let m : length new ≡ n = length-take-le (own_words s) s (omega (arith, own-size, t.room)) ∙ own-size in
-        let k : 0 + length new ≡ own_words new = omega (arith, new-size) in
-        let q : last ≡ new ++ drop (own_words new) area =
-        p ∙ ap (λ (j : ℕ). paste area 0 (take j s) (length (take j s))) i
-        ∙ ap (λ (x : List ℕ). x ++ drop (0 + length new) area) (take_all (length new) new (omega arith)) ∙ ap (λ (j : ℕ). new ++ drop j area) k in
-        ap taken q ∙ sym (read-accepted area text new (omega (arith, new-size, read-room)) spelt yes)
+  pub read_done : (ys : List ℕ) → ys ≡ take n s → n ≤ length area → taken (ys ++ drop n area) ≡ read_of area text
+  read_done ys y h =
+      ap (λ (x : List ℕ). taken (x ++ drop n area)) (y ∙ ap (λ (j : ℕ). take j s) (sym own-size)) ∙ ap (λ (j : ℕ). taken (new ++ drop j area)) (sym new-size)
+      ∙ sym (read-accepted area text new (omega (arith, new-size)) told.1 told.0)

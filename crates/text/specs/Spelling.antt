@@ -1,29 +1,12 @@
--- Laws: what the code says of digits that are spelt: of a level's line, and of a whole text.
-use Rattle.std.specs.Prelude.{◌≡◌, Bool, true, false, List, [], ℕ, ◌*◌, length, take, drop, replicate}
-use Rattle.std.proofs.Math.Option.{Option, none, some, get_or}
-use Rattle.lists.specs.Part.{put}
-use Rattle.calls.specs.Area.{block_words, own_words, level_start}
-use Rattle.digits.specs.Digits.{spelt_words, all_spelt}
-use Rattle.texts.specs.Text.{text_with, spelt_area, readable_with}
+-- Laws: what the code says of digits that are spelt: of a level's line.
+use Rattle.std.specs.Prelude.{Option, List, ℕ, ◌*◌, drop, replicate}
+use Rattle.calls.specs.Area.{block_words}
+use Rattle.digits.specs.Digits.{spelt_words}
 
 -- the words of n levels that hold nothing
 unfoldable pub zero_levels : ℕ → List ℕ
 zero_levels n = replicate (block_words * n) 0
 
--- the words, where each is spelt
-abbrev pub values : List (Option ℕ) → List ℕ
-values ws = get_or (all_spelt ws) []
-
 -- the words that a level's line spells
 abbrev pub level_spelt : List ℕ → List (Option ℕ)
 level_spelt line = spelt_words block_words (drop 2 line)
-
--- whether a line spells a level's words; if so, the area on exit, last, is the area on entry with these words in the level's place
-pub record LevelSpelt (r : Bool) (level : ℕ) (line area last : List ℕ) : Type 0 where
-  pub yes : r ≡ true → (all_spelt (level_spelt line) ≡ some (values (level_spelt line))) × (last ≡ put (level_start level) block_words area (values (level_spelt line)))
-  pub no : r ≡ false → all_spelt (level_spelt line) ≡ none
-
--- whether a text, with r in w bytes, spells an area whose text is as long; if so, that area is at hand, in the first of longer words
-pub record Spelt (w : ℕ) (r : Bool) (text area : List ℕ) : Type 0 where
-  pub yes : r ≡ true → (spelt_area w text ≡ some (take (own_words area) area)) × (length text ≡ length (text_with w area))
-  pub no : r ≡ false → readable_with w text ≡ false

@@ -1,8 +1,7 @@
 -- Examples: texts by computing: of an opened area, of areas that hold bits, of an ended one; and texts that are read and that are not,
 -- in both forms.
-use Rattle.std.specs.Prelude.{◌≡◌, refl, true, ℕ, ◌+◌, ◌-◌, ◌*◌, ◌^◌, take, drop, replicate}
+use Rattle.std.specs.Prelude.{◌≡◌, refl, true, None, ℕ, ◌+◌, ◌-◌, ◌*◌, ◌^◌, take, drop, replicate}
 use mathlib.Core.List.{List, [], ◌∷◌, ◌++◌, map}
-use Rattle.std.proofs.Math.Option.{none}
 use Rattle.bits.specs.Bits.{numbers}
 use Rattle.bits.specs.Piece.{piece_of}
 use Rattle.compress.specs.Compress.{grown, compressed}
@@ -199,7 +198,7 @@ no_digits =
     ∷ []
 
 -- they spell no area
-pub nothing-spelt : map (spelt_area old_rounds_bytes) no_digits ++ map (spelt_area rounds_bytes) (map widened no_digits) ≡ replicate 8 none
+pub nothing-spelt : map (spelt_area old_rounds_bytes) no_digits ++ map (spelt_area rounds_bytes) (map widened no_digits) ≡ replicate 8 None
 unfolding numbers params_of levels_of empty_level sound hex_digits spelt_words spelt_head spelt_area
 nothing-spelt = refl
 

@@ -13,13 +13,11 @@ const JUNK: u64 = 0xa5a5a5a5a5a5a5a5;
 // Reads a text into an area of junk, and writes from there. With L = 0 an area has 80 words.
 fn pass(rt: &impl Print, text: &[u8], area: &mut [u64], out: &mut [u8]) -> io::Result<()> {
     let before = [JUNK; 82];
-    let read = text::read(&mut *area, text);
-    test_print::answer(rt, read.number, read.count)?;
+    test_print::answer(rt, text::read(&mut *area, text))?;
     test_print::same(rt, &*area, &before, 0)?;
     test_print::same(rt, &*area, &before, 80)?;
-    let written = text::write(&*area, &mut *out);
     print!(rt; " ")?;
-    test_print::answer(rt, written.number, written.count)?;
+    test_print::answer(rt, text::write(&*area, &mut *out))?;
     print!(rt; " ")?;
     test_print::bytes(rt, &*out)?;
     println!(rt; "")

@@ -1,9 +1,8 @@
 -- Laws: the fields of line 1, over any list of them: how many digits they have, and that what is written is read back.
-use Rattle.std.specs.Prelude.{◌≡◌, refl, ℕ, zero, suc, ◌^◌, ◌≤◌, ◌<◌, T, ltb, length, take, drop, get_or, set}
+use Rattle.std.specs.Prelude.{◌≡◌, refl, Option, Some, None, ℕ, zero, suc, ◌^◌, ◌≤◌, ◌<◌, T, ltb, length, take, drop, get_or, set}
 use Rattle.std.proofs.Common.{◌∙◌, arith, ltb→lt, length-append, length-take, length-set}
 use mathlib.Core.List.{List, [], ◌∷◌, ◌++◌, map, flatten, append_assoc}
-use Rattle.std.proofs.Math.Option.{Option, none, some, none-ne-some}
-use Rattle.lists.specs.Below.{Below, none, more}
+use Rattle.lists.specs.Below.{Below, more}
 use Rattle.lists.specs.BelowLaws.{below_all}
 use Rattle.lists.specs.Table.{every, at}
 use Rattle.calls.specs.Area.{head_words}
@@ -12,7 +11,7 @@ use Rattle.digits.specs.Digits.{hex_digits, spelt}
 use Rattle.digits.proofs.DigitLaws.{length_digits, digits_back, take_digits, drop_digits, spelt_lt}
 use Rattle.texts.specs.Text.{Field, rounds_bytes, line1_fields, digits_of, field_digits, digits_in, with_spelt, spelt_fields}
 
--- the words and the digits of fields, as the code has them in two tables
+-- the words and the digits of fields
 abbrev pub field_words : List Field → List ℕ
 field_words fs = map (λ (f : Field). f.word) fs
 
@@ -58,7 +57,7 @@ abbrev pub told : List Field → List ℕ → List ℕ → List ℕ
 told [] area ws = ws
 told (f ∷ fs) area ws = told fs area (set ws f.word (get_or area f.word 0))
 
-pub fields_back : (fs : List Field) (area ws rest : List ℕ) → FieldsFit fs area → spelt_fields fs (field_digits fs area ++ rest) ws ≡ some (told fs area ws)
+pub fields_back : (fs : List Field) (area ws rest : List ℕ) → FieldsFit fs area → spelt_fields fs (field_digits fs area ++ rest) ws ≡ Some (told fs area ws)
 unfolding flatten
 fields_back [] area ws rest g = refl
 fields_back (f ∷ fs) area ws rest g =
@@ -69,15 +68,15 @@ fields_back (f ∷ fs) area ws rest g =
 
 -- ---- what is spelt: as many words as before, below 2 ^ 64
 
-pub spelt-parts : {A : Type 0} (o : Option A) (go : A → Option (List ℕ)) (vs : List ℕ) → with_spelt o go ≡ some vs → (x : A) × (o ≡ some x) × (go x ≡ some vs)
-spelt-parts none go vs e = absurd (none-ne-some vs e)
-spelt-parts (some x) go vs e = (x, refl, e)
+pub spelt-parts : {A : Type 0} (o : Option A) (go : A → Option (List ℕ)) (vs : List ℕ) → with_spelt o go ≡ Some vs → (x : A) × (o ≡ Some x) × (go x ≡ Some vs)
+spelt-parts None go vs e = cc
+spelt-parts (Some x) go vs e = (x, refl, e)
 
 pub record Spells (ws vs : List ℕ) : Type 0 where
   pub size : length vs ≡ length ws
   pub words : Below (2 ^ 64) ws → Below (2 ^ 64) vs
 
-pub fields-spelt : (fs : List Field) (text ws vs : List ℕ) → Below 17 (field_sizes fs) → spelt_fields fs text ws ≡ some vs → Spells ws vs
+pub fields-spelt : (fs : List Field) (text ws vs : List ℕ) → Below 17 (field_sizes fs) → spelt_fields fs text ws ≡ Some vs → Spells ws vs
 fields-spelt [] text ws vs b e = let k : ws ≡ vs = cc in rw k (record { size = refl; words = λ b. b })
 fields-spelt (f ∷ fs) text ws vs (more h b) e =
     let n : ℕ = digits_of f in

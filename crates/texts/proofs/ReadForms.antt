@@ -1,9 +1,8 @@
 -- Laws: which texts are read, in either form, and as which area: line 1 ends at another byte in each form, so that one look tells which of
 -- the two a text may be.
-use Rattle.std.specs.Prelude.{◌≡◌, refl, Bool, true, false, cond, ◌||◌, List, ℕ, ◌≤◌, eqb, length, take, get_or}
+use Rattle.std.specs.Prelude.{◌≡◌, refl, Bool, true, false, cond, ◌||◌, Option, Some, None, List, ℕ, ◌≤◌, eqb, length, take, get_or}
 use Rattle.std.proofs.Common.{sym, ap, ◌∙◌, arith, eqb-true, eq-eqb, ne_eqb}
 use Rattle.std.proofs.Math.Bool.{or-false}
-use Rattle.std.proofs.Math.Option.{Option, none, some}
 use Rattle.std.proofs.lemmas.Bool.{eqb-false}
 use Rattle.lists.specs.And.{and_intro, and_parts}
 use Rattle.lists.specs.Same.{same}
@@ -32,7 +31,7 @@ text-readable w area s f =
 -- a text that is readable with r in w bytes spells a sound area, whose text it is
 record ReadableWith (w : ℕ) (text : List ℕ) : Type 0 where
   new : List ℕ
-  spelt : spelt_area w text ≡ some new
+  spelt : spelt_area w text ≡ Some new
   is : SoundArea new
   writes : text_with w new ≡ text
 
@@ -41,8 +40,8 @@ unfolding readable_with
 readable_with_lem w small text e = by (spelt_area w text) refl e
   where
     by : (o : Option (List ℕ)) → spelt_area w text ≡ o → text_is w text o ≡ true → ReadableWith w text
-    by none f e = let z : ◌≡◌ {A = ℕ} 0 1 = cc in absurd (omega arith)
-    by (some new) f e =
+    by None f e = let z : ◌≡◌ {A = ℕ} 0 1 = cc in absurd (omega arith)
+    by (Some new) f e =
         let p = and_parts (sound new) (same (text_with w new) text) e in
         record {
           new = new;
@@ -96,7 +95,7 @@ one_form text = by (eqb (get_or text old_end 0) 10) refl
 -- a text that writing a sound area gives, or gave, is read as the words that this area's L gives
 pub record ReadAs (text new : List ℕ) : Type 0 where
   pub yes : readable text ≡ true
-  pub area : read_area text ≡ some new
+  pub area : read_area text ≡ Some new
 
 by_form : (w : ℕ) (area : List ℕ) → SoundArea area → RoundsFit w area → form_of (text_with w area) ≡ w → ReadAs (text_with w area) (take (own_words area) area)
 by_form w area s f e =
@@ -119,7 +118,7 @@ writing_read area text s (old_writing h e) = rw (← e) (by_form old_rounds_byte
 -- a text that is read is what writing a sound area gives, or gave
 pub record Readable (text : List ℕ) : Type 0 where
   pub new : List ℕ
-  pub spelt : read_area text ≡ some new
+  pub spelt : read_area text ≡ Some new
   pub size : length new ≡ own_words new
   pub is : SoundArea new
   pub writes : Writing new text

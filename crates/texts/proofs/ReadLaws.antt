@@ -1,13 +1,13 @@
 -- Laws: demand 2 for suspended text, in both forms: reading what was written gives the same area; one text stands for one area; a text
 -- that is read is what its area writes, or wrote before M-108; a text is read exactly if some sound area writes it, or wrote it, and the
 -- area lent has the words that its L gives; and one that no sound area writes, or wrote, gets 11.
-use Rattle.std.specs.Prelude.{◌≡◌, refl, Bool, true, false, cond, List, [], ◌∷◌, ◌++◌, ◌↔◌, ◌⊎◌, ℕ, ◌^◌, ◌≤◌, ltb, length, take, drop}
+use Rattle.std.specs.Prelude.{◌≡◌, refl, Bool, true, false, cond, Some, List, [], ◌∷◌, ◌++◌, ◌↔◌, ◌⊎◌, ℕ, ◌^◌, ◌≤◌, ltb, length, take, drop}
 use Rattle.std.proofs.Math.Path.{sym}
 use Rattle.std.proofs.Common.{ap, ◌∙◌, inl, inr, arith, ltb-false, le-ltb, length-append, drop_at, length-take-le}
-use Rattle.std.proofs.Math.Option.{some, some-injective}
 use Rattle.std.proofs.lemmas.Bool.{not-false}
 use Rattle.std.proofs.Math.ListN.{length-drop}
 use Rattle.std.proofs.Math.Seq.{take_at, take_all}
+use Rattle.std.proofs.lemmas.Option.{same_Some}
 use Rattle.lists.specs.Below.{Below}
 use Rattle.lists.specs.BelowLaws.{below-append, below-drop}
 use Rattle.refusals.specs.Refusals.{output_test}
@@ -24,7 +24,7 @@ use Rattle.texts.specs.Vocabulary.{SoundArea, Writing, new_writing, old_writing,
 
 -- ---- what is accepted
 
-pub read-accepted : (area text new : List ℕ) → own_words new ≤ length area → read_area text ≡ some new → readable text ≡ true
+pub read-accepted : (area text new : List ℕ) → own_words new ≤ length area → read_area text ≡ Some new → readable text ≡ true
     → read_of area text ≡ record { number = 0; count = 0; area = new ++ drop (own_words new) area }
 unfolding read_of read_number
 read-accepted area text new h s e = rw (s, e, le-ltb (length area) (own_words new) h)
@@ -128,7 +128,7 @@ reads_same area text other s w h =
 -- two sound areas with one text, each in either form, agree in those words
 pub one-text : (a b text : List ℕ) → SoundArea a → SoundArea b → Writing a text → Writing b text → take (own_words a) a ≡ take (own_words b) b
 one-text a b text s t v w =
-    some-injective (take (own_words a) a) (take (own_words b) b) (sym (writing_read a text s v).area ∙ (writing_read b text t w).area)
+    same_Some (take (own_words a) a) (take (own_words b) b) (sym (writing_read a text s v).area ∙ (writing_read b text t w).area)
 
 -- the area after an accepted read, new being what the text spells
 module _ (area text : List ℕ) (e : read_number area text ≡ 0) where

@@ -1,9 +1,7 @@
 -- Definitions: a suspended stream as text. Document 01, "Suspended text", and the calls write and read; document 02, M-108 and M-109.
 -- A text is a list of bytes.
-use Rattle.std.specs.Prelude.{Bool, true, false, not, cond, ◌||◌, ◌&&◌, ℕ, suc, ◌+◌, ◌*◌, eqb, length, take, drop, get_or, set, replicate}
+use Rattle.std.specs.Prelude.{Bool, true, false, not, cond, ◌||◌, ◌&&◌, Option, Some, None, unwrap_or, ℕ, suc, ◌+◌, ◌*◌, eqb, length, take, drop, get_or, set, replicate}
 use mathlib.Core.List.{List, [], ◌∷◌, ◌++◌, map, flatten}
-use Rattle.std.proofs.Math.Option
-use Rattle.std.proofs.Math.Option.{Option, none, some}
 use Rattle.lists.specs.Part.{put}
 use Rattle.lists.specs.Same.{same}
 use Rattle.digits.specs.Digits.{hex_digits, line, word_digits, spelt, spelt_words, all_spelt}
@@ -102,12 +100,12 @@ head_bytes w = line1_bytes (line1_fields w) + line2_bytes
 
 -- what follows goes on with what is spelt, and a refused digit refuses
 abbrev pub with_spelt : {A : Type 0} → Option A → (A → Option (List ℕ)) → Option (List ℕ)
-with_spelt none go = none
-with_spelt (some x) go = go x
+with_spelt None go = None
+with_spelt (Some x) go = go x
 
 -- words with each field of line 1 in its word
 abbrev pub spelt_fields : List Field → List ℕ → List ℕ → Option (List ℕ)
-spelt_fields [] text ws = some ws
+spelt_fields [] text ws = Some ws
 spelt_fields (f ∷ fs) text ws =
     with_spelt (spelt 0 (take (digits_of f) text)) (λ (x : ℕ). spelt_fields fs (drop (digits_of f) text) (set ws f.word x))
 
@@ -115,21 +113,21 @@ spelt_fields (f ∷ fs) text ws =
 unfoldable pub spelt_head : List Field → List ℕ → Option (List ℕ)
 spelt_head fs text =
     with_spelt (spelt_fields fs text (replicate head_words 0))
-    (λ (ws : List ℕ). with_spelt (all_spelt (spelt_words 8 (drop (line1_bytes fs) text))) (λ (key : List ℕ). some (put 6 8 ws key)))
+    (λ (ws : List ℕ). with_spelt (all_spelt (spelt_words 8 (drop (line1_bytes fs) text))) (λ (key : List ℕ). Some (put 6 8 ws key)))
 
 -- the words of the levels, from the lines of those that have one, in their order. A level's number and the ends of lines are not
 -- spelt here: `readable` compares them with those of the area's text
 abbrev pub spelt_levels : List Bool → List ℕ → List (Option ℕ)
 spelt_levels [] text = []
 spelt_levels (true ∷ hs) text = spelt_words block_words (drop 2 text) ++ spelt_levels hs (drop level_bytes text)
-spelt_levels (false ∷ hs) text = map some empty_level ++ spelt_levels hs text
+spelt_levels (false ∷ hs) text = map Some empty_level ++ spelt_levels hs text
 
 -- the words of the area, as many as the L of line 1 gives, or none if a digit is refused; which levels have a line goes by the phase,
 -- L and total of line 1
 unfoldable pub spelt_area : ℕ → List ℕ → Option (List ℕ)
 spelt_area w text =
     with_spelt (spelt_head (line1_fields w) text)
-    (λ (head : List ℕ). all_spelt (map some head ++ spelt_levels (held_of head) (drop (head_bytes w) text)))
+    (λ (head : List ℕ). all_spelt (map Some head ++ spelt_levels (held_of head) (drop (head_bytes w) text)))
 
 -- ---- write text
 
@@ -158,8 +156,8 @@ pub record Taken : Type 0 where
 
 -- whether the area that the digits spell is sound, and the text is its text with r in w bytes; if a digit is refused, there is none
 abbrev pub text_is : ℕ → List ℕ → Option (List ℕ) → Bool
-text_is w text none = false
-text_is w text (some area) = sound area && same (text_with w area) text
+text_is w text None = false
+text_is w text (Some area) = sound area && same (text_with w area) text
 
 unfoldable pub readable_with : ℕ → List ℕ → Bool
 readable_with w text = text_is w text (spelt_area w text)
@@ -175,7 +173,7 @@ read_area text = cond (readable_with rounds_bytes text) (spelt_area rounds_bytes
 
 -- the words of that area, or [] if there is none; a text that is read has one
 abbrev pub area_in : List ℕ → List ℕ
-area_in text = Option.get_or (read_area text) []
+area_in text = unwrap_or (read_area text) []
 
 -- M-109: "reading tests 11 and then 7": whether the area is short goes by the L of the text
 unfoldable pub read_number : List ℕ → List ℕ → ℕ

@@ -1,4 +1,4 @@
-// Words copied and cleared, and bytes compared: the loops that the crates above share.
+// Words copied and cleared, and bytes compared: what the crates above share.
 #![tactic(auto)]
 
 ghost use Rattle.std.specs.Prelude.{◌≡◌, ◌+◌, ◌≤◌, length, replicate};
@@ -10,37 +10,27 @@ pub fn copy(dst: &mut [u64], at: usize, src: &[u64])
     requires { at + length src.now ≤ length dst.old }
     ensures { dst.new ≡ paste dst.old at src.now (length src.now) }
 {
-    let mut i = 0;
-    while i < src.len() {
-        dst[at + i] = src[i];
-        i += 1;
-    }
+    dst[at..at + src.len()].copy_from_slice(src);
 }
 
 // Fills a part with zero words.
 pub fn clear(part: &mut [u64])
     ensures { part.new ≡ replicate (length part.old) 0 }
 {
-    let mut i = 0;
-    while i < part.len() {
-        part[i] = 0;
-        i += 1;
-    }
+    part.fill(0);
 }
 
 // Whether two slices hold the same bytes, and as many. All bytes are looked at, whatever differs: the loop does not stop at the first.
+#[tactic(auto, using(crate::proofs::Compare::other_length, crate::proofs::Compare::one_more))]
 pub fn same_bytes(x: &[u8], y: &[u8]) -> bool
     ensures { result ≡ same x.now y.now }
 {
     if x.len() != y.len() {
         return false;
     }
-    let n = x.len();
     let mut seen: u8 = 0;
-    let mut i = 0;
-    while i < n {
-        seen = seen | (x[i] ^ y[i]);
-        i += 1;
+    for (a, b) in x.iter().zip(y) {
+        seen |= *a ^ *b;
     }
     seen == 0
 }

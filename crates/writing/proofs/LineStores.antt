@@ -5,12 +5,12 @@ use Prim.Native.Nat.{ℕ, suc, ◌+◌, ◌-◌, ◌*◌, ◌≤◌, ◌<◌}
 use native.Mathlib.Omega.{arith}
 use borrow.Rule.Slice.PartMut.{mid_of, put_mid}
 use lib.ListN.{length, take, drop, get_or, set, length-append, drop_of_length-le}
-use lib.Seq.{drop-cons, set_at}
+use lib.Seq.{drop-cons, set_at, take_all}
 use Rattle.calls.specs.Area.{head_words, k_of, own_levels, level_words, Long}
 use Rattle.digits.specs.Digits.{hex_digits, word_digits, line}
-use Rattle.texts.specs.Text.{line1_fields, field_digits, line1, line2, level_line, digits_in, line1_bytes, level_bytes, head_bytes}
-use Rattle.texts.proofs.FieldLaws.{field_words, field_sizes, length_fields}
-use Rattle.writing.specs.FieldAt.{digits_some, field-more, digits_more}
+use Rattle.texts.specs.Text.{Field, digits_of, line1_fields, field_digits, line1, line2, level_line, digits_in, line1_bytes, level_bytes, head_bytes}
+use Rattle.texts.proofs.FieldLaws.{length_fields}
+use Rattle.writing.specs.FieldAt.{field_at, field-more, digits_end}
 use Rattle.digits.proofs.DigitLaws.{length_digits, length-word_digits}
 use Rattle.calls.proofs.AreaLaws.{length-level_words}
 use Rattle.texts.proofs.LayoutLaws.{length-key_of}
@@ -24,23 +24,23 @@ line-end P part n p h =
 
 -- ---- line 1, field i after those before it
 
--- it has n digits
-pub field_stored : (w : ℕ) (area part₀ part ys : List ℕ) (a i n : ℕ) → i < 7 → n ≡ get_or (field_sizes (line1_fields w)) i 0 → a ≡ digits_in (take i (line1_fields w))
-    → length part₀ ≡ line1_bytes (line1_fields w) → part ≡ field_digits (take i (line1_fields w)) area ++ drop a part₀
-    → ys ≡ hex_digits (length (mid_of a (a + n - a) part)) (get_or area (get_or (field_words (line1_fields w)) i 0) 0)
-    → put_mid a (a + n - a) part ys ≡ field_digits (take (i + 1) (line1_fields w)) area ++ drop (a + n) part₀
-field_stored w area part₀ part ys a i n h e s l is y =
-    let x : ℕ = get_or area (get_or (field_words (line1_fields w)) i 0) 0 in
-    let P : List ℕ = field_digits (take i (line1_fields w)) area in
-    lent_digits a (a + n) P part part₀ ys (length_fields (take i (line1_fields w)) area ∙ sym s) is (omega arith)
-    (omega (arith, digits_more (line1_fields w) i h, digits_some (line1_fields w) (i + 1))) n x (omega arith) y
-    ∙ ap (λ (Q : List ℕ). Q ++ drop (a + n) part₀) (ap (λ (m : ℕ). P ++ hex_digits m x) e ∙ sym (field-more (line1_fields w) i h area))
+-- it has n digits and tells the number x
+pub field_stored : (fs : List Field) (area part₀ part ys : List ℕ) (a i n x : ℕ) → i < length fs → n ≡ digits_of (field_at fs i) → x ≡ get_or area (field_at fs i).word 0
+    → a ≡ digits_in (take i fs) → length part₀ ≡ line1_bytes fs → part ≡ field_digits (take i fs) area ++ drop a part₀
+    → ys ≡ hex_digits (length (mid_of a (a + n - a) part)) x
+    → put_mid a (a + n - a) part ys ≡ field_digits (take (i + 1) fs) area ++ drop (a + n) part₀
+field_stored fs area part₀ part ys a i n x h e t s l is y =
+    let P : List ℕ = field_digits (take i fs) area in
+    lent_digits a (a + n) P part part₀ ys (length_fields (take i fs) area ∙ sym s) is (omega arith)
+    (omega (arith, digits_end fs i h)) n x (omega arith) y
+    ∙ ap (λ (Q : List ℕ). Q ++ drop (a + n) part₀) (ap (λ (m : ℕ). P ++ hex_digits m x) e ∙ ap (λ (z : ℕ). P ++ hex_digits (digits_of (field_at fs i)) z) t ∙ sym (field-more fs i h area))
 
-pub line1-stored : (w : ℕ) (area part₀ : List ℕ) (a i : ℕ) → i ≡ 7 → a ≡ digits_in (take i (line1_fields w)) → length part₀ ≡ line1_bytes (line1_fields w)
-    → set (field_digits (take i (line1_fields w)) area ++ drop a part₀) a 10 ≡ line1 (line1_fields w) area
-line1-stored w area part₀ a i e s l =
-    line-end (field_digits (take i (line1_fields w)) area) part₀ a (length_fields (take i (line1_fields w)) area ∙ sym s) (omega (arith, ap (λ (k : ℕ). digits_in (take k (line1_fields w))) e))
-    ∙ ap (λ (k : ℕ). line1 (take k (line1_fields w)) area) e
+pub line1-stored : (fs : List Field) (area part₀ : List ℕ) (a i : ℕ) → length fs ≤ i → a ≡ digits_in (take i fs) → length part₀ ≡ line1_bytes fs
+    → set (field_digits (take i fs) area ++ drop a part₀) a 10 ≡ line1 fs area
+line1-stored fs area part₀ a i e s l =
+    let t : take i fs ≡ fs = take_all i fs e in
+    line-end (field_digits (take i fs) area) part₀ a (length_fields (take i fs) area ∙ sym s) (omega (arith, ap digits_in t))
+    ∙ ap (λ (gs : List Field). line1 gs area) t
 
 -- ---- a level's line
 

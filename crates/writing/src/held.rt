@@ -1,11 +1,12 @@
 // Which levels of an area have a line, and the bytes that a text then has.
 ghost use Rattle.std.specs.Prelude.{◌≡◌, ◌≤◌, length};
 ghost use Rattle.calls.specs.Area.{head_words, own_levels, Long};
-ghost use Rattle.texts.specs.Text.{rounds_bytes, text_with};
+ghost use Rattle.texts.specs.Text.{text_with};
 ghost use Rattle.writing.specs.Lines.{has_line_at};
 
+use super::form::Form;
 use super::lines;
-use area::{Area, count};
+use area::{Area, Phase, count};
 use node::Block;
 
 // The levels of an area.
@@ -21,7 +22,7 @@ pub fn has_line(area: &[u64], level: u64) -> bool
     requires { (head_words ≤ length area.now) × (1 ≤ level) × (level ≤ own_levels area.now) }
     ensures { result ≡ has_line_at area.now level }
 {
-    if area[Area::PHASE] == 2 {
+    if area[Area::PHASE] == u64::from(Phase::Ended) {
         return false;
     }
     let limit = area[Area::LIMIT];
@@ -36,17 +37,14 @@ pub fn has_line(area: &[u64], level: u64) -> bool
     outputs % 4 != 0
 }
 
-// The bytes of an area's text, by the width of r.
-pub fn text_bytes(area: &[u64], width: usize) -> usize
-    requires { Long area.now × (width ≤ rounds_bytes) }
-    ensures { result ≡ length (text_with width area.now) }
+// The bytes of an area's text, in a form.
+pub fn text_bytes(area: &[u64], form: Form) -> usize
+    requires { Long area.now }
+    ensures { result ≡ length (text_with form.width area.now) }
 {
-    let last = levels(area);
-    let mut n: usize = lines::head_bytes(width);
-    let mut k: u64 = 0;
-    while k < last {
-        k += 1;
-        if has_line(area, k) {
+    let mut n = lines::head_bytes(form);
+    for level in 1..=levels(area) {
+        if has_line(area, level) {
             n += lines::LEVEL;
         }
     }

@@ -12,7 +12,7 @@ use Rattle.bits.proofs.fill_part.Goals as goal
 pub returns-then-count-eq0 : goal.returns-then-count-eq0
 returns-then-count-eq0 c =
     let below = words-below c.args.block.now c.type_inv.block in
-    rw c.if-count-eq0.true (sym (filled_none (64 * c.args.word + c.args.offset) c.args.bytes.now (8 * c.args.byte + c.args.bit) below))
+    rw c.if-count-eq0.true (sym (filled_none (64 * c.args.word + c.args.offset) c.args.bytes.now (8 * c.args.from.byte + c.args.from.bit) below))
 
 pub put_bits-requires : goal.put_bits-requires
 put_bits-requires c =
@@ -22,7 +22,7 @@ put_bits-requires c =
 
 pub returns : goal.returns
 returns c =
-    let below = words-below c.args.block.now c.slice_known-1.given in
+    let below = words-below c.args.block.now (search rules) in
     let n = c.args.count in
     rw (c.put_bits.ensures, c.word_at.ensures)
-    (fill_few c.args.word c.args.offset c.args.bytes.now (8 * c.args.byte + c.args.bit) n (64 - c.args.offset - n) below (omega arith) (omega arith) (omega arith))
+    (fill_few c.args.word c.args.offset c.args.bytes.now (8 * c.args.from.byte + c.args.from.bit) n (64 - c.args.offset - n) below (omega arith) (omega arith) (omega arith))

@@ -11,22 +11,22 @@ use Rattle.bits.proofs.fill_words.Goals as goal
 pub loop-i-init : goal.loop-i-init
 loop-i-init c =
     let below = words-below c.args.block.now c.type_inv.block in
-    (omega arith, sym (filled_none (64 * c.args.word) c.args.bytes.now (8 * c.args.byte + c.args.bit) below))
+    sym (filled_none (64 * c.args.word) c.args.bytes.now (8 * c.args.from.byte + c.args.from.bit) below)
 
 pub bounds-block-word : goal.bounds-block-word
-bounds-block-word c = omega (arith, ap length c.loop-i.invariant.1, length-filled c.args.block.now (64 * c.args.word) c.args.bytes.now (8 * c.args.byte + c.args.bit) (64 * c.loop-i.i))
+bounds-block-word c = omega (arith, ap length c.loop-i.invariant, length-filled c.args.block.now (64 * c.args.word) c.args.bytes.now (8 * c.args.from.byte + c.args.from.bit) (64 * c.loop-i.i))
 
 pub loop-i-preserved : goal.loop-i-preserved
 loop-i-preserved c =
     let i = c.loop-i.i in
-    let a : 8 * (c.args.byte + 8 * i) + c.args.bit ≡ 8 * c.args.byte + c.args.bit + 64 * i = omega arith in
-    (omega arith, rw (c.loop-i.invariant.1, c.whole_at.ensures, a) (fill_word c.args.block.now c.args.word c.args.bytes.now (8 * c.args.byte + c.args.bit) i (omega arith) (omega arith)))
+    let a : 8 * (c.args.from.byte + 8 * i) + c.args.from.bit ≡ 8 * c.args.from.byte + c.args.from.bit + 64 * i = omega arith in
+    rw (c.loop-i.invariant, c.whole_at.ensures, c.after.ensures.0, c.after.ensures.1, a) (fill_word c.args.block.now c.args.word c.args.bytes.now (8 * c.args.from.byte + c.args.from.bit) i (omega arith) (omega arith))
 
 pub shape_of-block : goal.shape_of-block
-shape_of-block c = ap length c.loop-i.invariant.1 ∙ length-filled c.args.block.now (64 * c.args.word) c.args.bytes.now (8 * c.args.byte + c.args.bit) (64 * c.loop-i.i)
+shape_of-block c = ap length c.loop-i.invariant ∙ length-filled c.args.block.now (64 * c.args.word) c.args.bytes.now (8 * c.args.from.byte + c.args.from.bit) (64 * c.loop-i.i)
 
 pub returns : goal.returns
 returns c =
     let i = c.loop-i.i in
     let e : i ≡ c.args.words = omega arith in
-    rw (← e) c.loop-i.invariant.1
+    rw (← e) c.loop-i.invariant

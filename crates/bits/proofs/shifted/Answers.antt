@@ -7,4 +7,4 @@ use Rattle.bits.proofs.shifted.Goals as goal
 pub returns : goal.returns
 returns c =
     let b = c.args.bit in
-    rw c.wide.ensures (shifted_in 64 8 c.args.word c.args.next b (8 - b) (omega arith) (omega arith) (omega arith))
+    rw c.from.ensures (shifted_in 64 8 c.args.word c.args.next b (8 - b) (omega arith) (omega arith) (omega arith))

@@ -7,13 +7,13 @@ use Rattle.lists.specs.Slices.{bytes_below}
 use Rattle.bits.proofs.Reading.{eight_read, word_read}
 use Rattle.bits.proofs.whole_at.Goals as goal
 
-pub returns-then-bit-eq0 : goal.returns-then-bit-eq0
-returns-then-bit-eq0 c =
-    let j = c.args.byte in
+pub returns-then-from-eq0 : goal.returns-then-from-eq0
+returns-then-from-eq0 c =
+    let j = c.args.from.byte in
     let below = bytes_below c.args.bytes.now c.type_inv.bytes in
-    rw (c.if-bit-eq0.true, add-zero (8 * j)) (c.load-word.ensures ∙ eight_read j below (omega arith))
+    rw (c.if-from-eq0.true, add-zero (8 * j)) (c.load-word.ensures ∙ eight_read j below (omega arith))
 
 pub returns : goal.returns
 returns c =
     let below = bytes_below c.args.bytes.now c.type_inv.bytes in
-    c.shifted.ensures ∙ rw c.load-word.ensures (word_read c.args.byte c.args.bit below (omega arith) (omega arith))
+    c.shifted.ensures ∙ rw c.load-word.ensures (word_read c.args.from.byte c.args.from.bit below (omega arith) (omega arith))

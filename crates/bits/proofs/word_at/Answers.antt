@@ -5,12 +5,7 @@ use Rattle.lists.specs.Slices.{bytes_below}
 use Rattle.bits.proofs.Reading.{word_read}
 use Rattle.bits.proofs.word_at.Goals as goal
 
-pub returns-then-bytes-byte-ge9 : goal.returns-then-bytes-byte-ge9
-returns-then-bytes-byte-ge9 c =
-    let below = bytes_below c.args.bytes.now c.type_inv.bytes in
-    c.shifted.ensures ∙ rw c.load.ensures (word_read c.args.byte c.args.bit below (omega arith) (omega arith))
-
 pub returns : goal.returns
 returns c =
     let below = bytes_below c.args.bytes.now c.type_inv.bytes in
-    c.shifted-2.ensures ∙ rw (c.load_end.ensures, c.byte_at.ensures) (word_read c.args.byte c.args.bit below (omega arith) (omega arith))
+    c.shifted.ensures ∙ rw (c.load_end-word.ensures, c.byte_at.ensures) (word_read c.args.from.byte c.args.from.bit below (omega arith) (omega arith))

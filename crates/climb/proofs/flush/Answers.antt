@@ -5,25 +5,22 @@ use Rattle.climb.specs.FlushLaws.{flush_room, flush_chained, flush_passing, flus
 use Rattle.climb.proofs.flush.Goals as goal
 
 pub make_level-last-requires : goal.make_level-last-requires
-make_level-last-requires c = record { ready = c.requires.ready; has_level = omega (arith, flush_room c.requires c.if-keyed-lt1.true, c.done_blocks-done.ensures, (done-fits c.args.total c.ranges.total.fits).1) }
+make_level-last-requires c = omega (arith, flush_room c.requires c.if-with-lt1.true, c.done_blocks-done.ensures, (done-fits c.args.total c.ranges.total.fits).1)
 
-pub overflow_add-result : goal.overflow_add-result
-overflow_add-result c = omega (arith, flush_room c.requires c.if-keyed-lt1.true)
-
-pub returns-then-keyed-lt1 : goal.returns-then-keyed-lt1
-returns-then-keyed-lt1 c = flush_chained c.requires c.if-keyed-lt1.true c.done_blocks-done.ensures c.make_level-last.ensures c.chain_level.ensures
+pub returns-then-with-lt1 : goal.returns-then-with-lt1
+returns-then-with-lt1 c = flush_chained c.requires c.if-with-lt1.true c.done_blocks-done.ensures c.make_level-last.ensures c.chain_level.ensures
 
 pub compress_node-made-requires : goal.compress_node-made-requires
-compress_node-made-requires c = (c.requires.ready, rw c.full_place.ensures (omega (arith, c.done_blocks-done-2.ensures, (done-fits c.args.total c.ranges.total.fits).0)))
+compress_node-made-requires c = rw c.full_place.ensures (omega (arith, c.done_blocks-done-2.ensures, (done-fits c.args.total c.ranges.total.fits).0))
 
 pub pass_on-requires : goal.pass_on-requires
 pass_on-requires c =
-    flush_passing c.requires c.if-keyed-lt1.false c.done_blocks-done-2.ensures c.full_place.ensures
+    flush_passing c.requires c.if-with-lt1.false c.done_blocks-done-2.ensures c.full_place.ensures
     c.level.ensures.level_part.words
     c.compress_node-made.ensures c.ranges.total.fits
 
 pub returns : goal.returns
 returns c =
-    flush_passed c.requires c.if-keyed-lt1.false c.done_blocks-done-2.ensures
+    flush_passed c.requires c.if-with-lt1.false c.done_blocks-done-2.ensures
     c.full_place.ensures
-    c.level.ensures.level_part.words c.compress_node-made.ensures c.pass_on.ensures
+    c.level.ensures.level_part.words c.compress_node-made.ensures c.pass_on.ensures.passed

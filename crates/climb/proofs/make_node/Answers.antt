@@ -5,4 +5,4 @@ use Rattle.climb.proofs.make_node.Goals as goal
 pub returns : goal.returns
 returns c =
     let place = c.args.place in
-    record { words = c.compress_node.ensures; logged = rw (v-made c.requires.0 place.z place.p) at c.log_node.ensures }
+    record { words = c.compress_node.ensures; logged = rw (v-made c.args.with.now.ready place.z place.p) at c.log_node.ensures }

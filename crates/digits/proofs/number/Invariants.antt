@@ -1,13 +1,7 @@
 -- `digits::number` spells a number, digit by digit, until a byte is refused.
-use mathlib.Core.Path.{◌≡◌}
-use mathlib.Core.Option.{some}
-use Prim.Native.Nat.{◌-◌, ◌≤◌}
-use lib.ListN.{length, take}
+use Rattle.std.proofs.Common.{◌≡◌, take, Some}
 use Rattle.digits.specs.Digits.{spelt}
 use Rattle.digits.proofs.number.Given as goal
 
-abbrev pub invariant-loop-i : goal.invariant-loop-i
-invariant-loop-i l = (l.i ≤ length l.part) × (spelt 0 (take l.i l.part) ≡ some l.x)
-
-abbrev pub decreases-loop-i : goal.decreases-loop-i
-decreases-loop-i l = length l.part - l.i
+abbrev pub invariant-loop-b : goal.invariant-loop-b
+invariant-loop-b l = spelt 0 (take l.b-index l.part) ≡ Some l.x

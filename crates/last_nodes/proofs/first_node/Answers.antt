@@ -3,7 +3,7 @@ use native.Mathlib.Omega.{arith}
 use Rattle.last_nodes.proofs.first_node.Goals as goal
 
 pub make_node-requires : goal.make_node-requires
-make_node-requires c = (c.requires.ready, omega arith, omega arith)
+make_node-requires c = (omega arith, omega arith)
 
 pub returns : goal.returns
 returns c = rw (← c.held_bits.ensures, ← c.done_blocks-index.ensures) c.make_node.ensures

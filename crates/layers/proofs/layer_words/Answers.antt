@@ -1,12 +1,13 @@
 -- `layer_words` meets its contract.
-use borrow.Author.Tests.{lt-ltb, le-ltb}
+use Rattle.refusals.specs.RefusalLaws.{told_ok}
 use Rattle.layers.specs.Layers.{layer_words_of}
+use Rattle.layers.proofs.CallLaws.{limit-refused}
 use Rattle.layers.proofs.layer_words.Goals as goal
 
-pub returns-then-limit-gt-MOST_LIMIT : goal.returns-then-limit-gt-MOST_LIMIT
+pub returns-in_err-check_limit : goal.returns-in_err-check_limit
 unfolding layer_words_of
-returns-then-limit-gt-MOST_LIMIT c = rw (c.refused.ensures.0, c.refused.ensures.1, lt-ltb _ _ c.if-limit-gt-MOST_LIMIT.true)
+returns-in_err-check_limit c = limit-refused _ _ _ _ _ c.check_limit.ensures c.in_err-check_limit.was c.from_residual.ensures.1
 
 pub returns : goal.returns
 unfolding layer_words_of
-returns c = rw (c.accepted.ensures.0, c.accepted.ensures.1, c.words_used.ensures, le-ltb _ _ c.if-limit-gt-MOST_LIMIT.false)
+returns c = rw (c.words_used.ensures, told_ok c.in_ok-check_limit.was c.check_limit.ensures)

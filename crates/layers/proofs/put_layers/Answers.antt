@@ -15,19 +15,21 @@ use Rattle.layers.proofs.Steps.{made_by}
 use Rattle.layers.proofs.CallLaws.{digest-root}
 use Rattle.layers.proofs.put_layers.Goals as goal
 
-pub put_levels-nodes-requires : goal.put_levels-nodes-requires
-put_levels-nodes-requires c =
+pub new-with-requires : goal.new-with-requires
+new-with-requires c =
+    let a = c.args in
     let first = c.first_part-first in
+    let bytes = bytes_below a.key.now c.type_inv.key in
+    rw c.key_words-k.ensures (key-ready a.key.now a.params bytes c.requires.1 c.requires.0.whole.ranges first.result first.ensures (omega (arith, first.type_inv)))
+
+pub put_levels-nodes-requires-clause-room : goal.put_levels-nodes-requires-clause-room
+put_levels-nodes-requires-clause-room c =
     let a = c.args in
     let M = span_bits a.message.now a.span in
     let bytes = bytes_below a.key.now c.type_inv.key in
-    let ranges = c.requires.0.whole.ranges in
-    let ready = key-ready a.key.now a.params bytes c.requires.1 ranges first.result first.ensures (omega (arith, first.type_inv)) in
-    let same = params-key a.key.now a.params bytes c.requires.1 ranges in
-    rw c.key_words-k.ensures record {
-      ready = (ready, c.requires.0.whole.enough);
-      room = subst (λ (P : Params). Room P M a.words.now a.log.now) (sym same) c.requires.0.room;
-    }
+    let e : tree_params c.new-with.result.keyed ≡ with_key a.key.now a.params =
+    rw (c.new-with.ensures, c.key_words-k.ensures) (params-key a.key.now a.params bytes c.requires.1 c.requires.0.whole.ranges) in
+    subst (λ (P : Params). Room P M a.words.now a.log.now) (sym e) c.requires.0.room
 
 pub returns : goal.returns
 returns c =
@@ -35,8 +37,8 @@ returns c =
     let P = with_key a.key.now a.params in
     let M = span_bits a.message.now a.span in
     let bytes = bytes_below a.key.now c.type_inv.key in
-    let e : tree_params record { k = c.key_words-k.result; params = a.params } ≡ P =
-    rw c.key_words-k.ensures (params-key a.key.now a.params bytes c.requires.1 c.requires.0.whole.ranges) in
+    let e : tree_params c.new-with.result.keyed ≡ P =
+    rw (c.new-with.ensures, c.key_words-k.ensures) (params-key a.key.now a.params bytes c.requires.1 c.requires.0.whole.ranges) in
     let r = made_by e c.put_levels-nodes.ensures in
     let root = 16 * (c.put_levels-nodes.result - 1) in
     record {

@@ -7,7 +7,7 @@ use Rattle.climb.specs.FlushLaws.{le_at}
 use Rattle.climb.specs.OpenArea.{keyed_of}
 use Rattle.piece.specs.FeedSteps.{free_le, base_place}
 use Rattle.piece.specs.ChunkLaws.{chunk_free}
-use Rattle.piece.specs.PieceLaws.{fed-start, whole_part}
+use Rattle.piece.specs.PieceLaws.{fed-read, whole_part}
 use native.Mathlib.Omega.{arith}
 use borrow.Author.Rules.{rules}
 use Rattle.piece.proofs.feed_levels.Goals as goal
@@ -32,11 +32,11 @@ overflow_sub-free c =
 pub fill_level-requires : goal.fill_level-requires
 fill_level-requires c =
     let area = c.args.area.now in
-    (whole_part c.requires, base_place (le_at (sym c.free_of-free.ensures) refl (free_le (get_or area 4 0) (get_or area 1 0))) c.if-free-span.false)
+    (record { long = c.requires.opened.long; bits = record { low = omega (arith, c.requires.bits.low); inside = omega (arith, c.requires.bits.inside) } }, base_place (le_at (sym c.free_of-free.ensures) refl (free_le (get_or area 4 0) (get_or area 1 0))) c.if-free-span.false)
 
 pub returns : goal.returns
 returns c =
     let a = c.args in
     let area = a.area.now in
-    rw (fed-start area (spanned a.piece.now a.span)) at
+    rw (fed-read area (spanned a.piece.now a.span)) at
     (chunk_free (whole_part c.requires) (words-below area (search rules)) (keyed_of area) (get_or area 1 0) a.log.now 0 c.free_of-free.ensures c.if-free-span.false c.fill_level.ensures)

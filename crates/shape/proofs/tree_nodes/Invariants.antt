@@ -1,11 +1,8 @@
 -- `shape::tree_nodes` meets its contract. The loop's invariant: the sum, with the nodes from this level up, is the tree's number.
 use Rattle.tree.specs.Sizes.{nodes_from, tree_nodes}
-use Prim.Native.Nat.{◌+◌, ◌*◌, ◌^◌, ◌≤◌, ◌<◌}
+use Prim.Native.Nat.{◌+◌, ◌-◌, ◌*◌, ◌^◌, ◌≤◌, ◌<◌}
 use mathlib.Core.Path.{◌≡◌}
 use Rattle.shape.proofs.tree_nodes.Given as goal
 
-abbrev pub invariant-loop-left : goal.invariant-loop-left
-invariant-loop-left l = (0 < l.nodes) × (l.sum + 2 * l.nodes ≤ 2 ^ 54) × (l.sum + nodes_from l.left l.nodes ≡ tree_nodes l.limit l.bits)
-
-abbrev pub decreases-loop-left : goal.decreases-loop-left
-decreases-loop-left l = l.left
+abbrev pub invariant-loop-level : goal.invariant-loop-level
+invariant-loop-level l = (0 < l.nodes) × (l.sum + 2 * l.nodes ≤ 2 ^ 54) × (l.sum + nodes_from (l.limit - l.level) l.nodes ≡ tree_nodes l.limit l.bits)

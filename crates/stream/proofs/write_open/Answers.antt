@@ -1,38 +1,19 @@
 -- `stream::write_open` meets its contract.
-use mathlib.Core.Path.{ap, ◌∙◌}
-use Prim.Native.Nat.{ℕ}
-use lib.ListN.{replicate, length-set}
-use Rattle.stream.specs.OpenLaws.{open_written}
+use mathlib.Core.List.{List}
+use mathlib.Core.Path.{◌≡◌, ap, ◌∙◌}
+use Prim.Native.Nat.{ℕ, ◌-◌}
 use native.Mathlib.Omega.{arith}
+use lib.ListN.{length, set, take, drop, replicate, length-set, length-take, length-drop}
+use Rattle.stream.specs.OpenLaws.{open_written}
 use Rattle.stream.proofs.write_open.Goals as goal
-
-pub bounds-area-0 : goal.bounds-area-0
-bounds-area-0 c = omega (arith, c.requires.0)
-
-pub bounds-area-1 : goal.bounds-area-1
-bounds-area-1 c = simp length-set (omega arith)
-
-pub bounds-area-2 : goal.bounds-area-2
-bounds-area-2 c = simp length-set (omega arith)
-
-pub bounds-area-3 : goal.bounds-area-3
-bounds-area-3 c = simp length-set (omega arith)
-
-pub bounds-area-4 : goal.bounds-area-4
-bounds-area-4 c = simp length-set (omega arith)
-
-pub bounds-area-5 : goal.bounds-area-5
-bounds-area-5 c = simp length-set (omega arith)
-
-pub slice_bounds-clear-start : goal.slice_bounds-clear-start
-slice_bounds-clear-start c = omega (arith, c.words-e.ensures)
-
-pub slice_bounds-clear-end : goal.slice_bounds-clear-end
-slice_bounds-clear-end c = simp length-set (omega (arith, c.words-e.ensures, c.requires.0))
 
 pub returns : goal.returns
 returns c =
-    let zs = c.clear.ensures ∙ ap (λ (n : ℕ). replicate n 0) c.clear-arg-1.given.2 in
-    rw (c.fill.ensures, zs)
-    (open_written c.args.area.now c.args.key.now c.args.d c.args.limit c.args.rounds c.words-e.result (omega (arith, c.words-e.ensures))
+    let p = c.args.params in
+    let n : ℕ = c.words-e.result - 6 in
+    let six : List ℕ = set (set (set (set (set (set c.args.area.now 0 c.from.result) 1 0) 2 p.keylen) 3 p.d) 4 p.limit) 5 p.rounds in
+    let size : length (take n (drop 6 six)) ≡ n = simp (length-take, length-drop, length-set) (omega (arith, c.words-e.ensures, c.requires.0)) in
+    let zs = c.fill.ensures.after (λ y z. z) ∙ ap (λ (k : ℕ). replicate k 0) size in
+    rw (c.fill-2.ensures, zs, c.from.ensures, c.requires.2)
+    (open_written c.args.area.now c.args.key.now p.d p.limit p.rounds c.words-e.result (omega (arith, c.words-e.ensures))
     (omega (arith, c.words-e.ensures, c.requires.0)) c.requires.1)

@@ -1,19 +1,21 @@
 -- `area::empty::empty_from` meets its contract.
-use mathlib.Core.Path.{sym, ◌∙◌}
-use Prim.Native.Nat.{◌/◌}
+use Rattle.std.proofs.Common.{◌+◌, ◌/◌, drop, length-drop, sym, ◌∙◌, arith, ne_eqb}
+use Rattle.std.proofs.Math.Seq.{take-length}
 use Rattle.area.specs.EmptyLaws.{empty-end, empty-not, empty-rest}
-use native.Mathlib.Omega.{arith}
 use Rattle.area.proofs.empty.empty_from.Goals as goal
 
 pub returns-then-part-i : goal.returns-then-part-i
 returns-then-part-i c = sym (empty-end c.args.from c.args.part.now c.if-part-i.true)
 
-pub returns-then-low-ne0 : goal.returns-then-low-ne0
-returns-then-low-ne0 c =
+pub returns-then-low-eq0 : goal.returns-then-low-eq0
+returns-then-low-eq0 c =
     let from = c.args.from in
-    sym (empty-not from c.args.part.now c.if-part-i.false (omega (arith, c.type_inv.part (from / 64))) c.if-low-ne0.true)
+    let part = c.args.part.now in
+    let i = from / 64 in
+    rw (← length-drop (i + 1) part, take-length (drop (i + 1) part)) at c.or_all.ensures
+    ∙ sym (empty-rest from part c.if-part-i.false (omega (arith, c.type_inv.part i)) c.if-low-eq0.true)
 
-pub returns : goal.returns
-returns c =
+pub returns-else-low-eq0 : goal.returns-else-low-eq0
+returns-else-low-eq0 c =
     let from = c.args.from in
-    c.or_from.ensures ∙ sym (empty-rest from c.args.part.now c.if-part-i.false (omega (arith, c.type_inv.part (from / 64))) c.if-low-ne0.false)
+    ne_eqb _ 0 c.if-low-eq0.false ∙ sym (empty-not from c.args.part.now c.if-part-i.false (omega (arith, c.type_inv.part (from / 64))) c.if-low-eq0.false)

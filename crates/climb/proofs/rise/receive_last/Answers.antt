@@ -11,21 +11,14 @@ pub returns-then-i-ne2 : goal.returns-then-i-ne2
 returns-then-i-ne2 c = last-held c.requires.coming c.requires.sequential c.output_place.ensures c.join.ensures c.if-i-ne2.true
 
 pub make_level-made-requires : goal.make_level-made-requires
-make_level-made-requires c =
-    record {
-      ready = c.requires.coming.ready;
-      has_level = (
-        joined-level (coming-joins c.requires.coming true c.output_place.ensures) c.join.ensures,
-        omega (arith, c.requires.coming.small),
-        omega (arith, last-room c.requires.coming c.requires.sequential c.if-i-ne2.false),
-      );
-    }
+make_level-made-requires c = (
+  joined-level (coming-joins c.requires.coming true c.output_place.ensures) c.join.ensures,
+  omega (arith, c.requires.coming.small),
+  omega (arith, last-room c.requires.coming c.requires.sequential c.if-i-ne2.false),
+)
 
 pub chain_level-requires : goal.chain_level-requires
 chain_level-requires c = (joined-level (coming-joins c.requires.coming true c.output_place.ensures) c.join.ensures, omega arith)
-
-pub overflow_add-result : goal.overflow_add-result
-overflow_add-result c = omega (arith, last-room c.requires.coming c.requires.sequential c.if-i-ne2.false)
 
 pub returns : goal.returns
 returns c =

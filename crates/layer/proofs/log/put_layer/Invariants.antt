@@ -2,7 +2,7 @@
 use mathlib.Core.Path.{◌≡◌}
 use mathlib.Core.Bool.{Bool}
 use mathlib.Core.List.{List}
-use Prim.Native.Nat.{ℕ, ◌+◌, ◌-◌, ◌*◌, ◌≤◌}
+use Prim.Native.Nat.{ℕ, ◌+◌, ◌*◌}
 use lib.ListN.{length}
 use Rattle.tree.specs.Tree as tree
 use Rattle.node.specs.Words.{sized}
@@ -12,9 +12,6 @@ use Rattle.layer.proofs.log.put_layer.Given as goal
 
 abbrev pub invariant-loop-i : goal.invariant-loop-i
 invariant-loop-i l =
-    (l.i ≤ l.nodes) × (l.to ≡ l.at + 2 * l.i) × (length l.log ≡ length l.initial.log)
+    (l.to ≡ l.at + 2 * l.i) × (length l.log ≡ length l.initial.log)
     × ((P : tree.Params) (X : List Bool) → ((z p : ℕ) → tree.node_v (sized l.params) z p ≡ tree.node_v P z p) → length X ≡ l.layer.span.bits
     → l.log ≡ log_up_to l.at l.initial.log (layer_nodes P l.layer X) l.i)
-
-abbrev pub decreases-loop-i : goal.decreases-loop-i
-decreases-loop-i l = l.nodes - l.i

@@ -1,13 +1,9 @@
 -- `node::digest::put_bytes` meets its contract. The loop's invariant: the first i bytes are written, the rest is as it was.
 use Rattle.bits.specs.Bits.{bits_of, numbers}
 use lib.ListN.{length, drop}
-use Prim.Native.Nat.{◌-◌, ◌≤◌}
 use mathlib.Core.List.{◌++◌}
 use mathlib.Core.Path.{◌≡◌}
 use Rattle.node.proofs.digest.put_bytes.Given as goal
 
 abbrev pub invariant-loop-i : goal.invariant-loop-i
-invariant-loop-i l = (l.i ≤ l.n) × (l.out ≡ numbers 8 l.i (bits_of 64 l.words) ++ drop l.i l.initial.out) × (length l.out ≡ length l.initial.out)
-
-abbrev pub decreases-loop-i : goal.decreases-loop-i
-decreases-loop-i l = l.n - l.i
+invariant-loop-i l = (l.out ≡ numbers 8 l.i (bits_of 64 l.words) ++ drop l.i l.initial.out) × (length l.out ≡ length l.initial.out)

@@ -3,6 +3,4 @@ use Rattle.program.specs.PutLaws.{nodes-put}
 use Rattle.program.proofs.put.nodes.Goals as goal
 
 pub returns : goal.returns
-returns c =
-    let a = c.args in
-    nodes-put a.count a.log.now a.out.now c.put_nodes.ensures
+returns c = nodes-put c.args.log.now c.args.out.now c.put_nodes.ensures

@@ -2,8 +2,5 @@
 use Rattle.writing.proofs.PutLevels.{Putting}
 use Rattle.writing.proofs.put.put_levels.Given as goal
 
-abbrev pub invariant-loop-k : goal.invariant-loop-k
-invariant-loop-k l = Putting l.area l.part l.e l.k
-
-abbrev pub decreases-loop-k : goal.decreases-loop-k
-decreases-loop-k l = l.k
+abbrev pub invariant-loop-level : goal.invariant-loop-level
+invariant-loop-level l = Putting l.area l.part l.at l.level

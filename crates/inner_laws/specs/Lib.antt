@@ -1,0 +1,16 @@
+pub mod Area
+pub mod Climb
+pub mod Digits
+pub mod Ending
+pub mod Layer
+pub mod Line
+pub mod Node
+pub mod Nodes
+pub mod Numbers
+pub mod Piece
+pub mod Print
+pub mod Program
+pub mod Shape
+pub mod Stream
+pub mod Text
+pub mod Writing

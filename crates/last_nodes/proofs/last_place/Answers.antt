@@ -1,8 +1,0 @@
--- `last_nodes::last_place` meets its contract.
-use Rattle.last_nodes.proofs.last_place.Goals as goal
-
-pub returns-then-sequential : goal.returns-then-sequential
-returns-then-sequential c = rw c.if-sequential.true
-
-pub returns : goal.returns
-returns c = rw (c.if-sequential.false, c.root_flag-z.ensures)

@@ -1,1 +1,0 @@
--- `layer::nodes` meets its contract.
