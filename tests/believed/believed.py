@@ -549,8 +549,10 @@ class Source:
         self.modules = []
         self.open = []  # the public ones among them
         self.uses = {}
+        self.traits = []  # the functions that a trait makes public: those of a conversion
         self.held = set()  # the structs with a ghost field: what holds of each of their values
-        struct = ""
+        self.holds = {}  # a type that is declared -> the words of its declaration: the types that it holds are among them
+        struct, declaring = "", ""
         seen = ["result"]  # what a clause sees with no `ghost use`
         brought, declared, found = [], [], []  # found: (the place behind its name, what is written before it, name)
         code, size, depth, within, last = [], 0, 0, "", ""
@@ -581,6 +583,11 @@ class Source:
                 last = line
                 if depth == 0 and re.match(r"(?:pub )?struct (\w+)", line):
                     struct = re.match(r"(?:pub )?struct (\w+)", line).group(1)
+                declares = re.match(r"(?:pub )?(?:struct|enum|type|union) (\w+)", line) if depth == 0 else None
+                declaring = declares.group(1) if declares else declaring
+                if declaring:
+                    held = line[declares.end() :] if declares else re.sub(r"^    \w+" if within == "enum" else r"^", "", line)  # no variant's name
+                    self.holds.setdefault(declaring, set()).update(re.findall(r"\w+\b(?!:(?!:))", held))  # and no field's
                 # a clause sees a constant, a type and a variant by its bare name
                 own = re.match(r"(?:pub )?(?:const|static|struct|enum|type) (\w+)", line) if depth == 0 else re.match(r"    (\w+)\b", line)
                 if own and (depth == 0 or depth == 1 and within == "enum"):
@@ -590,6 +597,7 @@ class Source:
                 if fn and (depth == 0 or depth == 1 and within not in ("", "enum")) and not ITEM.search(items, fn.end(2)):
                     declared.append((within + "::" if depth else "") + fn.group(2))
                     found.append((size + fn.end(2), fn.group(1), declared[-1]))
+                    self.traits += declared[-1:] if depth and " for " in within else []
                 elif impl and depth == 0:
                     within = (impl.group(1) or "") + impl.group(2)
                 elif GHOST_MEMBER.fullmatch(line) and depth == 1 and within not in ("", "enum"):
@@ -611,6 +619,8 @@ class Source:
             size += len(line) + 1
             depth += line.count("{") - line.count("}")
             within = within if depth else ""
+            # a declaration may go on where a bracket of its own is open, or until its semicolon
+            declaring = declaring if depth or not re.search(r"[;}]", line) else ""
         if depth:
             raise Unreadable("a bracket is open")
         for name in self.uses.values():
@@ -901,7 +911,7 @@ class Repository:
             self.fail("no public function %s in crates/%s.rt" % (name, key.replace("/", "/src/")))
             return
         self.reading = label
-        for held in sorted(source.types[name] & {s for other in self.sources.values() for s in other.held} if free else []):
+        for held in sorted(w for w in source.types[name] if free and self.means(key, w) & self.held()):
             self.fail("%s has the type %s, whose ghost field would be a clause that is not seen" % (label, held))
         params, clauses = source.functions[name]
         binds = set()
@@ -923,6 +933,21 @@ class Repository:
             binds |= scan.binds
         for word in sorted(binds.intersection(source.imports.brought)):
             self.fail("%s binds %s, which its file brings in" % (label, word))
+
+    def means(self, key, word):
+        """The types that a word of a source can mean, each with its crate: that of its own crate, or else those of others."""
+        types = {(k.split("/")[0], word) for k, source in self.sources.items() if word in source.holds}
+        return {of for of in types if of[0] == key.split("/")[0]} or types
+
+    def held(self):
+        """The types with a ghost field, and those that hold one, however deep, each with its crate."""
+        held = {(key.split("/")[0], s) for key, source in self.sources.items() for s in source.held}
+        holds = {(key.split("/")[0], t): (key, words) for key, source in self.sources.items() for t, words in source.holds.items()}
+        more = True
+        while more:
+            more = {of for of, (key, words) in holds.items() if of not in held and any(self.means(key, w) & held for w in words)}
+            held |= more
+        return held
 
     def ensured(self, key, name):
         """The clauses that a function ensures, as they would stand on one line, with its parameters numbered, and what one of them
@@ -993,6 +1018,8 @@ class Repository:
                 found.add("%s::%s" % (crate, name))
                 if key + "::" + name not in calls and "%s::%s" % (crate, name) not in SHARED:
                     self.fail("%s of crates/%s.rt is public, and no list has it" % (name, key.replace("/", "/src/")))
+            for name in source.traits if source else []:
+                self.fail("%s of crates/%s.rt is public by its trait, and no list has it" % (name, key.replace("/", "/src/")))
             for name in source.uses if source else []:
                 if "%s::%s" % (crate, name) not in passed:
                     self.fail("crates/%s.rt passes on %s, and no list has it" % (key.replace("/", "/src/"), name))
@@ -1466,6 +1493,19 @@ def self_test(root):
             "a public call whose parameter has a type with a ghost field",
             [("crates/text/src/lib.rt", r"pub fn read\(area: &mut \[u64\], text: &\[u8\]\)", "pub fn read(area: &mut [u64], text: &[u8], form: Form)")],
             "text::read has the type Form, whose ghost field would be a clause that is not seen",
+        ),
+        (
+            "a public call whose parameter has a type that holds one with a ghost field",
+            [
+                ("crates/text/src/lib.rt", r"pub fn read\(area: &mut \[u64\], text: &\[u8\]\)", "pub fn read(area: &mut [u64], text: &[u8], told: Told)"),
+                ("crates/text/src/lib.rt", r"\Z", "\npub struct Told {\n    pub form: Form,\n}\n"),
+            ],
+            "text::read has the type Told, whose ghost field would be a clause that is not seen",
+        ),
+        (
+            "a conversion of a call's crate, which its trait makes public",
+            [("crates/stream/src/lib.rt", r"\Z", "\nimpl From<Params> for Span {\n    fn from(params: Params) -> Span {\n        Span { start: 0, bits: params.d }\n    }\n}\n")],
+            "From<Params> for Span::from of crates/stream/src/lib.rt is public by its trait, and no list has it",
         ),
         (
             "an equation with a definition of other arguments",

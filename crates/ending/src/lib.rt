@@ -94,8 +94,9 @@ fn check_figure(area: &[u64], figure: &[u8], log: &[u64], made: &mut [u64]) -> R
     let mut digest = [0u8; MOST_DIGEST];
     make_digest(area, &mut digest, made);
     let bytes = numbers::digest_bytes(area);
+    let same = words::same_bytes(&digest[..bytes], figure); // before the log is tested: a refusal by 8 takes as long as one by 14
     numbers::check_log(log, numbers::nodes_left(area))?;
-    if !words::same_bytes(&digest[..bytes], figure) {
+    if !same {
         return Err(Refusal::Figure);
     }
     Ok(())

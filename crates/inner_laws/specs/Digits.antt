@@ -1,8 +1,14 @@
--- Laws: of digits and numbers read by a verdict of their own, in place of an option: what they say is what the definitions say.
-use Rattle.std.specs.Prelude.{Option, Some, None, option_and_then, ◌≡◌, refl, List, ◌∷◌, ℕ, ◌+◌, ◌*◌}
-use Rattle.std.proofs.Common.{sym}
+-- Laws: of digits and numbers read by a verdict of their own, in place of an option: what they say is what the definitions say. And of
+-- words put as digits, 16 each, one after the other.
+use Rattle.std.specs.Prelude.{Option, Some, None, option_and_then, ◌≡◌, refl, List, ◌∷◌, ◌++◌, ℕ, ◌+◌, ◌-◌, ◌*◌, ◌≤◌, ◌<◌, length, take, drop, get_or}
+use Rattle.std.proofs.Common.{sym, ap, ◌∙◌, arith, length-append, length-drop, length-take-le}
+use mathlib.Core.List.{append-nil}
+use Rattle.std.proofs.Math.Seq.{drop-length}
+use borrow.Rule.Slice.PartMut.{mid_of, put_mid}
 use Rattle.digits.specs.Hex.{digit_of}
-use Rattle.digits.specs.Digits.{spelt}
+use Rattle.digits.specs.Digits.{hex_digits, word_digits, spelt}
+use Rattle.digits.proofs.DigitLaws.{length-word_digits}
+use Rattle.digits.proofs.Loops.{digits_step, digits-all}
 
 -- a digit has a value, and every other byte is refused
 pub data Digit : Type 0 where
@@ -43,3 +49,18 @@ spelt-digit x b bs = sym (digit-goes-on (digit_of b) (λ (v : ℕ). spelt (x * 1
 pub reading-says : (o : Option ℕ) → reading_number (reading_in o) ≡ o
 reading-says (Some x) = refl
 reading-says None = refl
+
+-- ---- words as digits
+
+-- word i comes after the digits of those before it
+pub words_step : (ws p l ys : List ℕ) (i : ℕ) → i < length ws → length p ≡ 16 * length ws → l ≡ word_digits (take i ws) ++ drop (16 * i) p
+    → ys ≡ hex_digits (length (mid_of (16 * i) (16 * i + 16 - 16 * i) l)) (get_or ws i 0)
+    → put_mid (16 * i) (16 * i + 16 - 16 * i) l ys ≡ word_digits (take (i + 1) ws) ++ drop (16 * (i + 1)) p
+words_step ws p l ys i h g is d = digits_step 16 ws p i l ys h (omega (arith, g)) is d
+
+pub words-length : (ws p : List ℕ) (i : ℕ) → i ≤ length ws → length p ≡ 16 * length ws → length (word_digits (take i ws) ++ drop (16 * i) p) ≡ length p
+words-length ws p i h g = rw (length-append, length-word_digits (take i ws), length-take-le i ws h, length-drop) (omega (arith, g))
+
+pub words-all : (ws p : List ℕ) (i : ℕ) → i ≡ length ws → length p ≡ 16 * length ws → word_digits (take i ws) ++ drop (16 * i) p ≡ word_digits ws
+words-all ws p i e g =
+    digits-all 16 ws p i e ∙ ap (λ (m : ℕ). word_digits ws ++ drop m p) (sym g) ∙ ap (λ (q : List ℕ). word_digits ws ++ q) (drop-length p) ∙ append-nil (word_digits ws)

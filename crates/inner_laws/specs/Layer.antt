@@ -4,6 +4,7 @@ use Rattle.std.proofs.Common.{sym, ap, ◌∙◌, inl, inr, arith, eq-eqb, ne_eq
 use Rattle.std.proofs.lemmas.Bool.{eqb-false}
 use Rattle.std.proofs.Math.Seq.{paste}
 use Rattle.lists.specs.Below.{Below}
+use Rattle.lists.specs.Replicate.{drop-replicate}
 use Rattle.bits.specs.Bits.{digit, bits_of}
 use Rattle.bits.specs.BitsLaws.{digit_le}
 use Rattle.tree.specs.Tree.{words, block_bits, sequential_bits, Params, Node}
@@ -69,6 +70,9 @@ flag_low size nodes index = go (eqb size block_bits)
 
 pasted : (zs S : List ℕ) (k : ℕ) → length S ≡ k → paste zs 0 S (length S) ≡ S ++ drop k zs
 pasted zs S k e = paste-at [] S zs 0 (length S) refl refl ∙ ap (λ (x : ℕ). S ++ drop x zs) e
+
+pub copied_zeros : (w k : ℕ) (S : List ℕ) → length S ≡ k → k ≤ w → paste (replicate w 0) 0 S (length S) ≡ S ++ replicate (w - k) 0
+copied_zeros w k S e h = pasted (replicate w 0) S k e ∙ ap (λ (z : List ℕ). S ++ z) (drop-replicate {A = ℕ} k w 0 h)
 
 -- they are the bits that the node takes
 pub pasted_part : (ws : List ℕ) (w size bits index : ℕ) → w * 64 ≡ size → size * index ≤ bits → bits % 64 ≡ 0 → size * index % 64 ≡ 0

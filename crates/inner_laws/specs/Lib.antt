@@ -1,8 +1,10 @@
 pub mod Area
 pub mod Climb
+pub mod Compress
 pub mod Digits
 pub mod Ending
 pub mod Layer
+pub mod Layers
 pub mod Line
 pub mod Node
 pub mod Nodes

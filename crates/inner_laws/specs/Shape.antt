@@ -1,21 +1,8 @@
--- Laws: of how blocks and nodes are counted, one for each way that a count can take.
-use Rattle.std.specs.Prelude.{◌≡◌, refl, ℕ, zero, suc, ◌+◌, ◌-◌, ◌/◌, ◌<◌}
-use Rattle.std.proofs.Math.Nat.{add-div_right, div-eq_of_lt}
+-- Laws: of how nodes are counted, one for each way that a count can take.
+use Rattle.std.specs.Prelude.{◌≡◌, refl, ℕ, zero, suc, ◌+◌, ◌-◌, ◌<◌}
 use Rattle.std.proofs.Common.{arith, eq-eqb, ne_eqb}
 use Rattle.tree.specs.Tree.{blocks, block_bits, sequential_bits}
 use Rattle.tree.specs.Sizes.{nodes_from, tree_nodes}
-
--- rounding up without a sum that could pass 2 ^ 64
-pub blocks_some : (size m : ℕ) → 0 < size → (m ≡ 0 → ⊥) → (m - 1) / size + 1 ≡ blocks size m
-blocks_some size m h g =
-    let e : m + (size - 1) ≡ (m - 1) + size = omega (arith, g) in
-    rw (e, add-div_right (m - 1) h) (omega arith)
-
-pub blocks_none : (size m : ℕ) → 0 < size → m ≡ 0 → 1 ≡ blocks size m
-blocks_none size m h e =
-    let z : (size - 1) / size ≡ 0 = div-eq_of_lt (omega arith) in
-    let a : m + (size - 1) ≡ size - 1 = omega arith in
-    rw (a, z)
 
 -- ---- the number of nodes
 

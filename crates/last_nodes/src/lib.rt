@@ -28,7 +28,11 @@ fn joined_block(
     requires { Joins area.now level place out.now }
     ensures { block.new ≡ put place output_words (level_words area.now level) out.now }
 {
-    block.copy_from_slice(Area::level(area, level));
+    // word by word: a copy of the whole slice is compiled to a call of memmove, which the archive for C does not need elsewhere
+    let held = Area::level(area, level);
+    for (i, word) in block.iter_mut().enumerate() {
+        *word = held[i];
+    }
     block[place..place + Area::OUTPUT].copy_from_slice(out);
 }
 

@@ -1,12 +1,31 @@
 -- Laws: for the code that counts levels and nodes: how many a level has, which indices, a node's padding bits, and the root's level.
-use Rattle.std.specs.Prelude.{◌≡◌, refl, ℕ, zero, suc, ◌+◌, ◌-◌, ◌*◌, ◌^◌, ◌≤◌, ◌<◌, Bool, true, false, cond, eqb}
+use Rattle.std.specs.Prelude.{◌≡◌, refl, ℕ, zero, suc, ◌+◌, ◌-◌, ◌*◌, ◌/◌, ◌^◌, ◌≤◌, ◌<◌, Bool, true, false, cond, eqb}
 use Rattle.std.proofs.Common.{sym, ◌∙◌, arith, eq-eqb, ne_eqb, eqb-true}
-use Rattle.std.proofs.Math.Nat.{pow-succ'}
+use Rattle.std.proofs.Math.Nat.{pow-succ', add-div_right, div-eq_of_lt}
 use Rattle.std.proofs.lemmas.Bool.{eqb-false}
 use Rattle.tree.specs.Tree.{blocks, block_bits, sequential_bits, output_bits, most_levels}
 use Rattle.tree.specs.Sizes.{nodes_from}
 use Rattle.shape.specs.Shape.{taken, block_padding, sequential_nodes, sequential_padding, top_from, top_level}
 use Rattle.tree.proofs.Count.{level_nodes, fourth, level_nodes-one, level_nodes-suc, level_nodes_some}
+
+-- rounding up without a sum that could pass 2 ^ 64
+pub blocks_some : (size m : ℕ) → 0 < size → (m ≡ 0 → ⊥) → (m - 1) / size + 1 ≡ blocks size m
+blocks_some size m h g =
+    let e : m + (size - 1) ≡ (m - 1) + size = omega (arith, g) in
+    rw (e, add-div_right (m - 1) h) (omega arith)
+
+pub blocks_none : (size m : ℕ) → 0 < size → m ≡ 0 → 1 ≡ blocks size m
+blocks_none size m h e =
+    let z : (size - 1) / size ≡ 0 = div-eq_of_lt (omega arith) in
+    let a : m + (size - 1) ≡ size - 1 = omega arith in
+    rw (a, z)
+
+-- both ways at once: 0 - 1 is 0
+pub blocks_less : (size m : ℕ) → 0 < size → (m - 1) / size + 1 ≡ blocks size m
+blocks_less size zero h =
+    let z : (0 - 1) / size ≡ 0 = div-eq_of_lt h in
+    rw z (blocks_none size 0 h refl)
+blocks_less size (suc m) h = blocks_some size (suc m) h (λ e. omega (arith, e))
 
 -- the nodes from a level of several up: they, and those from the level above them up
 pub nodes-more : (n c : ℕ) → 0 < n → (c ≡ 1 → ⊥) → nodes_from n c ≡ c + nodes_from (n - 1) (blocks 4 c)

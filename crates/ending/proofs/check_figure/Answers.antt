@@ -21,8 +21,8 @@ slice_bounds-same_bytes-end c =
     let small = digest-small c.requires.0 in
     omega (arith, length-take {A = ℕ}, c.digest_bytes-bytes.ensures, small, ap length c.make_digest.ensures.0 ∙ length-digest_out c.args.area.now (replicate 64 0) small)
 
-pub returns-then-not-same_bytes : goal.returns-then-not-same_bytes
-returns-then-not-same_bytes c =
+pub returns-then-not-same : goal.returns-then-not-same
+returns-then-not-same c =
     let front = ap (take c.digest_bytes-bytes.result) c.make_digest.ensures.0 ∙ digest-front c.args.area.now (replicate 64 0) c.digest_bytes-bytes.result (omega (arith, c.digest_bytes-bytes.ensures)) in
     grind (arith, common_steps)
 

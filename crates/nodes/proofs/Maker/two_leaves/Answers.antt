@@ -1,8 +1,5 @@
 -- `nodes::Maker::two_leaves` meets its contract.
-use Rattle.std.proofs.Common.{◌+◌, refl, ap, ◌∙◌, arith}
-use Rattle.tree.specs.Tree.{out_words}
-use Rattle.node.specs.Words.{placed}
-use Rattle.node.specs.declared.Place.{Place}
+use Rattle.std.proofs.Common.{◌+◌, refl, ◌∙◌, arith}
 use Rattle.bits.specs.PieceLaws.{spanned}
 use Rattle.shape.specs.ShapeLaws.{leaf-index}
 use Rattle.nodes.specs.BlockLaws.{leaf-made}
@@ -20,13 +17,11 @@ returns-clause-first c =
     let self = c.args.self.now in
     let P = maker_params self in
     c.compress_two.ensures.first
-    ∙ ap (λ (p : Place). out_words P (placed P p c.message_words-one.result)) c.place-here.ensures.place
-    ∙ leaf-made P (spanned self.message.now self.span) c.args.index 0 _ _ self.fits refl c.message_words-one.ensures
+    ∙ rw c.place-here.ensures.place (leaf-made P (spanned self.message.now self.span) c.args.index 0 _ _ self.fits refl c.message_words-one.ensures)
 
 pub returns-clause-second : goal.returns-clause-second
 returns-clause-second c =
     let self = c.args.self.now in
     let P = maker_params self in
     c.compress_two.ensures.second
-    ∙ ap (λ (p : Place). out_words P (placed P p c.message_words-other.result)) c.place-there.ensures.place
-    ∙ leaf-made P (spanned self.message.now self.span) (c.args.index + 1) 0 _ _ self.fits refl c.message_words-other.ensures
+    ∙ rw c.place-there.ensures.place (leaf-made P (spanned self.message.now self.span) (c.args.index + 1) 0 _ _ self.fits refl c.message_words-other.ensures)
