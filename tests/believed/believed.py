@@ -581,10 +581,10 @@ class Source:
                 if (last == EXPORTED) != (fn is not None and "extern" in fn.group(1)):
                     raise Unreadable("an export has `%s` before it, and nothing else has: %s" % (EXPORTED, line.strip()))
                 last = line
-                if depth == 0 and re.match(r"(?:pub )?struct (\w+)", line):
-                    struct = re.match(r"(?:pub )?struct (\w+)", line).group(1)
-                declares = re.match(r"(?:pub )?(?:struct|enum|type|union) (\w+)", line) if depth == 0 else None
-                declaring = declares.group(1) if declares else declaring
+                declares = re.match(r"(?:pub(?:\([\w: ]+\))? )?(struct|enum|type|union) (\w+)", line) if depth == 0 else None
+                if declares and declares.group(1) == "struct":
+                    struct = declares.group(2)
+                declaring = declares.group(2) if declares else declaring
                 if declaring:
                     held = line[declares.end() :] if declares else re.sub(r"^    \w+" if within == "enum" else r"^", "", line)  # no variant's name
                     self.holds.setdefault(declaring, set()).update(re.findall(r"\w+\b(?!:(?!:))", held))  # and no field's
@@ -619,8 +619,8 @@ class Source:
             size += len(line) + 1
             depth += line.count("{") - line.count("}")
             within = within if depth else ""
-            # a declaration may go on where a bracket of its own is open, or until its semicolon
-            declaring = declaring if depth or not re.search(r"[;}]", line) else ""
+            # a declaration goes on to the end of its braces, or to a line that ends in its semicolon
+            declaring = declaring if depth or not re.search(r"[;}]$", line.rstrip()) else ""
         if depth:
             raise Unreadable("a bracket is open")
         for name in self.uses.values():
@@ -911,7 +911,9 @@ class Repository:
             self.fail("no public function %s in crates/%s.rt" % (name, key.replace("/", "/src/")))
             return
         self.reading = label
-        for held in sorted(w for w in source.types[name] if free and self.means(key, w) & self.held()):
+        # by the bare name, whichever crate's it is, or as a type that holds one
+        bare = {s for other in self.sources.values() for s in other.held}
+        for held in sorted(w for w in source.types[name] if free and (w in bare or self.means(key, w) & self.held())):
             self.fail("%s has the type %s, whose ghost field would be a clause that is not seen" % (label, held))
         params, clauses = source.functions[name]
         binds = set()
@@ -1018,13 +1020,16 @@ class Repository:
                 found.add("%s::%s" % (crate, name))
                 if key + "::" + name not in calls and "%s::%s" % (crate, name) not in SHARED:
                     self.fail("%s of crates/%s.rt is public, and no list has it" % (name, key.replace("/", "/src/")))
-            for name in source.traits if source else []:
-                self.fail("%s of crates/%s.rt is public by its trait, and no list has it" % (name, key.replace("/", "/src/")))
             for name in source.uses if source else []:
                 if "%s::%s" % (crate, name) not in passed:
                     self.fail("crates/%s.rt passes on %s, and no list has it" % (key.replace("/", "/src/"), name))
             for name in source.open if source else []:
                 self.fail("the module %s of crates/%s.rt is public" % (name, key.replace("/", "/src/")))
+        # an impl is public wherever it stands in a crate
+        for key, source in sorted(self.sources.items()):
+            if key.split("/")[0] in {k.split("/")[0] for _, k in CALLS}:
+                for name in source.traits:
+                    self.fail("%s of crates/%s.rt is public by its trait, and no list has it" % (name, key.replace("/", "/src/")))
         for name in sorted(SHARED - found):
             self.fail("no public function %s, which SHARED has" % name)
 
@@ -1506,6 +1511,19 @@ def self_test(root):
             "a conversion of a call's crate, which its trait makes public",
             [("crates/stream/src/lib.rt", r"\Z", "\nimpl From<Params> for Span {\n    fn from(params: Params) -> Span {\n        Span { start: 0, bits: params.d }\n    }\n}\n")],
             "From<Params> for Span::from of crates/stream/src/lib.rt is public by its trait, and no list has it",
+        ),
+        (
+            "such a conversion in another file of a call's crate",
+            [("crates/text/src/spell.rt", r"\Z", "\nimpl From<Area> for Form {\n    fn from(area: Area) -> Form {\n        Form::NEW\n    }\n}\n")],
+            "From<Area> for Form::from of crates/text/src/spell.rt is public by its trait, and no list has it",
+        ),
+        (
+            "a public call whose parameter has a type with a ghost field, where its crate has a type of that name",
+            [
+                ("crates/text/src/lib.rt", r"pub fn read\(area: &mut \[u64\], text: &\[u8\]\)", "pub fn read(area: &mut [u64], text: &[u8], form: Form)"),
+                ("crates/text/src/spell.rt", r"\Z", "\nstruct Form {\n    n: u64,\n}\n"),
+            ],
+            "text::read has the type Form, whose ghost field would be a clause that is not seen",
         ),
         (
             "an equation with a definition of other arguments",
