@@ -7,8 +7,8 @@ use native.Mathlib.Nat.{zero-add, add-zero}
 use native.Mathlib.Numerals.{add-one}
 use native.Mathlib.Omega.{arith}
 use lib.ListN.{length, get_or, set, take, drop, length-set, length-drop}
-use lib.Seq.{paste, paste-suc, take-paste, take_all, get_or-take, get_or-drop, drop-drop, drop-cons, drop-set-add, take-suc-set, length-take-le, drop-append-le}
-use Rattle.std.proofs.lemmas.List.{get_or-map, length-map}
+use lib.Seq.{paste, paste-suc, take-paste, drop-paste, take_all, get_or-take, get_or-drop, drop-drop, drop-cons, drop-set-add, take-suc, take-suc-set, length-take-le, drop-append-le, set_at}
+use Rattle.std.proofs.lemmas.List.{get_or-map, length-map, append_assoc}
 use Rattle.lists.specs.Take.{drop-take}
 use Rattle.compress.specs.declared.Shifts.{Shifts}
 use Rattle.compress.specs.Compress.{shifts_r, shifts_t, word, grown, compressed}
@@ -23,6 +23,39 @@ copy_more d s j hd hs =
     rw add-one
     (subst (λ (k : ℕ). set (paste d 0 s j) k (get_or s j 0) ≡ paste d 0 s (suc j)) (zero-add j)
     (paste-suc d 0 s j 0 (omega (arith, zero-add j)) hs))
+
+-- ---- a loop that moves the words from b on to the front, the last first
+
+-- word k is moved before the m that were moved behind it
+pub move_before : (d : List ℕ) (b k m : ℕ) → suc k + m ≤ b → b + (suc k + m) ≤ length d
+    → (let P : List ℕ = paste d (suc k) (drop (b + suc k) d) m in set P k (get_or P (b + k) 0)) ≡ paste d k (drop (b + k) d) (suc m)
+move_before d b k m low room =
+    let x : ℕ = get_or d (b + k) 0 in
+    let s : List ℕ = drop (b + suc k) d in
+    let D : List ℕ = drop (suc k + m) d in
+    let P : List ℕ = paste d (suc k) s m in
+    let r : ℕ = b + k - (suc k + m) in
+    let size : length s ≡ length d - (b + suc k) = length-drop (b + suc k) d in
+    let past : suc k + m + r ≡ b + k = omega (arith, low) in
+    let read : get_or P (b + k) 0 ≡ x =
+    ap (λ (i : ℕ). get_or P i 0) (sym past)
+    ∙ sym (get_or-drop (suc k + m) P r 0)
+    ∙ ap (λ (l : List ℕ). get_or l r 0) (drop-paste d (suc k) s m (omega (arith, room)) (omega (arith, size, room)))
+    ∙ get_or-drop (suc k + m) d r 0
+    ∙ ap (λ (i : ℕ). get_or d i 0) past in
+    let shape : P ≡ take k d ++ (get_or d k 0 ∷ (take m s ++ D)) =
+    ap (λ (l : List ℕ). l ++ take m s ++ D) (take-suc d k 0 (omega (arith, room)))
+    ∙ ap (λ (l : List ℕ). l ++ D) (append_assoc (take k d) (get_or d k 0 ∷ []) (take m s))
+    ∙ append_assoc (take k d) (get_or d k 0 ∷ take m s) D in
+    let next : suc (b + k) ≡ b + suc k = omega arith in
+    let words : x ∷ s ≡ drop (b + k) d = ap (λ (i : ℕ). x ∷ drop i d) (sym next) ∙ sym (drop-cons d (b + k) 0 (omega (arith, room))) in
+    let moved : suc k + m ≡ k + suc m = omega arith in
+    ap (λ (v : ℕ). set P k v) read
+    ∙ ap (λ (l : List ℕ). set l k x) shape
+    ∙ set_at (take k d) (get_or d k 0) (take m s ++ D) x k (length-take-le k d (omega (arith, room)))
+    ∙ sym (append_assoc (take k d) (x ∷ take m s) D)
+    ∙ ap (λ (l : List ℕ). take k d ++ take (suc m) l ++ D) words
+    ∙ ap (λ (i : ℕ). take k d ++ take (suc m) (drop (b + k) d) ++ drop i d) moved
 
 -- ---- the window
 

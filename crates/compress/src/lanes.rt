@@ -1,6 +1,7 @@
 // The words that the rounds are written to, in one lane, or in two for two windows at a time: word i of lane j stands at
 // LANES * i + j, so that a step does the same to neighbours, and the compiler takes both at once in a vector register.
-ghost use Rattle.std.specs.Prelude.{◌≡◌, ℕ, ◌+◌, ◌*◌, ◌≤◌, ◌<◌, length};
+ghost use Rattle.std.specs.Prelude.{◌≡◌, ℕ, ◌+◌, ◌*◌, ◌≤◌, ◌<◌, length, drop};
+ghost use Rattle.std.proofs.Math.Seq.{paste};
 ghost use Rattle.compress.specs.Buffer.{new_word, put_at, put_round, before, lane, Lanes, Sized, Placed};
 
 use super::{LANE, ROUND, SHIFTS, Shifts, WINDOW, WRITTEN};
@@ -49,6 +50,19 @@ pub fn round<const LANES: usize>(a: &mut [u64], i: usize, s: u64)
     }
 }
 
+// Moves n words from place b on to the front, word by word and the last first. Of `copy_within`, and of a loop from the first on, the compiler
+// makes a call of memcpy, which puts 8 bytes more on the stack where the rounds are more than a buffer has room for; they are to make no
+// difference there (docs/C.md).
+fn move_to_front(a: &mut [u64], b: usize, n: usize)
+    requires { (n ≤ b) × (b + n ≤ length a.old) }
+    ensures { a.new ≡ paste a.old 0 (drop b a.old) n }
+{
+    for m in 0..n {
+        let i = n - 1 - m;
+        a[i] = a[b + i];
+    }
+}
+
 // Where the next round is written: at, or 89 after the last 89 words of each lane of a full buffer were moved to its front.
 pub fn next_place<const LANES: usize>(a: &mut [u64], at: usize) -> usize
     requires { Placed LANES a.old at }
@@ -58,7 +72,7 @@ pub fn next_place<const LANES: usize>(a: &mut [u64], at: usize) -> usize
     if at < LANE {
         at
     } else {
-        a.copy_within(LANES * WRITTEN..LANES * LANE, 0);
+        move_to_front(a, LANES * WRITTEN, LANES * WINDOW);
         WINDOW
     }
 }
